@@ -8,9 +8,9 @@ import re
 from items import Crate
 from sources import ALL, LISTED, SPECS, TOP, about, bare, cell, home_of
 
-# Why a crate has a page: docs/EMBEDDING.md has its reader list it, jc_cache passes types of it on, or it is of use by itself.
-LISTED_BY_GUIDE = ["jc_types", "jc_plain", "jc_store", "jc_sqlite", "jc_cache", "jc_bulk", "jc_invoke", "jc_loadall"]
-PASSED_ON = ["jc_model", "jc_outside", "jc_mutentry", "jc_stripe"]
+# Why a crate has a page: docs/EMBEDDING.md has its reader list it, jc_client passes types of it on, or it is of use by itself.
+LISTED_BY_GUIDE = ["jc_types", "jc_plain", "jc_store", "jc_sqlite", "jc_client", "jc_bulk", "jc_invoke", "jc_loadall"]
+PASSED_ON = ["jc_model", "jc_outside", "jc_mutentry", "jc_stripe", "jc_cache"]
 BY_THEMSELVES = ["jc_script", "jc_explore", "jc_litmus", "jc_pool"]
 PUBLIC = LISTED_BY_GUIDE + PASSED_ON + BY_THEMSELVES
 
@@ -522,7 +522,7 @@ def index_page(library, with_definitions):
     page.put("", "A crate has a page",
              "",
              "- if [EMBEDDING](../EMBEDDING.md#which-crates-to-list) has you list it: %s;" % named(LISTED_BY_GUIDE),
-             "- if `jc_cache` passes types of it on: %s. The desk of `jc_stripe` is also what the library of [BINDINGS](../BINDINGS.md) is "
+             "- if `jc_client` or `jc_cache` passes types of it on: %s. The desk of `jc_stripe` is also what the library of [BINDINGS](../BINDINGS.md) is "
              "made of;" % named(PASSED_ON),
              "- if it is of use by itself: %s, for scripts, for programs of threads, for jobs of workers." % named(BY_THEMSELVES),
              "",

@@ -3,9 +3,9 @@
 
 use indexmap::IndexMap;
 use jc_bulk::put_all;
-use jc_cache::{
+use jc_client::{
     CacheLoader, CacheOwner, CacheWriter, Client, Config, EntryProcessor, Key, Outside, Service,
-    Value, work_all,
+    Value, clients, work_all,
 };
 use jc_store::{Increment, SharedStore, Store};
 use std::alloc::Global;
@@ -82,7 +82,7 @@ fn serve<R: Print + Threads + Wait + Sync>(
     };
     let mut owner = CacheOwner::living(alloc, &config)?;
     let sessions = owner.enlist_all(alloc, outside)?;
-    let clients = owner.clients(alloc, sessions)?;
+    let clients = clients(&owner, alloc, sessions)?;
     call_all(rt, alloc, clients)?;
     owner.end(alloc)?;
     Ok(())

@@ -1,7 +1,7 @@
 //! Four workers count the visits of a page, in a cache in front of a store of record.
 #![tactic(auto)]
 
-use jc_cache::{
+use jc_client::{
     CacheLoader, CacheWriter, Client, Config, EntryProcessor, Key, Outside, Refusal, Service, serve,
 };
 use jc_store::{Increment, SharedStore, Store};

@@ -5,40 +5,14 @@
 --     may_write        the kind of a round that asks is out only in a cache in which it may be
 --     may_fill         the tickets of a round may be asked for in one call
 --     asks_for         a round asks for keys of the call alone, and only for what their operations ask for
-use Rattle.std.proofs.Common.{◌≡◌, ◌&&◌, ◌||◌, inl, inr, ℕ, zero, suc, List, [], ◌∷◌, map, slice_get, Bool, true, false, true≢false, cond, Option, None, Some, is_none, refl, sym, ap, ◌∙◌, subst, arith}
-use Rattle.std.proofs.lemmas.Option.{same_Some}
-use Rattle.std.specs.List.{All, AllByRecursion, IsAmong}
+use Rattle.jc_bulk.proofs.Common.{MayAskFor, holds_none, AsksAs, HasOneToAsk, IsAskedOf, IsWrittenOf, OutsideState, fits_first, wanted_changes, IsReady, KeysAskAs, Kind, Load, Write, Delete, CacheState, IsOf, Session, Bytes, Change, Op, Put, IsOutAt, all_map, all_mapped, all_out, among_there, distinct_reserved, is_change_of, AsksFor, reserved_keys, is_reserved, ProcessAll, Round, WriteAll, keys_asked, ops_of, ops_with, put_ops, HasStarted, Past, are_fresh, reserved_by, BulkCall, Progress, first_asked, first_by, reserves, TicketClaim, asks_loader, change_asked, First, Writer, Reservation, Config, ◌≡◌, ◌&&◌, ◌||◌, inl, inr, ℕ, zero, suc, List, [], ◌∷◌, map, slice_get, Bool, true, false, true≢false, cond, Option, None, Some, is_none, refl, sym, ap, ◌∙◌, subst, arith, same_Some, AllByRecursion, IsAmong}
+use Rattle.std.specs.List.{All}
 use Rattle.jc_types.specs.declared.caller.Caller.{Caller}
-use Rattle.jc_types.specs.declared.config.Config.{Config}
-use Rattle.jc_model.specs.Cache.{Bytes}
 use Rattle.jc_model.specs.Table.{always_if}
-use Rattle.jc_model.specs.declared.event.Change.{Change}
 use Rattle.jc_model.specs.declared.event.Change.TheVariants as change
-use Rattle.jc_model.specs.declared.event.Op.{Op}
-use Rattle.jc_model.specs.declared.event.Op.TheVariants.{Put}
-use Rattle.jc_stripe.specs.declared.ticket.First.{First}
-use Rattle.jc_stripe.specs.declared.ticket.First.TheVariants.{Writer}
-use Rattle.jc_stripe.specs.declared.ticket.Reservation.{Reservation}
-use Rattle.jc_stripe.specs.Refusals.{first_asked, first_by, reserves}
-use Rattle.jc_stripe.specs.Tickets.{TicketClaim, asks_loader, change_asked}
-use Rattle.jc_cache.specs.Caches.{CacheState}
-use Rattle.jc_cache.specs.Sessions.{IsOf}
-use Rattle.jc_cache.specs.declared.session.Session.{Session}
-use Rattle.jc_rounds.specs.declared.bulk_call.BulkCall.{BulkCall}
-use Rattle.jc_rounds.specs.declared.progress.Progress.{Progress}
-use Rattle.jc_rounds.specs.Answers.{is_change_of}
-use Rattle.jc_rounds.specs.Asking.{AsksFor, reserved_keys}
-use Rattle.jc_rounds.specs.KeyProgress.{is_reserved}
 use Rattle.jc_rounds.specs.Keys.{IsTicketFor}
-use Rattle.jc_rounds.specs.Rounds.{LoadAll as LoadsAll, ProcessAll, Round, WriteAll, keys_asked}
+use Rattle.jc_rounds.specs.Rounds.{LoadAll as LoadsAll}
 use Rattle.jc_rounds.specs.SoFar.{AreIn}
-use Rattle.jc_rounds.specs.Targets.{ops_of, ops_with, put_ops}
-use Rattle.jc_rounds.specs.Underway.{HasStarted, Past, are_fresh, reserved_by}
-use Rattle.jc_rounds.proofs.CallerLemmas.{IsOutAt, all_map, all_mapped, all_out, among_there, distinct_reserved}
-use Rattle.jc_bulk.specs.declared.outside.Kind.{Kind}
-use Rattle.jc_bulk.specs.declared.outside.Kind.TheVariants.{Load, Write, Delete}
-use Rattle.jc_bulk.specs.Outside.{AsksAs, HasOneToAsk, IsAskedOf, IsWrittenOf, MayFill, OutsideState, fits_first, wanted_changes}
-use Rattle.jc_bulk.specs.RoundsRun.{IsReady, KeysAskAs}
 
 -- 1. Whom an operation asks.
 
@@ -168,18 +142,17 @@ module _ {I J : Type 0} {D : I → Type 0} {E : J → Type 0} where
   may_write cache past start session call outside started ready some =
       may_ask outside.kind past.caller cache.config (ops_of call.targets.now) ready.kind call.progress.items call.tickets.items some started.on.under.calls_are
 
-  pub may_fill : (cache : CacheState) (past : Past) (start session : Session I J D E) (call : BulkCall) (outside : OutsideState) → HasStarted cache past start session call → IsReady call outside → (call.tickets.items ≡ [] → ⊥)
-      → MayFill outside call.tickets.items × HasOneToAsk outside.kind session.agent.hands.outside.writer
+  pub may_fill : (cache : CacheState) (past : Past) (start session : Session I J D E) (call : BulkCall) (outside : OutsideState) → HasStarted cache past start session call → IsReady call outside → (call.tickets.items ≡ [] → ⊥) → MayAskFor session outside call.tickets.items
   may_fill cache past start session call outside started ready some =
       let u = started.on.under in
-      let ops = ops_of call.targets.now in (
-        record {
-          none = ready.none;
-          some = some;
-          unasked = unasked past.rounds call.tickets.items started.fresh;
-          kind = all_ask outside.kind past.caller cache.config ops ready.kind call.progress.items call.tickets.items u.calls_are;
-          distinct = distinct_reserved past.caller cache.config ops call.progress.items (map reserved_by call.tickets.items) started.on.distinct u.calls_are;
-          room = omega (arith, started.few, ready.room);
-        },
-        one_of cache session outside.kind u.own (may_ask outside.kind past.caller cache.config ops ready.kind call.progress.items call.tickets.items some u.calls_are),
-      )
+      let ops = ops_of call.targets.now in
+      record {
+        nothing = holds_none cache past session u.own;
+        writer = one_of cache session outside.kind u.own (may_ask outside.kind past.caller cache.config ops ready.kind call.progress.items call.tickets.items some u.calls_are);
+        none = ready.none;
+        some = some;
+        unasked = unasked past.rounds call.tickets.items started.fresh;
+        kind = all_ask outside.kind past.caller cache.config ops ready.kind call.progress.items call.tickets.items u.calls_are;
+        distinct = distinct_reserved past.caller cache.config ops call.progress.items (map reserved_by call.tickets.items) started.on.distinct u.calls_are;
+        room = omega (arith, started.few, ready.room);
+      }

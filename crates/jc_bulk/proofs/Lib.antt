@@ -1,3 +1,4 @@
+pub mod Common
 pub mod Filling
 pub mod Returning
 pub mod Tickets

@@ -6,21 +6,12 @@
 --     looked_none, looked_next  no stripe, and one stripe more
 --     apart_next                the keys still differ, and are of the stripes that were looked at
 --     sweeps_of                 a call that is carried out for the keys that were found
-use Rattle.std.proofs.Common.{◌≡◌, ◌==◌, ◌&&◌, ◌⊎◌, ⊎_elim, inl, inr, ◌+◌, ◌<◌, ◌++◌, ℕ, zero, suc, List, [], ◌∷◌, length, Bool, true, false, nat_lt, None, Some, Result, slice_get, refl, sym, ap, subst, ◌∙◌, arith}
+use Rattle.jc_bulk.proofs.Common.{DoesAll, HasLooked, IsLookedAt, LooksOnce, OnlyLooks, OrNoMemory, SweepsAll, BulkBehavior, BulkFault, CacheState, IsOf, MayCall, Session, Bytes, Op, Seated, all_early, front_found, grown_itself, grown_on, grown_phase, seen_own, view_set, view_there, HasGrown, view_at, ops_with, keys_once, keys_own, stripe_of, ◌≡◌, ◌==◌, ◌&&◌, ◌⊎◌, ⊎_elim, inl, inr, ◌+◌, ◌<◌, ◌++◌, ℕ, zero, suc, List, [], ◌∷◌, length, Bool, true, false, nat_lt, None, Some, Result, slice_get, refl, sym, ap, subst, ◌∙◌, arith, append-nil, append_assoc, length-append, same_Some, pointwise, same_text, AllByRecursion, IsDistinct, flat_map, list_all}
 use Rattle.std.proofs.lemmas.Bool.{and_parts}
 use Rattle.std.proofs.lemmas.Bool.Decides.{nat_tests}
-use Rattle.std.proofs.lemmas.List.{append-nil, append_assoc, length-append}
 use Rattle.std.proofs.lemmas.List.Folds.{list_all-append}
 use Rattle.std.proofs.lemmas.Map.Keys.{IsDistinct-cons, IsDistinct-head, IsDistinct-tail}
-use Rattle.std.proofs.lemmas.Option.{same_Some}
-use Rattle.std.specs.List.{AllByRecursion, IsDistinct, flat_map, list_all}
-use Rattle.std.specs.Cmp.Lexicographic.{pointwise, same_text}
 use Rattle.jc_types.proofs.CallerLemmas.{all_imply}
-use Rattle.jc_types.specs.Stripes.{stripe_of}
-use Rattle.jc_model.specs.Cache.{Bytes}
-use Rattle.jc_model.specs.declared.event.Op.{Op}
-use Rattle.jc_outside.specs.CallingAll.{LoadAllRelation, WriteAllRelation, DeleteAllRelation}
-use Rattle.jc_stripe.proofs.CallerLemmas.{keys_once, keys_own}
 use Rattle.jc_stripe.specs.Generations.{IsOfSameStripe}
 use Rattle.jc_stripe.specs.OnePhase.{OnePhase, own_steps}
 use Rattle.jc_stripe.specs.OwnSteps.{is_before_call}
@@ -29,17 +20,9 @@ use Rattle.jc_lock.proofs.CallerLemmas.{same_itself}
 use Rattle.jc_lock.specs.declared.view.View.{View}
 use Rattle.jc_session.specs.Counting.{one_more}
 use Rattle.jc_session.specs.declared.counts.Counted.TheVariants.{Nothing}
-use Rattle.jc_cache.specs.Caches.{CacheState}
 use Rattle.jc_cache.specs.PhaseCalls.{PhaseAt}
 use Rattle.jc_cache.specs.Turns.{HasLent, looking}
 use Rattle.jc_engine.specs.Rows.{AllLend}
-use Rattle.jc_cache.specs.Sessions.{IsOf, MayCall}
-use Rattle.jc_cache.specs.declared.session.Session.{Session}
-use Rattle.jc_bulk.specs.Bulk.{DoesAll, HasLooked, IsLookedAt, LooksOnce, OnlyLooks, OrNoMemory, SweepsAll}
-use Rattle.jc_bulk.specs.declared.fault.BulkFault.{BulkFault}
-use Rattle.jc_rounds.specs.Targets.{ops_with}
-use Rattle.jc_rounds.specs.Seats.{HasGrown, view_at}
-use Rattle.jc_rounds.proofs.CallerLemmas.{Seated, all_early, front_found, grown_itself, grown_on, grown_phase, seen_own, view_set, view_there}
 
 -- 1. Keys of one stripe, behind those of lower stripes.
 
@@ -228,10 +211,10 @@ module _ {I J : Type 0} {D : I → Type 0} {E : J → Type 0} where
 
 -- 4. The call.
 
-module _ {I J : Type 0} {D : I → Type 0} {E : J → Type 0} (loads_all : LoadAllRelation ((i : I) × D i)) (load_state : (i : I) × D i → List ℕ) (writes_all : WriteAllRelation ((j : J) × E j)) (deletes_all : DeleteAllRelation ((j : J) × E j)) (write_state : (j : J) × E j → List ℕ) where
+module _ {I J : Type 0} {D : I → Type 0} {E : J → Type 0} (behavior : BulkBehavior ((i : I) × D i) ((j : J) × E j)) where
   pub sweeps_of : (cache : CacheState) (old mid new : Session I J D E) (op : Op) (list keys : List Bytes) (result : Result (Unit {0}) BulkFault) → OnlyLooks old mid → HasLooked cache.config.stripes old.seats.items mid.seats.items keys → list ≡ keys
-      → OrNoMemory (DoesAll loads_all load_state writes_all deletes_all write_state cache mid (ops_with op list)) mid result new
-      → SweepsAll cache.config.stripes (λ looked found. DoesAll loads_all load_state writes_all deletes_all write_state cache looked (ops_with op found)) old result new
+      → OrNoMemory (DoesAll behavior cache mid (ops_with op list)) mid result new
+      → SweepsAll cache.config.stripes (λ looked found. DoesAll behavior cache looked (ops_with op found)) old result new
   sweeps_of cache old mid new op list keys result looks looked is (inl h) =
-      inl (keys, record { looked = mid; only = looks; found = looked; done = subst (λ ks. DoesAll loads_all load_state writes_all deletes_all write_state cache mid (ops_with op ks) result new) is h })
+      inl (keys, record { looked = mid; only = looks; found = looked; done = subst (λ ks. DoesAll behavior cache mid (ops_with op ks) result new) is h })
   sweeps_of cache old mid new op list keys result looks looked is (inr h) = inr (h.0, subst (OnlyLooks old) (sym h.1) looks)

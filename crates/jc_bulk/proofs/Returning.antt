@@ -1,17 +1,7 @@
 -- The keys of a call, as it is given them.
 --     put_keys     the keys of a call that puts are those of its entries
 --     each_asks    the keys of a call that does the same at each differ, and each asks as the call does
-use Rattle.std.proofs.Common.{◌≡◌, ◌==◌, List, [], ◌∷◌, refl, sym, ap, subst, ◌∙◌}
-use Rattle.std.specs.List.{IsDistinct}
-use Rattle.std.specs.Map.{keys_of}
-use Rattle.std.specs.Cmp.Lexicographic.{pointwise}
-use Rattle.jc_model.specs.Cache.{Bytes}
-use Rattle.jc_model.specs.declared.event.Op.{Op}
-use Rattle.jc_rounds.specs.Targets.{ops_with, put_ops}
-use Rattle.jc_rounds.proofs.CallerLemmas.{same_keys}
-use Rattle.jc_bulk.specs.declared.outside.Kind.{Kind}
-use Rattle.jc_bulk.specs.Outside.{AsksAs}
-use Rattle.jc_bulk.specs.RoundsRun.{KeysAskAs}
+use Rattle.jc_bulk.proofs.Common.{AsksAs, KeysAskAs, Kind, Bytes, Op, same_keys, ops_with, put_ops, ◌≡◌, ◌==◌, List, [], ◌∷◌, refl, sym, ap, subst, ◌∙◌, pointwise, IsDistinct, keys_of}
 use Rattle.jc_bulk.proofs.Filling.{same_asks}
 
 pub put_keys : (entries : List (Bytes × Bytes)) → keys_of (put_ops entries) ≡ keys_of entries

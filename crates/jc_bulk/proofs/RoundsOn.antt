@@ -7,44 +7,17 @@
 --     spent_loads, not_loads, again_left     of a call of the loader all memory is left
 --     told_of         what was answered for the keys that a round has reserved
 --     have_none, have_same, have_more        what the rounds have asked
-use Rattle.std.proofs.Common.{◌≡◌, ◌≤◌, ◌++◌, List, [], ◌∷◌, map, IfNone, IfSome, Option, None, Some, option_map, ℕ, refl, sym, ap, ◌∙◌, subst}
-use Rattle.std.specs.Global.{Vec}
-use Rattle.jc_types.specs.declared.config.Config.{Config}
-use Rattle.jc_types.specs.declared.refusal.Refusal.{Refusal}
-use Rattle.jc_model.specs.Cache.{Bytes}
-use Rattle.jc_model.specs.declared.event.Op.{Op}
+use Rattle.jc_bulk.proofs.Common.{Answered, BulkBehavior, CallsInRounds, HaveAsked, IsAskedOf, IsRest, IsSpent, OutsideState, no_asks, IsReady, KeysAskAs, TakesNew, Kind, Load, Write, Delete, CacheState, HasAsked, Session, Bytes, Op, types_on, AreAnswers, done_room, AreSpent, LoadCallState, no_loads, HasReserved, IsTold, KeepsTickets, LoadAll, LoadRound, ProcessAll, Round, WriteAll, EachTakesMemory, ops_of, Past, reserved_by, Answers, BulkCall, SpentLoads, TicketClaim, Reservation, Config, Refusal, ◌≡◌, ◌≤◌, ◌++◌, List, [], ◌∷◌, map, IfNone, IfSome, Option, None, Some, option_map, ℕ, refl, sym, ap, ◌∙◌, subst, Vec}
 use Rattle.jc_model.specs.declared.event.Op.TheVariants as op
-use Rattle.jc_outside.specs.CallingAll.{LoadAllRelation, WriteAllRelation, DeleteAllRelation}
-use Rattle.jc_session.specs.Boxed.{boxed}
-use Rattle.jc_cache.specs.Caches.{CacheState}
-use Rattle.jc_cache.specs.Sessions.{HasAsked}
-use Rattle.jc_cache.specs.declared.session.Session.{Session}
-use Rattle.jc_stripe.specs.declared.ticket.Reservation.{Reservation}
-use Rattle.jc_stripe.specs.Tickets.{TicketClaim}
-use Rattle.jc_rounds.specs.declared.answers.Answers.{Answers}
-use Rattle.jc_rounds.specs.declared.bulk_call.BulkCall.{BulkCall}
-use Rattle.jc_rounds.specs.declared.load_call.SpentLoads.{SpentLoads}
-use Rattle.jc_rounds.specs.OutsideCalls.{AreSpent, LoadCallState, no_loads}
-use Rattle.jc_rounds.specs.Answers.{AreAnswers, done_room}
-use Rattle.jc_rounds.specs.Rounds.{LoadAll, LoadRound, ProcessAll, Round, WriteAll}
-use Rattle.jc_rounds.specs.Ran.{HasReserved, IsTold, KeepsTickets}
-use Rattle.jc_rounds.specs.Running.{EachTakesMemory}
-use Rattle.jc_rounds.specs.Targets.{ops_of}
-use Rattle.jc_rounds.specs.Underway.{Past, reserved_by}
-use Rattle.jc_bulk.specs.declared.outside.Kind.{Kind}
-use Rattle.jc_bulk.specs.declared.outside.Kind.TheVariants.{Load, Write, Delete}
-use Rattle.jc_bulk.specs.Outside.{Answered, CallsInRounds, CallsOnce, IsAskedOf, IsRest, IsSpent, OutsideState, no_asks}
-use Rattle.jc_bulk.specs.RoundsRun.{HaveAsked, IsReady, KeysAskAs, TakesNew}
+use Rattle.jc_outside.specs.declared.hands.Outside.{Outside}
 use Rattle.jc_bulk.proofs.Filling.{MayAsk, asks_for, keys_are}
 
 -- 1. Calls outside.
 
-module _ {L W : Type 0} (loads_all : LoadAllRelation L) (load_state : L → List ℕ) (writes_all : WriteAllRelation W) (deletes_all : DeleteAllRelation W) (write_state : W → List ℕ) where
-  pub calls_on : (l l' l'' : Option L) (w w' w'' : Option W) (rs more : List Round) → CallsInRounds loads_all load_state writes_all deletes_all write_state l w rs l' w' → CallsInRounds loads_all load_state writes_all deletes_all write_state l' w' more l'' w''
-      → CallsInRounds loads_all load_state writes_all deletes_all write_state l w (rs ++ more) l'' w''
-  calls_on l l' l'' w w' w'' [] more one two =
-      subst (λ x. CallsInRounds loads_all load_state writes_all deletes_all write_state x w more l'' w'') one.0 (subst (λ x. CallsInRounds loads_all load_state writes_all deletes_all write_state l' x more l'' w'') one.1 two)
-  calls_on l l' l'' w w' w'' (r ∷ rs) more one two = (one.0, one.1, one.2, calls_on one.0 l' l'' one.1 w' w'' rs more one.3 two)
+module _ {I J : Type 0} {D : I → Type 0} {E : J → Type 0} (behavior : BulkBehavior ((i : I) × D i) ((j : J) × E j)) where
+  calls_on : (a b c : Outside I J D E) (rs more : List Round) → CallsInRounds behavior a rs b → CallsInRounds behavior b more c → CallsInRounds behavior a (rs ++ more) c
+  calls_on a b c [] more one two = subst (λ x. CallsInRounds behavior x more c) one two
+  calls_on a b c (r ∷ rs) more one two = (one.0, one.1, calls_on one.0 b c rs more one.2 two)
 
 -- 2. Rounds.
 
@@ -132,13 +105,13 @@ not_loads Load room answers rest s is same = subst (IsRest Load room answers) is
 not_loads Write room answers rest s is same = cc
 not_loads Delete room answers rest s is same = cc
 
-module _ {I J : Type 0} {D : I → Type 0} {E : J → Type 0} (loads_all : LoadAllRelation ((i : I) × D i)) (load_state : (i : I) × D i → List ℕ) (writes_all : WriteAllRelation ((j : J) × E j)) (deletes_all : DeleteAllRelation ((j : J) × E j)) (write_state : (j : J) × E j → List ℕ) where
-  abbrev Asked : Session I J D E → OutsideState → List TicketClaim → Answers → Option Refusal → Session I J D E → Type 0
-  Asked mid outside tickets answers fault after = HasAsked mid after (Answered loads_all load_state writes_all deletes_all write_state mid outside.kind tickets answers fault after)
+module _ {I J : Type 0} {D : I → Type 0} {E : J → Type 0} (behavior : BulkBehavior ((i : I) × D i) ((j : J) × E j)) where
+  abbrev Asked : Session I J D E → OutsideState → List TicketClaim → Answers → Option Refusal → Option SpentLoads → Session I J D E → Type 0
+  Asked mid outside tickets answers fault rest after = HasAsked mid after (Answered behavior mid outside.kind outside.room tickets answers fault rest after)
 
-  pub told_of : (cache : CacheState) (past : Past) (mid after : Session I J D E) (begun filled : BulkCall) (outside : OutsideState) (v : Vec TicketClaim) (answers : Answers) (fault : Option Refusal) → HasReserved cache past mid begun → IsReady begun outside
-      → KeepsTickets begun.tickets v → filled ≡ record begun { tickets = v } → (asked : Asked mid outside begun.tickets.items answers fault after) → IsTold cache past asked.asked.round after filled answers fault
-  told_of cache past mid after begun filled outside v answers fault reserved ready kept is asked =
+  pub told_of : (cache : CacheState) (past : Past) (mid after : Session I J D E) (begun filled : BulkCall) (outside : OutsideState) (v : Vec TicketClaim) (answers : Answers) (fault : Option Refusal) (rest : Option SpentLoads) → HasReserved cache past mid begun → IsReady begun outside
+      → KeepsTickets begun.tickets v → filled ≡ record begun { tickets = v } → (asked : Asked mid outside begun.tickets.items answers fault rest after) → IsTold cache past asked.asked.round after filled answers fault
+  told_of cache past mid after begun filled outside v answers fault rest reserved ready kept is asked =
       let a = asked.asked in
       let calls = map reserved_by begun.tickets.items in
       let on = reserved.started.on in
@@ -156,28 +129,23 @@ module _ {I J : Type 0} {D : I → Type 0} {E : J → Type 0} (loads_all : LoadA
         answered = a.answered cache.config;
       })
 
-  abbrev Have : Session I J D E → Session I J D E → List Round → Type 0
-  Have old new rounds = HaveAsked loads_all load_state writes_all deletes_all write_state old new rounds
+  pub have_none : (session : Session I J D E) → HaveAsked behavior session session []
+  have_none session = record { calls = refl; types = (refl, refl) }
 
-  pub have_none : (session : Session I J D E) → Have session session []
-  have_none session = record { calls = (refl, refl); types = (refl, refl) }
-
-  pub have_same : (old mid new : Session I J D E) (rounds : List Round) → new.agent.hands ≡ mid.agent.hands → Have old mid rounds → Have old new rounds
+  pub have_same : (old mid new : Session I J D E) (rounds : List Round) → new.agent.hands ≡ mid.agent.hands → HaveAsked behavior old mid rounds → HaveAsked behavior old new rounds
   have_same old mid new rounds same have = record {
-    calls = subst (λ h. CallsInRounds (boxed loads_all) (boxed load_state) (boxed writes_all) (boxed deletes_all) (boxed write_state) old.agent.hands.outside.loader old.agent.hands.outside.writer rounds h.outside.loader h.outside.writer) (sym same) have.calls;
+    calls = subst (λ h. CallsInRounds behavior old.agent.hands.outside rounds h.outside) (sym same) have.calls;
     types = (ap (λ h. option_map (λ b. b.vtable) h.outside.loader) same ∙ have.types.0, ap (λ h. option_map (λ b. b.vtable) h.outside.writer) same ∙ have.types.1);
   }
 
-  pub have_more : (old mid asking after : Session I J D E) (rounds : List Round) (outside : OutsideState) (tickets : List TicketClaim) (answers : Answers) (fault : Option Refusal) → asking.agent.hands ≡ mid.agent.hands → Have old mid rounds
-      → (asked : Asked asking outside tickets answers fault after) → Have old after (rounds ++ asked.asked.round ∷ [])
-  have_more old mid asking after rounds outside tickets answers fault from have asked =
+  -- `new` is the session once the round is over
+  pub have_more : (old mid asking after new : Session I J D E) (rounds : List Round) (outside : OutsideState) (tickets : List TicketClaim) (answers : Answers) (fault : Option Refusal) (rest : Option SpentLoads) → asking.agent.hands ≡ mid.agent.hands → HaveAsked behavior old mid rounds
+      → (asked : Asked asking outside tickets answers fault rest after) → new.agent.hands ≡ after.agent.hands → HaveAsked behavior old new (rounds ++ asked.asked.round ∷ [])
+  unfolding have_same
+  have_more old mid asking after new rounds outside tickets answers fault rest from have asked to =
       let a = asked.asked in
-      record {
-        calls = calls_on (boxed loads_all) (boxed load_state) (boxed writes_all) (boxed deletes_all) (boxed write_state) _ _ _ _ _ _ rounds (a.round ∷ []) have.calls (
-          after.agent.hands.outside.loader,
-          after.agent.hands.outside.writer,
-          subst (λ h. CallsOnce (boxed loads_all) (boxed load_state) (boxed writes_all) (boxed deletes_all) (boxed write_state) h.outside.loader h.outside.writer a.round after.agent.hands.outside.loader after.agent.hands.outside.writer) from a.calls,
-          (refl, refl),
-        );
-        types = (a.types.0 ∙ ap (λ h. option_map (λ b. b.vtable) h.outside.loader) from ∙ have.types.0, a.types.1 ∙ ap (λ h. option_map (λ b. b.vtable) h.outside.writer) from ∙ have.types.1);
-      }
+      let here = have_same old mid asking rounds from have in
+      have_same old after new (rounds ++ a.round ∷ []) to (record {
+        calls = calls_on behavior old.agent.hands.outside asking.agent.hands.outside after.agent.hands.outside rounds (a.round ∷ []) here.calls (after.agent.hands.outside, a.calls, refl);
+        types = types_on old.agent asking.agent after.agent here.types a.types;
+      })

@@ -3,44 +3,17 @@
 --     asks_of          what these tickets ask for
 --     next_ticket      the next ticket is as it was
 --     tickets_next, asks_next    once it has asked
---     fits_next        what it asks for is of the call's kind
 --     new_next         its key is that of none before it
 --     whole_tickets    once all have asked
 --     writes_rest, loads_rest    of a call of the writer nothing is left, of a call of the loader its memory
 --     answered_loads, answered_writes    what the loader or the writer has answered
-use Rattle.std.proofs.Common.{◌≡◌, ◌==◌, ◌||◌, ◌<◌, ◌≤◌, ◌+◌, ◌++◌, ℕ, zero, suc, List, [], ◌∷◌, length, map, set, take, drop, get_or, slice_get, Bool, true, false, Option, None, Some, option_map, Result, refl, sym, ap, ◌∙◌, subst, arith}
+use Rattle.jc_bulk.proofs.Common.{changes_of, Batch, Answered, BulkBehavior, IsAskedOf, IsRest, fits, fits_first, kind_of, wanted_changes, Kind, Load, Write, Delete, Session, is_among, Bytes, Change, IsToBeAnswered, done_room, key_of, reserved_keys, AreSpent, LoadCallAsked, WriteCallAsked, WritesBatch, asked_keys, is_delete, wanted, LoadAll, Round, WriteAll, WriteRound, fault_of, keys_asked, reserved_by, Answers, Loads, Writes, SpentLoads, Claim, TicketClaim, asks_loader, asks_writer, change_asked, claim_of, First, Nobody, Loader, Writer, Processor, Reservation, Refusal, ◌≡◌, ◌==◌, ◌||◌, ◌<◌, ◌≤◌, ◌+◌, ◌++◌, ℕ, zero, suc, List, [], ◌∷◌, length, map, set, take, drop, get_or, slice_get, Bool, true, false, Option, None, Some, option_map, Result, refl, sym, ap, ◌∙◌, subst, arith, map-append, take_all, take_more, pointwise, Vec, AllByRecursion, IsDistinct}
 use Rattle.std.proofs.lemmas.Cmp.{nat_list_eq_equiv}
-use Rattle.std.proofs.lemmas.List.{map-append, take_all, take_more}
-use Rattle.std.specs.Global.{Vec}
-use Rattle.std.specs.List.{AllByRecursion, IsDistinct}
-use Rattle.std.specs.Cmp.Lexicographic.{pointwise}
-use Rattle.jc_types.specs.declared.refusal.Refusal.{Refusal}
-use Rattle.jc_model.specs.Batches.{is_among}
-use Rattle.jc_model.specs.Cache.{Bytes}
-use Rattle.jc_model.specs.declared.event.Change.{Change}
 use Rattle.jc_model.specs.declared.event.WriteAnswer.{WriteAnswer}
-use Rattle.jc_batch.specs.Changes.{changes_of}
-use Rattle.jc_batch.specs.declared.batch.Batch.{Batch}
 use Rattle.jc_batch.proofs.CallerLemmas.{not_before}
-use Rattle.jc_outside.specs.CallingAll.{LoadAllRelation, LoadsAllOnce, WriteAllRelation, DeleteAllRelation, WritesAllOnce, loads_done, writes_done}
+use Rattle.jc_outside.specs.CallingAll.{LoadsAllOnce, WritesAllOnce, loads_done, writes_done}
 use Rattle.jc_outside.specs.Done.{LoadResult, WriteResult}
 use Rattle.jc_session.specs.Boxed.{boxed}
-use Rattle.jc_stripe.specs.declared.ticket.First.{First}
-use Rattle.jc_stripe.specs.declared.ticket.First.TheVariants.{Nobody, Loader, Writer, Processor}
-use Rattle.jc_stripe.specs.declared.ticket.Reservation.{Reservation}
-use Rattle.jc_stripe.specs.Tickets.{Claim, TicketClaim, asks_loader, asks_writer, change_asked, claim_of}
-use Rattle.jc_cache.specs.declared.session.Session.{Session}
-use Rattle.jc_rounds.specs.declared.answers.Answers.{Answers}
-use Rattle.jc_rounds.specs.declared.answers.Answers.TheVariants.{Loads, Writes}
-use Rattle.jc_rounds.specs.declared.load_call.SpentLoads.{SpentLoads}
-use Rattle.jc_rounds.specs.Answers.{IsToBeAnswered, done_room, key_of}
-use Rattle.jc_rounds.specs.Asking.{reserved_keys}
-use Rattle.jc_rounds.specs.OutsideCalls.{AreSpent, LoadCallAsked, WriteCallAsked, WritesBatch, asked_keys, is_delete, wanted}
-use Rattle.jc_rounds.specs.Rounds.{LoadAll, Round, WriteAll, WriteRound, fault_of, keys_asked}
-use Rattle.jc_rounds.specs.Underway.{reserved_by}
-use Rattle.jc_bulk.specs.declared.outside.Kind.{Kind}
-use Rattle.jc_bulk.specs.declared.outside.Kind.TheVariants.{Load, Write, Delete}
-use Rattle.jc_bulk.specs.Outside.{Answered, IsAskedOf, IsRest, fits, fits_first, kind_of, wanted_changes}
 use Rattle.jc_bulk.proofs.Filling.{firsts}
 
 -- 1. Lists.
@@ -61,16 +34,6 @@ whole_items f [] zero all = refl
 whole_items f [] (suc i) all = refl
 whole_items f (x ∷ xs) zero all = absurd (omega (arith, all))
 whole_items f (x ∷ xs) (suc i) all = ap (λ ys. f x ∷ ys) (whole_items f xs i (omega (arith, all)))
-
-all_at : {A : Type 0} (P : A → Type 0) (xs : List A) (i : ℕ) (d : A) → i < length xs → AllByRecursion P xs → P (get_or xs i d)
-all_at P [] i d near all = absurd (omega (arith, near))
-all_at P (x ∷ xs) zero d near all = all.0
-all_at P (x ∷ xs) (suc i) d near all = all_at P xs i d (omega (arith, near)) all.1
-
-slot : {A B : Type 0} (f : A → B) (xs : List A) (i : ℕ) (d : A) → i < length xs → slice_get (map f xs) i ≡ Some (f (get_or xs i d))
-slot f [] i d near = absurd (omega (arith, near))
-slot f (x ∷ xs) zero d near = refl
-slot f (x ∷ xs) (suc i) d near = slot f xs i d (omega (arith, near))
 
 -- 2. Tickets.
 
@@ -93,17 +56,6 @@ tickets_next ts i d near =
 
 pub asks_next : (ts : List TicketClaim) (i : ℕ) (d : TicketClaim) → i < length ts → asks_of (take i ts) ++ ask_of (get_or ts i d) ∷ [] ≡ asks_of (take (i + 1) ts)
 asks_next ts i d near = sym (ap asks_of (take_more ts i d near) ∙ map-append ask_of (take i ts) (get_or ts i d ∷ []))
-
-pub unasked_next : (ts : List TicketClaim) (i : ℕ) (d : TicketClaim) → i < length ts → AllByRecursion (λ (t : TicketClaim). t.asked ≡ false) ts → (get_or ts i d).asked ≡ false
-unasked_next ts i d near all = all_at (λ (t : TicketClaim). t.asked ≡ false) ts i d near all
-
-fits_by : (kind : Kind) (first : First) → fits_first kind first ≡ true → fits kind (change_asked first)
-fits_by Load first is = tt
-fits_by Write first is = is
-fits_by Delete first is = is
-
-pub fits_next : (kind : Kind) (ts : List TicketClaim) (i : ℕ) (d : TicketClaim) → i < length ts → AllByRecursion (λ (t : TicketClaim). fits_first kind t.reservation.first ≡ true) ts → fits kind (ask_of (get_or ts i d)).change
-fits_next kind ts i d near all = fits_by kind (get_or ts i d).reservation.first (all_at (λ (t : TicketClaim). fits_first kind t.reservation.first ≡ true) ts i d near all)
 
 keys_before : (ts : List TicketClaim) (i : ℕ) → asked_keys (asks_of (take i ts)) ≡ take i (reserved_keys (map reserved_by ts))
 keys_before [] zero = refl
@@ -172,35 +124,36 @@ all_write deletes [] all = tt
 all_write deletes (t ∷ ts) all = (writes_first deletes t.reservation.first all.0, all_write deletes ts all.1)
 
 -- of a call of the writer nothing is left, of a call of the loader its memory
-pub writes_rest : (kind : Kind) (deletes : Bool) (room : ℕ) (answers : Answers) → kind ≡ kind_of deletes → IsRest kind room answers None
+writes_rest : (kind : Kind) (deletes : Bool) (room : ℕ) (answers : Answers) → kind ≡ kind_of deletes → IsRest kind room answers None
 writes_rest kind false room answers is = subst (λ k. IsRest k room answers None) (sym is) tt
 writes_rest kind true room answers is = subst (λ k. IsRest k room answers None) (sym is) tt
 
 pub loads_rest : (kind : Kind) (room n : ℕ) (answers : Answers) (rest : SpentLoads) → kind ≡ Load → n ≡ room → AreSpent rest → (rest.batch.room ≡ n) × (n ≤ done_room answers) → IsRest kind room answers (Some rest)
 loads_rest kind room n answers rest is same spent left = subst (λ k. IsRest k room answers (Some rest)) (sym is) (spent, left.0 ∙ same, subst (λ m. m ≤ done_room answers) same left.1)
 
-module _ {I J : Type 0} {D : I → Type 0} {E : J → Type 0} (loads_all : LoadAllRelation ((i : I) × D i)) (load_state : (i : I) × D i → List ℕ) (writes_all : WriteAllRelation ((j : J) × E j)) (deletes_all : DeleteAllRelation ((j : J) × E j)) (write_state : (j : J) × E j → List ℕ) where
-  pub answered_loads : (old new : Session I J D E) (kind : Kind) (ts : List TicketClaim) (asks : List Claim) (done : Vec (LoadResult Claim)) → kind ≡ Load → asks ≡ asks_of ts
-      → AllByRecursion (λ (t : TicketClaim). fits_first kind t.reservation.first ≡ true) ts → LoadCallAsked loads_all load_state old asks done.items new
-      → Answered loads_all load_state writes_all deletes_all write_state old kind ts (Loads done) None new
-  answered_loads old new kind ts asks done is are all a =
+module _ {I J : Type 0} {D : I → Type 0} {E : J → Type 0} (behavior : BulkBehavior ((i : I) × D i) ((j : J) × E j)) where
+  pub answered_loads : (old new : Session I J D E) (kind : Kind) (room : ℕ) (ts : List TicketClaim) (asks : List Claim) (done : Vec (LoadResult Claim)) (rest : SpentLoads) → kind ≡ Load → asks ≡ asks_of ts
+      → AllByRecursion (λ (t : TicketClaim). fits_first kind t.reservation.first ≡ true) ts → LoadCallAsked behavior.loads_all behavior.load_state old asks done.items new
+      → IsRest kind room (Loads done) (Some rest) → Answered behavior old kind room ts (Loads done) None (Some rest) new
+  answered_loads old new kind room ts asks done rest is are all a left =
       let calls = map reserved_by ts in
       let keys : asked_keys asks ≡ reserved_keys calls = ap asked_keys are ∙ asks_keys ts in
-      subst (λ k. Answered loads_all load_state writes_all deletes_all write_state old k ts (Loads done) None new) (sym is) (record {
+      subst (λ k. Answered behavior old k room ts (Loads done) None (Some rest) new) (sym is) (record {
         round = LoadAll (record { keys = reserved_keys calls; said = a.said });
         asked = refl;
         fault_is = refl;
-        calls = (subst (λ ks. LoadsAllOnce (boxed loads_all) (boxed load_state) old.agent.hands.outside.loader ks a.said new.agent.hands.outside.loader) keys a.loads, a.writer);
+        calls = (subst (λ ks. LoadsAllOnce (boxed behavior.loads_all) (boxed behavior.load_state) old.agent.hands.outside.loader ks a.said new.agent.hands.outside.loader) keys a.loads, a.writer);
         answered = λ config. (
           a.done_are ∙ ap (loads_done key_of a.said) (are ∙ claims_are ts),
           to_be asks_loader (LoadAll (record { keys = reserved_keys calls; said = a.said })) (reserved_keys calls) ts (subst (λ k. AllByRecursion (λ (t : TicketClaim). fits_first k t.reservation.first ≡ true) ts) is all) refl (λ key among. among),
         );
+        rest_is = subst (λ k. IsRest k room (Loads done) (Some rest)) is left;
         types = (a.loader_type, ap (λ w. option_map (λ b. b.vtable) w) a.writer);
       })
 
   batch_of : (deletes : Bool) (ts : List TicketClaim) (old new : Session I J D E) (returned : Result (Unit {0}) ℕ) (said : Bytes → WriteAnswer) → (ts ≡ [] → ⊥)
-      → WritesBatch (boxed writes_all) (boxed deletes_all) (boxed write_state) deletes (wanted (asks_of ts)) old.agent.hands.outside.writer returned said new.agent.hands.outside.writer
-      → (batch : Batch) × (is_delete batch ≡ deletes) × (changes_of batch ≡ wanted_changes (map reserved_by ts)) × WritesAllOnce (boxed writes_all) (boxed deletes_all) (boxed write_state) old.agent.hands.outside.writer batch returned said new.agent.hands.outside.writer
+      → WritesBatch (boxed behavior.writes_all) (boxed behavior.deletes_all) (boxed behavior.write_state) deletes (wanted (asks_of ts)) old.agent.hands.outside.writer returned said new.agent.hands.outside.writer
+      → (batch : Batch) × (is_delete batch ≡ deletes) × (changes_of batch ≡ wanted_changes (map reserved_by ts)) × WritesAllOnce (boxed behavior.writes_all) (boxed behavior.deletes_all) (boxed behavior.write_state) old.agent.hands.outside.writer batch returned said new.agent.hands.outside.writer
   batch_of deletes [] old new returned said some writes = absurd (some refl)
   batch_of deletes (t ∷ ts) old new returned said some writes = (writes.0, writes.1, writes.2 ∙ wanted_are (t ∷ ts), writes.3)
 
@@ -208,15 +161,15 @@ module _ {I J : Type 0} {D : I → Type 0} {E : J → Type 0} (loads_all : LoadA
   asked_of false calls r kind are = (kind, are)
   asked_of true calls r kind are = (kind, are)
 
-  pub answered_writes : (old new : Session I J D E) (deletes : Bool) (kind : Kind) (ts : List TicketClaim) (asks : List Claim) (returned : Result (Unit {0}) ℕ) (done : Vec (WriteResult Claim)) (fault : Option Refusal) → kind ≡ kind_of deletes
-      → asks ≡ asks_of ts → (ts ≡ [] → ⊥) → AllByRecursion (λ (t : TicketClaim). fits_first kind t.reservation.first ≡ true) ts → fault ≡ fault_of returned → WriteCallAsked writes_all deletes_all write_state old deletes asks returned done.items new
-      → Answered loads_all load_state writes_all deletes_all write_state old kind ts (Writes done) fault new
-  answered_writes old new deletes kind ts asks returned done fault is are some all fault_is a =
+  pub answered_writes : (old new : Session I J D E) (deletes : Bool) (kind : Kind) (room : ℕ) (ts : List TicketClaim) (asks : List Claim) (returned : Result (Unit {0}) ℕ) (done : Vec (WriteResult Claim)) (fault : Option Refusal) → kind ≡ kind_of deletes
+      → asks ≡ asks_of ts → (ts ≡ [] → ⊥) → AllByRecursion (λ (t : TicketClaim). fits_first kind t.reservation.first ≡ true) ts → fault ≡ fault_of returned → WriteCallAsked behavior.writes_all behavior.deletes_all behavior.write_state old deletes asks returned done.items new
+      → Answered behavior old kind room ts (Writes done) fault None new
+  answered_writes old new deletes kind room ts asks returned done fault is are some all fault_is a =
       let calls = map reserved_by ts in
       let b = batch_of deletes ts old new returned a.said some
-      (subst (λ xs. WritesBatch (boxed writes_all) (boxed deletes_all) (boxed write_state) deletes (wanted xs) old.agent.hands.outside.writer returned a.said new.agent.hands.outside.writer) are a.writes) in
+      (subst (λ xs. WritesBatch (boxed behavior.writes_all) (boxed behavior.deletes_all) (boxed behavior.write_state) deletes (wanted xs) old.agent.hands.outside.writer returned a.said new.agent.hands.outside.writer) are a.writes) in
       let r : WriteRound = record { batch = b.0; returned = returned; said = a.said } in
-      subst (λ k. Answered loads_all load_state writes_all deletes_all write_state old k ts (Writes done) fault new) (sym is) (record {
+      subst (λ k. Answered behavior old k room ts (Writes done) fault None new) (sym is) (record {
         round = WriteAll r;
         asked = asked_of deletes calls r b.1 b.2;
         fault_is = fault_is;
@@ -226,5 +179,6 @@ module _ {I J : Type 0} {D : I → Type 0} {E : J → Type 0} (loads_all : LoadA
           to_be asks_writer (WriteAll r) (reserved_keys calls) ts (all_write deletes ts (subst (λ k. AllByRecursion (λ (t : TicketClaim). fits_first k t.reservation.first ≡ true) ts) is all))
               (ap (map (λ (c : Bytes × Option Change). c.0)) b.2 ∙ firsts calls) (λ key among. among),
         );
+        rest_is = writes_rest (kind_of deletes) deletes room (Writes done) refl;
         types = (ap (λ l. option_map (λ b. b.vtable) l) a.loader, a.writer_type);
       })

@@ -29,17 +29,14 @@ use Rattle.jc_types.specs.declared.refusal.Refusal.{Refusal}
 use Rattle.jc_types.specs.declared.refusal.Refusal.TheVariants.{OutOfMemory, TooManyKeys}
 use Rattle.jc_model.specs.Cache.{Bytes}
 use Rattle.jc_model.specs.declared.event.Op.{Op}
-use Rattle.jc_outside.specs.CallingAll.{LoadAllRelation, WriteAllRelation, DeleteAllRelation}
 use Rattle.jc_stripe.specs.Keys.{AreKeys}
 use Rattle.jc_stripe.specs.Generations.{whole_history, IsOfSameStripe}
 use Rattle.jc_stripe.specs.Reached.{IsReached}
 use Rattle.jc_stripe.specs.State.{State}
 use Rattle.jc_lock.specs.declared.view.View.{View}
-use Rattle.jc_session.specs.Boxed.{boxed}
-use Rattle.jc_engine.specs.Asking.{KeepsTypes}
 use Rattle.jc_cache.specs.Caches.{CacheState}
-use Rattle.jc_cache.specs.declared.session.Session.{Session}
-use Rattle.jc_cache.specs.Calls.{next_call}
+use Rattle.jc_session.specs.declared.session.Session.{Session}
+use Rattle.jc_session.specs.Sessions.{next_call}
 use Rattle.jc_cache.specs.Turns.{HasLent}
 use Rattle.jc_bulk.specs.declared.fault.BulkFault.{BulkFault}
 use Rattle.jc_rounds.specs.Causes.{IsFirst}
@@ -48,7 +45,7 @@ use Rattle.jc_rounds.specs.KeyProgress.{IsCauseIn}
 use Rattle.jc_rounds.specs.Rounds.{Round, faults_in}
 use Rattle.jc_rounds.specs.Running.{IsCarriedOut}
 use Rattle.jc_rounds.specs.Seats.{HasGrown, view_at}
-use Rattle.jc_bulk.specs.Outside.{CallsInRounds}
+use Rattle.jc_bulk.specs.Outside.{BulkBehavior, HaveAsked}
 
 -- 1. A call.
 
@@ -63,17 +60,13 @@ abbrev pub TellsFound : {S : Type 0} → Result (IndexMap Bytes Bytes S) BulkFau
 TellsFound (Ok values) cause failed found = (cause ≡ None) × (failed ≡ []) × (found ≡ values.entries)
 TellsFound (Err fault) cause failed found = (cause ≡ Some fault.cause) × (failed ≡ fault.failed.entries) × (found ≡ fault.found.entries)
 
-module _ {I J : Type 0} {D : I → Type 0} {E : J → Type 0}
-    (loads_all : LoadAllRelation ((i : I) × D i)) (load_state : (i : I) × D i → List ℕ)
-    (writes_all : WriteAllRelation ((j : J) × E j)) (deletes_all : DeleteAllRelation ((j : J) × E j)) (write_state : (j : J) × E j → List ℕ)
+module _ {I J : Type 0} {D : I → Type 0} {E : J → Type 0} (behavior : BulkBehavior ((i : I) × D i) ((j : J) × E j))
     (cache : CacheState) (old : Session I J D E) (targets : List (Bytes × Op)) where
   -- `old` and `new` are the session before and after
   pub record IsBulkCall (ends : List KeyEnd) (cause : Option Refusal) (new : Session I J D E) : Type 0 where
     pub rounds : List Round
     pub carried : IsCarriedOut cache old targets ends rounds new
-    pub calls : CallsInRounds (boxed loads_all) (boxed load_state) (boxed writes_all) (boxed deletes_all) (boxed write_state)
-        old.agent.hands.outside.loader old.agent.hands.outside.writer rounds new.agent.hands.outside.loader new.agent.hands.outside.writer
-    pub types : KeepsTypes old.agent new.agent
+    pub asked : HaveAsked behavior old new rounds
     pub met : IsCauseIn cause (causes_of ends rounds)
     pub first : IsFirst cache.config (next_call old).agent.caller targets old.seats.items [] carried.started.ends cause
 

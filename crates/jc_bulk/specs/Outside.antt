@@ -8,15 +8,19 @@
 --     fits_first      whom a reservation asks first is the one whom calls of this kind ask
 --     HasOneToAsk     there is the one whom calls of this kind ask, if there must be
 --     AsksAs          calls of this kind ask outside for this operation, if it asks at all; a `Clear` asks nobody
---     MayFill         these tickets may be asked for in a call: none has asked, all are of its kind, their keys differ, and there is room
+--     MayAskFor       a session may ask for these tickets in a call: it holds no stripe, and has whom to ask; none has asked, all are of the
+--                     call's kind, their keys differ, and there is room
+--     BulkBehavior    what a loader and a writer may answer when they are called for many keys, and how their states go on
+--     bulk_behavior   that of these relations
 --     CallsOnce       the loader or the writer was called once for a round, and the other wasn't
 --     CallsInRounds   the loader or the writer was called once for each of these rounds, in their order, and neither was called otherwise
+--     HaveAsked       a session's loader and its writer were called for exactly these rounds, and are of the same types
 --     wanted_changes  each reservation's key, with the change that it asks for
 --     IsWrittenOf     a round called the writer, for exactly what these reservations ask for
 --     IsAskedOf       a round called the one whom calls of this kind ask, for exactly what these reservations ask for
 --     IsRest          what such a call, with room for so many, leaves for a later round: of a call of the loader all its memory
 --     IsSpent         the same once none of the answers is left
---     Answered        so it was called for these tickets, and has answered each of them
+--     Answered        so it was called for these tickets, and has answered each of them, and this is left for a later round
 use Rattle.std.specs.Prelude.{◌≡◌, ◌≤◌, ◌⊎◌, ◌-◌, ◌++◌, ◌==◌, ℕ, List, [], ◌∷◌, length, map, Bool, true, false, Option, None, Some, IsSome}
 use Rattle.std.specs.List.{AllByRecursion, IsDistinct}
 use Rattle.std.specs.Cmp.Lexicographic.{pointwise}
@@ -28,12 +32,14 @@ use Rattle.jc_model.specs.declared.event.Op.{Op}
 use Rattle.jc_model.specs.declared.event.Op.TheVariants as op
 use Rattle.jc_batch.specs.Changes.{changes_of}
 use Rattle.jc_outside.specs.CallingAll.{LoadAllRelation, LoadsAllOnce, WriteAllRelation, DeleteAllRelation, WritesAllOnce}
+use Rattle.jc_outside.specs.declared.hands.Outside.{Outside}
 use Rattle.jc_stripe.specs.declared.ticket.First.{First}
 use Rattle.jc_stripe.specs.declared.ticket.Reservation.{Reservation}
 use Rattle.jc_stripe.specs.Tickets.{Claim, TicketClaim, asks_loader, change_asked}
 use Rattle.jc_session.specs.Boxed.{boxed}
 use Rattle.jc_engine.specs.Asking.{KeepsTypes}
-use Rattle.jc_cache.specs.declared.session.Session.{Session}
+use Rattle.jc_cache.specs.Sessions.{HoldsNothing}
+use Rattle.jc_session.specs.declared.session.Session.{Session}
 use Rattle.jc_rounds.specs.declared.answers.Answers.{Answers}
 use Rattle.jc_rounds.specs.declared.load_call.SpentLoads.{SpentLoads}
 use Rattle.jc_rounds.specs.Answers.{AreAnswers, done_room, is_change_of}
@@ -95,7 +101,9 @@ AsksAs Load o = (o ≡ op.Get) ⊎ ((replace : Bool) × (o ≡ op.LoadAll replac
 AsksAs Write o = (value : Bytes) × (o ≡ op.Put value)
 AsksAs Delete o = o ≡ op.Remove
 
-pub record MayFill (call : OutsideState) (tickets : List TicketClaim) : Type 0 where
+pub record MayAskFor {I J : Type 0} {D : I → Type 0} {E : J → Type 0} (session : Session I J D E) (call : OutsideState) (tickets : List TicketClaim) : Type 0 where
+  pub nothing : HoldsNothing session
+  pub writer : HasOneToAsk call.kind session.agent.hands.outside.writer
   pub none : call.items ≡ []
   pub some : tickets ≡ [] → ⊥
   pub unasked : AllByRecursion (λ (t : TicketClaim). t.asked ≡ false) tickets
@@ -105,15 +113,31 @@ pub record MayFill (call : OutsideState) (tickets : List TicketClaim) : Type 0 w
 
 -- 2. What was called.
 
-module _ {L W : Type 0} (loads_all : LoadAllRelation L) (load_state : L → List ℕ) (writes_all : WriteAllRelation W) (deletes_all : DeleteAllRelation W) (write_state : W → List ℕ) where
-  abbrev pub CallsOnce : Option L → Option W → Round → Option L → Option W → Type 0
-  CallsOnce loader writer (LoadAll r) loader' writer' = LoadsAllOnce loads_all load_state loader r.keys r.said loader' × (writer' ≡ writer)
-  CallsOnce loader writer (WriteAll r) loader' writer' = WritesAllOnce writes_all deletes_all write_state writer r.batch r.returned r.said writer' × (loader' ≡ loader)
-  CallsOnce loader writer (ProcessAll r) loader' writer' = ⊥
+pub record BulkBehavior (L W : Type 0) : Type 1 where
+  pub loads_all : LoadAllRelation L
+  pub load_state : L → List ℕ
+  pub writes_all : WriteAllRelation W
+  pub deletes_all : DeleteAllRelation W
+  pub write_state : W → List ℕ
 
-  abbrev pub CallsInRounds : Option L → Option W → List Round → Option L → Option W → Type 0
-  CallsInRounds loader writer [] loader' writer' = (loader' ≡ loader) × (writer' ≡ writer)
-  CallsInRounds loader writer (r ∷ rs) loader' writer' = (l : Option L) × (w : Option W) × CallsOnce loader writer r l w × CallsInRounds l w rs loader' writer'
+abbrev pub bulk_behavior : {L W : Type 0} → LoadAllRelation L → (L → List ℕ) → WriteAllRelation W → DeleteAllRelation W → (W → List ℕ) → BulkBehavior L W
+bulk_behavior loads_all load_state writes_all deletes_all write_state =
+    record { loads_all = loads_all; load_state = load_state; writes_all = writes_all; deletes_all = deletes_all; write_state = write_state }
+
+module _ {I J : Type 0} {D : I → Type 0} {E : J → Type 0} (behavior : BulkBehavior ((i : I) × D i) ((j : J) × E j)) where
+  abbrev pub CallsOnce : Outside I J D E → Round → Outside I J D E → Type 0
+  CallsOnce old (LoadAll r) new = LoadsAllOnce (boxed behavior.loads_all) (boxed behavior.load_state) old.loader r.keys r.said new.loader × (new.writer ≡ old.writer)
+  CallsOnce old (WriteAll r) new =
+      WritesAllOnce (boxed behavior.writes_all) (boxed behavior.deletes_all) (boxed behavior.write_state) old.writer r.batch r.returned r.said new.writer × (new.loader ≡ old.loader)
+  CallsOnce old (ProcessAll r) new = ⊥
+
+  abbrev pub CallsInRounds : Outside I J D E → List Round → Outside I J D E → Type 0
+  CallsInRounds old [] new = new ≡ old
+  CallsInRounds old (r ∷ rs) new = (mid : Outside I J D E) × CallsOnce old r mid × CallsInRounds mid rs new
+
+  pub record HaveAsked (old new : Session I J D E) (rounds : List Round) : Type 0 where
+    pub calls : CallsInRounds old.agent.hands.outside rounds new.agent.hands.outside
+    pub types : KeepsTypes old.agent new.agent
 
 abbrev pub wanted_changes : List Reservation → List (Bytes × Option Change)
 wanted_changes calls = map (λ (r : Reservation). (r.key, change_asked r.first)) calls
@@ -146,15 +170,14 @@ pub record IsSpent (kind : Kind) (room : ℕ) (answers : Answers) (rest : Option
   pub none : AreAnswers config round answers []
   pub rest_is : IsRest kind room answers rest
 
+-- `room` is that of the call
 pub record Answered
-    {I J : Type 0} {D : I → Type 0} {E : J → Type 0}
-    (loads_all : LoadAllRelation ((i : I) × D i)) (load_state : (i : I) × D i → List ℕ)
-    (writes_all : WriteAllRelation ((j : J) × E j)) (deletes_all : DeleteAllRelation ((j : J) × E j)) (write_state : (j : J) × E j → List ℕ)
-    (old : Session I J D E) (kind : Kind) (tickets : List TicketClaim) (answers : Answers) (fault : Option Refusal) (new : Session I J D E) : Type 0 where
+    {I J : Type 0} {D : I → Type 0} {E : J → Type 0} (behavior : BulkBehavior ((i : I) × D i) ((j : J) × E j))
+    (old : Session I J D E) (kind : Kind) (room : ℕ) (tickets : List TicketClaim) (answers : Answers) (fault : Option Refusal) (rest : Option SpentLoads) (new : Session I J D E) : Type 0 where
   pub round : Round
   pub asked : IsAskedOf kind (map reserved_by tickets) round
   pub fault_is : fault ≡ round_fault round
-  pub calls : CallsOnce (boxed loads_all) (boxed load_state) (boxed writes_all) (boxed deletes_all) (boxed write_state)
-      old.agent.hands.outside.loader old.agent.hands.outside.writer round new.agent.hands.outside.loader new.agent.hands.outside.writer
+  pub calls : CallsOnce behavior old.agent.hands.outside round new.agent.hands.outside
   pub answered : (config : Config) → AreAnswers config round answers (map reserved_by tickets)
+  pub rest_is : IsRest kind room answers rest
   pub types : KeepsTypes old.agent new.agent

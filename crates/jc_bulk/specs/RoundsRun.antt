@@ -3,25 +3,20 @@
 --     IsReady     what a round asks outside with: nothing is asked for yet, it is of the call's kind, and there is room for all keys that a
 --                 round may reserve
 --     TakesNew    a round of a call of this kind, after one that has asked, takes memory: it writes or deletes, in a cache that writes through
---     HaveAsked   the loader and the writer were called for exactly these rounds
 --     RunsOn      rounds of a call, which have asked so
 use Rattle.std.specs.Prelude.{◌≡◌, ◌≤◌, ℕ, List, [], true, Some, slice_get}
 use Rattle.jc_types.specs.declared.config.Config.{Config}
 use Rattle.jc_model.specs.Cache.{Bytes}
 use Rattle.jc_model.specs.declared.event.Op.{Op}
-use Rattle.jc_outside.specs.CallingAll.{LoadAllRelation, WriteAllRelation, DeleteAllRelation}
-use Rattle.jc_session.specs.Boxed.{boxed}
-use Rattle.jc_engine.specs.Asking.{KeepsTypes}
 use Rattle.jc_cache.specs.Caches.{CacheState}
-use Rattle.jc_cache.specs.declared.session.Session.{Session}
+use Rattle.jc_session.specs.declared.session.Session.{Session}
 use Rattle.jc_rounds.specs.declared.bulk_call.BulkCall.{BulkCall}
-use Rattle.jc_rounds.specs.Rounds.{Round}
 use Rattle.jc_rounds.specs.Ran.{Ran}
 use Rattle.jc_rounds.specs.Targets.{ops_of}
 use Rattle.jc_rounds.specs.Underway.{Past}
 use Rattle.jc_bulk.specs.declared.outside.Kind.{Kind}
 use Rattle.jc_bulk.specs.declared.outside.Kind.TheVariants.{Load, Write, Delete}
-use Rattle.jc_bulk.specs.Outside.{AsksAs, CallsInRounds, OutsideState}
+use Rattle.jc_bulk.specs.Outside.{AsksAs, BulkBehavior, HaveAsked, OutsideState}
 
 abbrev pub KeysAskAs : Kind → List (Bytes × Op) → Type 0
 KeysAskAs kind targets = (place : ℕ) (key : Bytes) (op : Op) → slice_get targets place ≡ Some (key, op) → AsksAs kind op
@@ -36,13 +31,5 @@ TakesNew Load config = ⊥
 TakesNew Write config = config.write_through ≡ true
 TakesNew Delete config = config.write_through ≡ true
 
-module _ {I J : Type 0} {D : I → Type 0} {E : J → Type 0}
-    (loads_all : LoadAllRelation ((i : I) × D i)) (load_state : (i : I) × D i → List ℕ)
-    (writes_all : WriteAllRelation ((j : J) × E j)) (deletes_all : DeleteAllRelation ((j : J) × E j)) (write_state : (j : J) × E j → List ℕ) where
-  pub record HaveAsked (old new : Session I J D E) (rounds : List Round) : Type 0 where
-    pub calls : CallsInRounds (boxed loads_all) (boxed load_state) (boxed writes_all) (boxed deletes_all) (boxed write_state)
-        old.agent.hands.outside.loader old.agent.hands.outside.writer rounds new.agent.hands.outside.loader new.agent.hands.outside.writer
-    pub types : KeepsTypes old.agent new.agent
-
-  abbrev pub RunsOn : CacheState → Past → Session I J D E → BulkCall → Session I J D E → BulkCall → Type 0
-  RunsOn cache past old call new later = Ran (HaveAsked old new) cache past old call new later
+abbrev pub RunsOn : {I J : Type 0} {D : I → Type 0} {E : J → Type 0} → BulkBehavior ((i : I) × D i) ((j : J) × E j) → CacheState → Past → Session I J D E → BulkCall → Session I J D E → BulkCall → Type 0
+RunsOn behavior cache past old call new later = Ran (HaveAsked behavior old new) cache past old call new later

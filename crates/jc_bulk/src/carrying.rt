@@ -1,13 +1,13 @@
 //! A bulk call as a whole: its memory, and how it is carried out.
-ghost use Rattle.std.specs.Prelude.{◌≡◌, ◌==◌, length};
+ghost use Rattle.std.specs.Prelude.{◌==◌};
 ghost use Rattle.std.specs.List.{IsDistinct};
 ghost use Rattle.std.specs.Map.{keys_of};
 ghost use Rattle.std.specs.Cmp.Lexicographic.{pointwise};
-ghost use Rattle.jc_cache.specs.Sessions.{MayCall};
-ghost use Rattle.jc_rounds.specs.Ends.{failed_entries, key_ends};
+ghost use Rattle.jc_cache.specs.Sessions.{Completes, MayCall};
 ghost use Rattle.jc_rounds.specs.Targets.{ops_of};
-ghost use Rattle.jc_bulk.specs.Bulk.{DoesAll, IsBulkCall, OrNoMemory};
-ghost use Rattle.jc_bulk.specs.Carrying.{IsRoomOf};
+ghost use Rattle.jc_bulk.specs.Bulk.{DoesAll, OrNoMemory};
+ghost use Rattle.jc_bulk.specs.Carrying.{IsCallEnd, IsRoomOfCall};
+ghost use Rattle.jc_bulk.specs.Outside.{bulk_behavior};
 ghost use Rattle.jc_bulk.specs.RoundsRun.{KeysAskAs};
 
 use crate::entries::add_failed;
@@ -82,14 +82,10 @@ pub(crate) fn carry_out<R: Wait>(
     room: Room,
 ) -> CallEnd
     requires may { MayCall cache.now session.old }
-    requires distinct { IsDistinct (pointwise ◌==◌) (keys_of (ops_of targets.now)) }
-    requires room { IsRoomOf room.outside.kind (length (ops_of targets.now)) cache.now.config.stripes room
-        × KeysAskAs room.outside.kind (ops_of targets.now) }
-    ensures may { MayCall cache.now session.new }
-    ensures carried { IsBulkCall loads_all load_state writes_all deletes_all write_state cache.now session.old
-        (ops_of targets.now) (key_ends (ops_of targets.now) result.progress.items) result.cause session.new }
-    ensures failed { (result.failed.entries ≡ failed_entries (key_ends (ops_of targets.now) result.progress.items))
-        × (length result.progress.items ≡ length (ops_of targets.now)) }
+    requires room { IsRoomOfCall (ops_of targets.now) cache.now.config.stripes room }
+    ensures { Completes cache.now session.new
+        (IsCallEnd (bulk_behavior loads_all load_state writes_all deletes_all write_state)
+        cache.now session.old (ops_of targets.now) result session.new) }
 {
     let _types: Option<&(Reply, Value)> = None;
     let Room {
@@ -121,9 +117,9 @@ pub(crate) fn call_all<R: Wait>(
 ) -> Result<(), BulkFault>
     requires may { MayCall cache.now session.old }
     requires keys { IsDistinct (pointwise ◌==◌) (keys_of (ops_of targets.now)) × KeysAskAs kind (ops_of targets.now) }
-    ensures may { MayCall cache.now session.new }
-    ensures ended { OrNoMemory (DoesAll loads_all load_state writes_all deletes_all write_state
-        cache.now session.old (ops_of targets.now)) session.old result session.new }
+    ensures { Completes cache.now session.new
+        (OrNoMemory (DoesAll (bulk_behavior loads_all load_state writes_all deletes_all write_state)
+        cache.now session.old (ops_of targets.now)) session.old result session.new) }
 {
     let _types: Option<&(Reply, Value)> = None;
     match Room::new(alloc, kind, targets.len(), cache.config().stripes) {

@@ -1,9 +1,10 @@
 //! `getAll`: the values of many keys.
 ghost use Rattle.std.specs.Prelude.{◌≡◌, ◌≤◌, [], length, IfNone, IfOk};
 ghost use Rattle.indexmap.specs.IndexMap.{spare};
-ghost use Rattle.jc_cache.specs.Sessions.{MayCall};
+ghost use Rattle.jc_cache.specs.Sessions.{Completes, MayCall};
 ghost use Rattle.jc_bulk.specs.Bulk.{GetsAll, OrRefused, TellsFound};
 ghost use Rattle.jc_bulk.specs.Carrying.{IsRoomOf};
+ghost use Rattle.jc_bulk.specs.Outside.{bulk_behavior};
 ghost use Rattle.jc_bulk.specs.Targets.{get_ops};
 ghost use Rattle.jc_bulk.specs.declared.outside.Kind.TheVariants.{Load};
 
@@ -46,9 +47,9 @@ pub fn get_all<R: Wait>(
     keys: &IndexSet<Key>,
 ) -> Result<IndexMap<Key, Value>, BulkFault>
     requires may { MayCall cache.now session.old }
-    ensures may { MayCall cache.now session.new }
-    ensures ended { OrRefused (GetsAll loads_all load_state writes_all deletes_all write_state
-        cache.now session.old (get_ops keys.now.keys)) (length keys.now.keys) session.old result session.new }
+    ensures { Completes cache.now session.new
+        (OrRefused (GetsAll (bulk_behavior loads_all load_state writes_all deletes_all write_state)
+        cache.now session.old (get_ops keys.now.keys)) (length keys.now.keys) session.old result session.new) }
 {
     let _types: Option<&(Reply, Value)> = None;
     if keys.len() > BULK_KEYS_MAX {
@@ -78,8 +79,7 @@ fn get_room(
     keys: usize,
     stripes: usize,
 ) -> Result<(Room, IndexMap<Key, Value>), AllocError>
-    ensures room { IfOk result (λ r. IsRoomOf Load keys stripes r.0) }
-    ensures found { IfOk result (λ r. (r.1.entries ≡ []) × (keys ≤ spare r.1)) }
+    ensures { IfOk result (λ r. IsRoomOf Load keys stripes r.0 × (r.1.entries ≡ []) × (keys ≤ spare r.1)) }
 {
     let found = IndexMap::with_capacity(alloc, keys)?;
     let room = Room::new(alloc, Kind::Load, keys, stripes)?;

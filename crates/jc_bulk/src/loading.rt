@@ -1,7 +1,8 @@
 //! `loadAll` of one session: many keys are loaded.
 ghost use Rattle.std.specs.Prelude.{length};
-ghost use Rattle.jc_cache.specs.Sessions.{MayCall};
+ghost use Rattle.jc_cache.specs.Sessions.{Completes, MayCall};
 ghost use Rattle.jc_bulk.specs.Bulk.{DoesAll, OrRefused};
+ghost use Rattle.jc_bulk.specs.Outside.{bulk_behavior};
 ghost use Rattle.jc_bulk.specs.Targets.{load_ops};
 
 use crate::carrying::call_all;
@@ -35,9 +36,9 @@ pub fn load_keys<R: Wait>(
     replace: bool,
 ) -> Result<(), BulkFault>
     requires may { MayCall cache.now session.old }
-    ensures may { MayCall cache.now session.new }
-    ensures ended { OrRefused (DoesAll loads_all load_state writes_all deletes_all write_state
-        cache.now session.old (load_ops replace keys.now.keys)) (length keys.now.keys) session.old result session.new }
+    ensures { Completes cache.now session.new
+        (OrRefused (DoesAll (bulk_behavior loads_all load_state writes_all deletes_all write_state)
+        cache.now session.old (load_ops replace keys.now.keys)) (length keys.now.keys) session.old result session.new) }
 {
     if keys.len() > BULK_KEYS_MAX {
         return Err(BulkFault::of_whole_call(alloc, Refusal::TooManyKeys));

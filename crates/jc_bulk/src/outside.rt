@@ -1,11 +1,11 @@
 //! What a bulk call asks outside, in one call for all keys that a round has reserved.
 ghost use Rattle.std.specs.Prelude.{◌≡◌, ◌≤◌, ◌+◌, ◌-◌, ◌<◌, ◌++◌, ◌∷◌, ℕ, [], false, length, map, vec_capacity, IfNone, IfOk, IfSome, IsSome};
 ghost use Rattle.jc_model.specs.Batches.{is_among};
-ghost use Rattle.jc_cache.specs.Sessions.{HasAsked, HoldsNothing};
+ghost use Rattle.jc_cache.specs.Sessions.{HasAsked};
 ghost use Rattle.jc_rounds.specs.OutsideCalls.{asked_keys};
 ghost use Rattle.jc_rounds.specs.Rounds.{fault_of};
 ghost use Rattle.jc_rounds.specs.Ran.{KeepsTickets};
-ghost use Rattle.jc_bulk.specs.Outside.{Answered, HasOneToAsk, IsRest, IsSpent, MayFill, fits, no_asks, with_ask};
+ghost use Rattle.jc_bulk.specs.Outside.{Answered, IsSpent, MayAskFor, bulk_behavior, fits, no_asks, with_ask};
 ghost use Rattle.jc_bulk.specs.declared.outside.Kind.{Kind as KindState};
 ghost use Rattle.jc_bulk.specs.declared.outside.Kind.TheVariants.{Load as LoadKind};
 
@@ -111,13 +111,11 @@ impl OutsideCall {
         session: &mut Session,
         tickets: &mut Vec<Ticket>,
     ) -> (Answers, Option<Refusal>, Option<SpentLoads>)
-        requires nothing { HoldsNothing session.old }
-        requires fill { MayFill self tickets.old.items }
-        requires writer { HasOneToAsk self.kind session.old.agent.hands.outside.writer }
+        requires may { MayAskFor session.old self tickets.old.items }
         ensures tickets { KeepsTickets tickets.old tickets.new }
-        ensures asked { HasAsked session.old session.new (Answered loads_all load_state writes_all deletes_all write_state
-            session.old self.kind tickets.old.items result.0 result.1 session.new) }
-        ensures rest { IsRest self.kind self.room result.0 result.2 }
+        ensures asked { HasAsked session.old session.new
+            (Answered (bulk_behavior loads_all load_state writes_all deletes_all write_state)
+            session.old self.kind self.room tickets.old.items result.0 result.1 result.2 session.new) }
     {
         let mut call = self;
         for place in 0..tickets.len() {

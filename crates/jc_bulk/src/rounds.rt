@@ -2,6 +2,7 @@
 ghost use Rattle.std.specs.Prelude.{◌≡◌, ◌≤◌, [], IfSome, IfErr, IfOk, None};
 ghost use Rattle.jc_rounds.specs.Underway.{IsOver, Past};
 ghost use Rattle.jc_rounds.specs.Running.{HasRun};
+ghost use Rattle.jc_bulk.specs.Outside.{bulk_behavior};
 ghost use Rattle.jc_bulk.specs.RoundsRun.{IsReady, RunsOn};
 
 use crate::outside::{Kind, OutsideCall};
@@ -27,7 +28,8 @@ pub(crate) fn run_rounds<R: Wait>(
     requires run { (past : Past) × HasRun cache.now past session.old call.old }
     ensures over { IsOver call.new }
     ensures runs { (past : Past) → HasRun cache.now past session.old call.old
-        → RunsOn loads_all load_state writes_all deletes_all write_state cache.now past session.old call.old session.new call.new }
+        → RunsOn (bulk_behavior loads_all load_state writes_all deletes_all write_state)
+        cache.now past session.old call.old session.new call.new }
 {
     let kind = outside.kind();
     let mut next = outside;

@@ -2,9 +2,9 @@
 ghost use Rattle.std.specs.Prelude.{◌≡◌, ◌==◌, ◌*◌, IfOk};
 ghost use Rattle.std.specs.List.{IsDistinct};
 ghost use Rattle.std.specs.Cmp.Lexicographic.{pointwise};
-ghost use Rattle.jc_cache.specs.Sessions.{MayCall};
+ghost use Rattle.jc_cache.specs.Sessions.{Completes, MayCall};
 ghost use Rattle.jc_bulk.specs.Bulk.{DoesAll, HasLooked, OnlyLooks, SweepsAll};
-ghost use Rattle.jc_bulk.specs.Outside.{AsksAs};
+ghost use Rattle.jc_bulk.specs.Outside.{AsksAs, bulk_behavior};
 ghost use Rattle.jc_bulk.specs.Targets.{clear_ops, remove_ops};
 ghost use Rattle.jc_rounds.specs.Targets.{ops_with};
 
@@ -38,10 +38,9 @@ pub fn remove_every<R: Wait>(
     session: &mut Session,
 ) -> Result<(), BulkFault>
     requires may { MayCall cache.now session.old }
-    ensures may { MayCall cache.now session.new }
-    ensures swept { SweepsAll cache.now.config.stripes
-        (λ looked keys. DoesAll loads_all load_state writes_all deletes_all write_state cache.now looked (remove_ops keys))
-        session.old result session.new }
+    ensures { Completes cache.now session.new (SweepsAll cache.now.config.stripes (λ looked keys.
+        DoesAll (bulk_behavior loads_all load_state writes_all deletes_all write_state) cache.now looked (remove_ops keys))
+        session.old result session.new) }
 {
     sweep(alloc, rt, cache, session, Op::Remove, Kind::Delete)
 }
@@ -62,11 +61,10 @@ pub fn clear<R: Wait>(
     session: &mut Session,
 ) -> Result<(), BulkFault>
     requires may { MayCall cache.now session.old }
-    ensures may { MayCall cache.now session.new }
     ensures outside { session.new.agent.hands.outside ≡ session.old.agent.hands.outside }
-    ensures swept { SweepsAll cache.now.config.stripes
-        (λ looked keys. DoesAll loads_all load_state writes_all deletes_all write_state cache.now looked (clear_ops keys))
-        session.old result session.new }
+    ensures swept { Completes cache.now session.new (SweepsAll cache.now.config.stripes (λ looked keys.
+        DoesAll (bulk_behavior loads_all load_state writes_all deletes_all write_state) cache.now looked (clear_ops keys))
+        session.old result session.new) }
 {
     sweep(alloc, rt, cache, session, Op::Clear, Kind::Load)
 }
@@ -82,10 +80,9 @@ fn sweep<R: Wait>(
 ) -> Result<(), BulkFault>
     requires may { MayCall cache.now session.old }
     requires asks { AsksAs kind op }
-    ensures may { MayCall cache.now session.new }
-    ensures swept { SweepsAll cache.now.config.stripes
-        (λ looked keys. DoesAll loads_all load_state writes_all deletes_all write_state cache.now looked (ops_with op keys))
-        session.old result session.new }
+    ensures { Completes cache.now session.new (SweepsAll cache.now.config.stripes (λ looked keys.
+        DoesAll (bulk_behavior loads_all load_state writes_all deletes_all write_state) cache.now looked (ops_with op keys))
+        session.old result session.new) }
 {
     match look_at_all(alloc, rt, cache, session) {
         Err(_failed) => Err(BulkFault::of_whole_call(alloc, Refusal::OutOfMemory)),
@@ -104,10 +101,9 @@ fn look_at_all<R: Wait>(
     session: &mut Session,
 ) -> Result<Vec<Key>, AllocError>
     requires may { MayCall cache.now session.old }
-    ensures may { MayCall cache.now session.new }
-    ensures looks { OnlyLooks session.old session.new }
-    ensures found { IfOk result (λ keys. HasLooked cache.now.config.stripes
-        session.old.seats.items session.new.seats.items keys.items × IsDistinct (pointwise ◌==◌) keys.items) }
+    ensures { Completes cache.now session.new (OnlyLooks session.old session.new
+        × IfOk result (λ keys. HasLooked cache.now.config.stripes session.old.seats.items session.new.seats.items keys.items
+        × IsDistinct (pointwise ◌==◌) keys.items)) }
 {
     let mut keys = Vec::with_capacity(alloc, most_entries(cache))?;
     is_uniform();

@@ -1,7 +1,8 @@
 //! `putAll` and `removeAll`: many keys are written or deleted.
 ghost use Rattle.std.specs.Prelude.{length};
-ghost use Rattle.jc_cache.specs.Sessions.{MayCall};
+ghost use Rattle.jc_cache.specs.Sessions.{Completes, MayCall};
 ghost use Rattle.jc_bulk.specs.Bulk.{DoesAll, OrRefused};
+ghost use Rattle.jc_bulk.specs.Outside.{bulk_behavior};
 ghost use Rattle.jc_rounds.specs.Targets.{put_ops};
 ghost use Rattle.jc_bulk.specs.Targets.{remove_ops};
 
@@ -45,9 +46,9 @@ pub fn put_all<R: Wait>(
     entries: &IndexMap<Key, Value>,
 ) -> Result<(), BulkFault>
     requires may { MayCall cache.now session.old }
-    ensures may { MayCall cache.now session.new }
-    ensures ended { OrRefused (DoesAll loads_all load_state writes_all deletes_all write_state
-        cache.now session.old (put_ops entries.now.entries)) (length entries.now.entries) session.old result session.new }
+    ensures { Completes cache.now session.new
+        (OrRefused (DoesAll (bulk_behavior loads_all load_state writes_all deletes_all write_state)
+        cache.now session.old (put_ops entries.now.entries)) (length entries.now.entries) session.old result session.new) }
 {
     if entries.len() > BULK_KEYS_MAX {
         return Err(BulkFault::of_whole_call(alloc, Refusal::TooManyKeys));
@@ -70,9 +71,9 @@ pub fn remove_all<R: Wait>(
     keys: &IndexSet<Key>,
 ) -> Result<(), BulkFault>
     requires may { MayCall cache.now session.old }
-    ensures may { MayCall cache.now session.new }
-    ensures ended { OrRefused (DoesAll loads_all load_state writes_all deletes_all write_state
-        cache.now session.old (remove_ops keys.now.keys)) (length keys.now.keys) session.old result session.new }
+    ensures { Completes cache.now session.new
+        (OrRefused (DoesAll (bulk_behavior loads_all load_state writes_all deletes_all write_state)
+        cache.now session.old (remove_ops keys.now.keys)) (length keys.now.keys) session.old result session.new) }
 {
     if keys.len() > BULK_KEYS_MAX {
         return Err(BulkFault::of_whole_call(alloc, Refusal::TooManyKeys));

@@ -10,7 +10,7 @@ use Rattle.std.specs.List.{All}
 use Rattle.std.proofs.lemmas.List.Elements.{All-get_or, All-push, All-pop, All-set, All-weaker}
 use Rattle.jc_cache.specs.Caches.{CacheState}
 use Rattle.jc_cache.specs.Sessions.{IsOf, MayCall}
-use Rattle.jc_cache.specs.declared.session.Session.{Session}
+use Rattle.jc_session.specs.declared.session.Session.{Session}
 
 pub at_cache : {X : Type 0} (xs : List X) (P : CacheState → X → Type 0) (k l : CacheState) → l ≡ k → All (P k) xs → All (P l) xs
 at_cache xs P k l same all = subst (λ (z : CacheState). All (P z) xs) (sym same) all

@@ -12,12 +12,10 @@ ghost use Rattle.jc_c.specs.Events.{read_cause, process_if_run, read_outside, sh
 ghost use Rattle.jc_c.specs.Exports.{export_code};
 
 use crate::codes::{
-    JC_BAD_ARGUMENT, JC_CLEAR_KEY, JC_CONTAINS_KEY, JC_EVICTION, JC_FAILED, JC_FOR_MEMORY,
-    JC_FOR_ROOM, JC_FOUND, JC_GET, JC_GET_AND_PUT, JC_GET_AND_REMOVE, JC_GET_AND_REPLACE,
-    JC_INVOKE, JC_KEEP, JC_LOAD, JC_LOADER_FAILED, JC_NO, JC_NO_MEMORY, JC_NONE, JC_NOT_ASKED,
-    JC_NOT_RUN, JC_NOTHING, JC_NULL, JC_OK, JC_PROCESS_FAILED, JC_PROCESSOR_FAILED, JC_PUT,
-    JC_PUT_IF_ABSENT, JC_RELOAD, JC_REMOVE, JC_REMOVE_IF, JC_REPLACE, JC_REPLACE_IF, JC_SET,
-    JC_STEP, JC_TAKE_OUT, JC_UNIT, JC_VALUE, JC_WRITER_FAILED, JC_WRITTEN, JC_WRONG_HANDLE, JC_YES,
+    JC_BAD_ARGUMENT, JC_EVICTION, JC_FAILED, JC_FOR_MEMORY, JC_FOR_ROOM, JC_FOUND, JC_KEEP,
+    JC_LOADER_FAILED, JC_NO, JC_NO_MEMORY, JC_NONE, JC_NOT_ASKED, JC_NOT_RUN, JC_NOTHING, JC_NULL,
+    JC_OK, JC_PROCESS_FAILED, JC_PROCESSOR_FAILED, JC_SET, JC_STEP, JC_TAKE_OUT, JC_UNIT, JC_VALUE,
+    JC_WRITER_FAILED, JC_WRITTEN, JC_WRONG_HANDLE, JC_YES,
 };
 use crate::handle::Handle;
 use crate::layouts::{CacheShape, FlatEvent, InlineEntry, InlineValue, ProcessorAnswers};
@@ -25,7 +23,7 @@ use crate::opening::{config_of, contents_of, entries_fit};
 use crate::replies::{show_reply, show_value};
 use crate::requests::{answers_beside, read_op, read_process};
 use jc_model::{
-    Cause, Effect, Event, LoadAnswer, Op, Out, ProcessAnswer, Reply, WriteAnswer, legal,
+    Cause, Effect, Event, LoadAnswer, Op, OpValues, Out, ProcessAnswer, Reply, WriteAnswer, legal,
 };
 use jc_parcel::Loose;
 use jc_types::{Caller, Field, Key, Refusal, Value};
@@ -38,25 +36,14 @@ fn show_op(op: &Op, number: &mut u32, value: &mut InlineValue, other: &mut Inlin
     ensures value { is_inline_value value.old ≡ true → is_inline_value value.new ≡ true }
     ensures other { is_inline_value other.old ≡ true → is_inline_value other.new ≡ true }
 {
-    match op {
-        Op::Get => *number = JC_GET,
-        Op::ContainsKey => *number = JC_CONTAINS_KEY,
-        Op::Put(put) => show_with(put, JC_PUT, number, value),
-        Op::GetAndPut(put) => show_with(put, JC_GET_AND_PUT, number, value),
-        Op::PutIfAbsent(put) => show_with(put, JC_PUT_IF_ABSENT, number, value),
-        Op::Remove => *number = JC_REMOVE,
-        Op::RemoveIf(old) => show_with(old, JC_REMOVE_IF, number, value),
-        Op::GetAndRemove => *number = JC_GET_AND_REMOVE,
-        Op::Replace(new) => show_with(new, JC_REPLACE, number, value),
-        Op::ReplaceIf { old, new } => {
-            show_with(old, JC_REPLACE_IF, number, value);
-            show_value(new, other);
+    *number = u32::from(op.number());
+    match op.values() {
+        OpValues::Nothing => {}
+        OpValues::One(held) => show_value(held, value),
+        OpValues::Two { first, second } => {
+            show_value(first, value);
+            show_value(second, other);
         }
-        Op::GetAndReplace(new) => show_with(new, JC_GET_AND_REPLACE, number, value),
-        Op::Clear => *number = JC_CLEAR_KEY,
-        Op::LoadAll { replace: false } => *number = JC_LOAD,
-        Op::LoadAll { replace: true } => *number = JC_RELOAD,
-        Op::Invoke => *number = JC_INVOKE,
     }
 }
 

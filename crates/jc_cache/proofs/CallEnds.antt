@@ -32,10 +32,9 @@ use Rattle.jc_stripe.specs.OnePhase.{GainsOwn, IsPhaseOf}
 use Rattle.jc_stripe.specs.OwnSteps.{AddsOwn, StepsBehind, may_come_all}
 use Rattle.jc_stripe.specs.Phases.{after_commit}
 use Rattle.jc_stripe.specs.Tests.{asks_outside}
-use Rattle.jc_stripe.specs.declared.begun.Begun.{Begun}
-use Rattle.jc_stripe.specs.declared.begun.Begun.TheVariants as begun
-use Rattle.jc_stripe.specs.declared.begun.Picked.TheVariants as picked
-use Rattle.jc_stripe.specs.declared.begun.StepDone.{StepDone}
+use Rattle.jc_stripe.specs.Outcomes.{Begun, StepDone}
+use Rattle.jc_stripe.specs.Outcomes as begun
+use Rattle.jc_stripe.specs.Polled as polled
 use Rattle.jc_stripe.specs.declared.ticket.Reservation.{Reservation}
 use Rattle.jc_stripe.proofs.CallerLemmas.{call_below, may_in_all, put_off_or_full}
 use Rattle.jc_lock.specs.declared.view.View.{View}
@@ -156,7 +155,7 @@ module _ {G L : Type 0} (law : PhaseLaws) (behind : StepsBehind) (caller : Calle
       let to_get : op ≡ Get = joins_get first key op join.load begins.1 in
       let place : ℕ = whole_place y.left ends.1 in
       let seen = kept caller.session t.1 first next v.1 l (law.own_steps.joins first next caller key op join begins) in
-      let turn = turn_lent law caller.session (picking join (picked.Answer reply ends.1 shared_with)) g v last h u (seen.seat.session ∙ mine) seen.seat.free (waited_keeps law caller.session _ _) lent y (phase_as join.caller caller y.found y.left who (picks_phase join (picked.Answer reply ends.1 shared_with) y.found y.left y.made)) in
+      let turn = turn_lent law caller.session (picking join (polled.Answer reply ends.1 shared_with)) g v last h u (seen.seat.session ∙ mine) seen.seat.free (waited_keeps law caller.session _ _) lent y (phase_as join.caller caller y.found y.left who (picks_phase join (polled.Answer reply ends.1 shared_with) y.found y.left y.made)) in
       let p = earlier caller.session t.1 v.1 y.found y.left u.1 seen turn.1 in
       let gains = law.own_steps.picks_up y.found y.left join reply ends.1 shared_with p.reached y.made in
       let out : Out = gains.0 in

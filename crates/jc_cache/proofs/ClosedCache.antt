@@ -20,7 +20,7 @@ use Rattle.jc_stripe.specs.State.{State}
 use Rattle.jc_stripe.specs.Laws.{ReachedIsLegal}
 use Rattle.jc_stripe.specs.Generations.{IsChain, IsOfSameStripe}
 use Rattle.jc_lock.proofs.CallerLemmas.{prefix-refl, same_itself}
-use Rattle.jc_cache.specs.declared.session.Session.{Session}
+use Rattle.jc_session.specs.declared.session.Session.{Session}
 use Rattle.jc_cache.specs.Caches.{Log, OwnerState, log_of, noted_by, fronts_of, logs_of}
 use Rattle.jc_cache.specs.CacheInside.{IsOwnSeat, IsWhole}
 use Rattle.jc_cache.specs.Closing.{AreClosed, AreIdle, HasFront, HasMissed, IsInUse, HasOnlyLooked, HasTakenOver, IsTakenAs, all_lent, lent_at, IsClosed, IsClosedAt, IsCloseRefusal, IsEndRefusal, IsHandedBack}

@@ -20,7 +20,7 @@ use Rattle.jc_cache.specs.Fronts.{HasSeen}
 use Rattle.jc_cache.specs.Generations.{IsEndOf}
 use Rattle.jc_cache.specs.Meeting.{KeepRow}
 use Rattle.jc_cache.specs.Sessions.{MayCall}
-use Rattle.jc_cache.specs.declared.session.Session.{Session}
+use Rattle.jc_session.specs.declared.session.Session.{Session}
 use Rattle.jc_cache.proofs.Lendings.{seen_itself}
 use Rattle.jc_cache.proofs.Meetings.{got_set, got_other, row_set, may_stay, refreshed_seen}
 use Rattle.jc_cache.proofs.Rows.{Seated}

@@ -6,9 +6,9 @@ use Rattle.std.proofs.lemmas.List.{map-append}
 use Rattle.std.proofs.lemmas.List.Elements.{All-nil, All-push}
 use Rattle.std.specs.List.{All}
 use Rattle.jc_outside.specs.declared.hands.Outside.{Outside}
-use Rattle.jc_cache.specs.declared.session.Session.{Session}
+use Rattle.jc_session.specs.declared.session.Session.{Session}
 use Rattle.jc_cache.specs.Caches.{OwnerState}
-use Rattle.jc_cache.specs.Clients.{AreGivenOut, HaveNumbers}
+use Rattle.jc_cache.specs.Enlisting.{AreGivenOut, HaveNumbers}
 use Rattle.jc_cache.specs.Sessions.{BeginsAt, IsGivenOut, MayCall}
 
 pub given_none : {I J : Type 0} {D : I → Type 0} {E : J → Type 0} (owner : OwnerState) → AreGivenOut {I = I} {J = J} {D = D} {E = E} owner owner [] []

@@ -31,9 +31,10 @@ use Rattle.jc_lock.specs.declared.view.View.{View}
 use Rattle.jc_lock.proofs.CallerLemmas.{prefix-trans, same_on}
 use Rattle.jc_engine.specs.MadeIn.{IsNext}
 use Rattle.jc_engine.specs.Increments.{EventsByTable, IsByTable, SetsNext}
-use Rattle.jc_cache.specs.declared.session.Session.{Session}
+use Rattle.jc_session.specs.declared.session.Session.{Session}
 use Rattle.jc_cache.specs.Caches.{CacheState}
-use Rattle.jc_cache.specs.Calls.{Invoked, next_call}
+use Rattle.jc_cache.specs.Calls.{Invoked}
+use Rattle.jc_session.specs.Sessions.{next_call}
 use Rattle.jc_engine.specs.Turns.{state_decided}
 use Rattle.jc_engine.proofs.CallerLemmas.{call_in}
 use Rattle.jc_cache.specs.Fronts.{IsAskedFor, IsBetween}

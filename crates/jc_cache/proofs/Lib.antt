@@ -5,6 +5,7 @@ pub mod WholeCalls
 pub mod Rows
 pub mod Noted
 pub mod OwnSeats
+pub mod CallerLemmas
 pub mod NewSessions
 pub mod ClosingSeats
 pub mod ClosedCache
@@ -17,5 +18,4 @@ pub mod EndedGenerations
 pub mod Increments
 pub mod Enlisted
 pub mod Following
-pub mod Served
 pub mod Rooms

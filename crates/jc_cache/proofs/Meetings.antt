@@ -29,7 +29,7 @@ use Rattle.jc_cache.specs.Fronts.{HasSeen}
 use Rattle.jc_cache.specs.Turns.{HasLent}
 use Rattle.jc_cache.specs.Meeting.{TellsAt, TellEach, IsSessionSeat, AreSessionSeats, KeepRow}
 use Rattle.jc_cache.specs.Sessions.{IsSeatAt, MayCall, capped}
-use Rattle.jc_cache.specs.declared.session.Session.{Session}
+use Rattle.jc_session.specs.declared.session.Session.{Session}
 use Rattle.jc_cache.proofs.Rows.{Seated, locks_of, length_locks, seat_there, lock_there}
 use Rattle.jc_cache.proofs.Seats.{set_locks, set_total, seat_stays}
 

@@ -21,7 +21,7 @@ use Rattle.jc_session.specs.declared.counts.Counts.{Counts}
 use Rattle.jc_cache.specs.Caches.{CacheState, OwnerState, noted_by, fronts_of, logs_of, session_refusal}
 use Rattle.jc_cache.specs.CacheInside.{IsOwnSeat, IsWhole}
 use Rattle.jc_cache.specs.Sessions.{IsSeatAt, BeginsAt, MayCall, own_total, capped}
-use Rattle.jc_cache.specs.declared.session.Session.{Session}
+use Rattle.jc_session.specs.declared.session.Session.{Session}
 use Rattle.jc_cache.proofs.Rows.{Seated, locks_of, map_get}
 use Rattle.jc_cache.proofs.Noted.{noted_same, fronts_same, logs_same}
 

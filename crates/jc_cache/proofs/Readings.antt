@@ -19,7 +19,7 @@ use Rattle.jc_cache.specs.Caches.{CacheState, noted_by}
 use Rattle.jc_cache.specs.Counting.{HasRead, HasReadEach, occurred_in}
 use Rattle.jc_cache.specs.Meeting.{KeepRow}
 use Rattle.jc_cache.specs.Sessions.{MayCall}
-use Rattle.jc_cache.specs.declared.session.Session.{Session}
+use Rattle.jc_session.specs.declared.session.Session.{Session}
 use Rattle.jc_cache.proofs.Rows.{Seated, length_locks, seat_there}
 use Rattle.jc_cache.proofs.Meetings.{HasRest, got_set, got_other, may_stay}
 

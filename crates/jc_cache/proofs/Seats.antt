@@ -33,10 +33,10 @@ use Rattle.jc_session.specs.Counting.{one_more}
 use Rattle.jc_session.specs.declared.agent.Agent.{Agent}
 use Rattle.jc_engine.specs.Asking.{KeepsTypes, own_after}
 use Rattle.jc_cache.specs.Caches.{CacheState}
-use Rattle.jc_cache.specs.Calls.{next_call}
+use Rattle.jc_session.specs.Sessions.{next_call}
 use Rattle.jc_cache.specs.Fronts.{IsSameSeat, SeatAfter, SeatTried}
 use Rattle.jc_cache.specs.Sessions.{IsSeatAt, MayCall, own_total, capped}
-use Rattle.jc_cache.specs.declared.session.Session.{Session}
+use Rattle.jc_session.specs.declared.session.Session.{Session}
 use Rattle.jc_cache.proofs.CallEnds.{IsBelow}
 
 -- 1. What a call leaves of its own steps.

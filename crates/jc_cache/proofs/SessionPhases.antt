@@ -19,6 +19,7 @@ use Rattle.jc_types.specs.declared.caller.Caller.{Caller}
 use Rattle.jc_types.specs.declared.config.Config.{Config}
 use Rattle.jc_model.specs.Cache.{Bytes}
 use Rattle.jc_model.specs.declared.event.Event.{Event}
+use Rattle.jc_model.specs.declared.event.Reply.{Reply}
 use Rattle.jc_stripe.specs.State.{State}
 use Rattle.jc_stripe.specs.Reached.{IsReached}
 use Rattle.jc_stripe.specs.Generations.{past_events, whole_history}
@@ -26,6 +27,7 @@ use Rattle.jc_stripe.specs.Renewal.{all_own_steps}
 use Rattle.jc_stripe.specs.OnePhase.{IsPhaseOf, is_own_step, own_steps}
 use Rattle.jc_stripe.specs.OwnSteps.{may_come_all}
 use Rattle.jc_stripe.specs.Tickets.{TicketClaim, JoinClaim}
+use Rattle.jc_stripe.specs.Phases.{polled_with}
 use Rattle.jc_stripe.specs.declared.begun.Picked.{Picked}
 use Rattle.jc_stripe.specs.declared.begun.Picked.TheVariants as picked
 use Rattle.jc_lock.specs.Views.{Finds}
@@ -39,13 +41,12 @@ use Rattle.jc_gate.specs.Lending.{ComesAfter}
 use Rattle.jc_engine.specs.Answered.{CallAnswer, IsAnswered}
 use Rattle.jc_engine.specs.Rows.{LentPhase, PhaseLaws, Turn}
 use Rattle.jc_engine.specs.Needs.{BeginsIfClear, CommitsHere, IsReported, PicksUpBy, PicksUpLate}
-use Rattle.jc_engine.proofs.CallerLemmas.{Keeps, all_map, once}
-use Rattle.jc_engine.proofs.Counted.{steps_in, counted_longer}
+use Rattle.jc_engine.proofs.CallerLemmas.{Keeps, all_map, counted_longer, once, steps_in}
 use Rattle.jc_cache.specs.Caches.{CacheState}
 use Rattle.jc_cache.specs.Fronts.{IsSameSeat}
 use Rattle.jc_cache.specs.PhaseCalls.{SeatPhase, PhaseAt, MayStart}
 use Rattle.jc_cache.specs.Sessions.{GoesOn, IsSeatAt, IsOf, HoldsNothing, own_total, capped}
-use Rattle.jc_cache.specs.declared.session.Session.{Session}
+use Rattle.jc_session.specs.declared.session.Session.{Session}
 use Rattle.jc_cache.proofs.Lendings.{lock_takes, lock_gives, lock_finds, Lending, row_left, turn_lent}
 use Rattle.jc_cache.specs.Turns.{HasLent}
 use Rattle.jc_cache.proofs.Rows.{Seated, locks_of, length_locks}
@@ -62,10 +63,10 @@ all_longer session more old new ended longer =
     let same : length (all_own_steps session new) ≡ length (past ++ own_steps session new) = λ i. length (filter (is_own_step session []) (past_events (ended i)) ++ own_steps session new) in
     omega arith
 
-pub picked_late : (old new : State) (join : JoinClaim) (p : Picked) → PicksUpBy true old join p new → PicksUpLate old join p new
-picked_late old new join (picked.Answer reply place shared_with) by = by.picks
-picked_late old new join picked.Again by = by.picks
-picked_late old new join (picked.NotYet back) by = absurd (true≢false by.last)
+pub picked_late : (old new : State) (join : JoinClaim) (p : Picked) (reply : Reply) → PicksUpBy true old join p reply new → PicksUpLate old join (polled_with p reply) new
+picked_late old new join (picked.Answer place shared_with) reply by = by.picks
+picked_late old new join picked.Again reply by = by.picks
+picked_late old new join (picked.NotYet back) reply by = absurd (true≢false by.last)
 
 same_count : (counts : Counts) (own : ℕ) → counts.own ≡ capped own → counts.own ≡ capped (own + 0)
 same_count counts own is = let none : own ≡ own + 0 = omega arith in is ∙ ap capped none

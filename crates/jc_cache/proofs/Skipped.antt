@@ -13,7 +13,7 @@ use Rattle.jc_stripe.specs.OwnSteps.{is_before_call}
 use Rattle.jc_session.specs.Counting.{one_more}
 use Rattle.jc_cache.specs.Caches.{CacheState}
 use Rattle.jc_cache.specs.Sessions.{IsOf, MayCall}
-use Rattle.jc_cache.specs.declared.session.Session.{Session}
+use Rattle.jc_session.specs.declared.session.Session.{Session}
 
 -- 1. Numbers.
 

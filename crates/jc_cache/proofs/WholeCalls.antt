@@ -51,9 +51,10 @@ use Rattle.jc_engine.proofs.CallerLemmas.{call_in}
 use Rattle.jc_cache.specs.Fronts.{IsBetween}
 use Rattle.jc_cache.specs.Caches.{CacheState}
 use Rattle.jc_cache.specs.CacheInside.{IsShaped}
-use Rattle.jc_cache.specs.Calls.{next_call, CallsAt, Tried, Invoked}
+use Rattle.jc_cache.specs.Calls.{CallsAt, Tried, Invoked}
+use Rattle.jc_session.specs.Sessions.{next_call}
 use Rattle.jc_cache.specs.Sessions.{Completes, IsOf, MayCall}
-use Rattle.jc_cache.specs.declared.session.Session.{Session}
+use Rattle.jc_session.specs.declared.session.Session.{Session}
 use Rattle.jc_cache.proofs.Lendings.{lock_takes, lock_gives, lock_finds, lock_misses, lock_speaks_for, RowLeft, row_left}
 use Rattle.jc_cache.proofs.CallEnds.{CallLeft, call_left, tried_left}
 use Rattle.jc_cache.proofs.Rows.{length_locks, lock_there}

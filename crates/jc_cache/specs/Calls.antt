@@ -1,5 +1,4 @@
 -- Whole calls on a cache.
---     next_call   a session that has begun its next call
 --     AtStripe    a session's seat at the stripe of a key goes from one view to another, and its other seats stay
 --     CallsAt     a session's current call, whole, at a key, which ended so: what its seat has seen, and its lendings, turn by turn, each of which
 --                 found the stripe between what the seat had seen and what it has seen; what was asked outside, was asked of its loader and its
@@ -28,18 +27,15 @@ use Rattle.jc_mutentry.specs.Running.{ProcessRelation}
 use Rattle.jc_stripe.specs.State.{State}
 use Rattle.jc_lock.specs.declared.view.View.{View}
 use Rattle.jc_session.specs.Boxed.{boxed}
-use Rattle.jc_session.specs.Counting.{one_more}
+use Rattle.jc_session.specs.Sessions.{next_call}
 use Rattle.jc_engine.specs.Asking.{AsksLoader, AsksWriter, KeepsTypes, RunsProcessor, change_wanted, own_after}
 use Rattle.jc_engine.specs.Rows.{AllLend}
 use Rattle.jc_engine.specs.Turns.{HasLookedFirst, IsCallRow, state_decided, state_found}
 pub use Rattle.jc_engine.specs.Values.{value_in, value_into}
-use Rattle.jc_cache.specs.declared.session.Session.{Session}
+use Rattle.jc_session.specs.declared.session.Session.{Session}
 use Rattle.jc_cache.specs.Caches.{CacheState}
 use Rattle.jc_cache.specs.Fronts.{SeatAfter, SeatTried, IsBetween, IsMadeIn}
 use Rattle.jc_cache.specs.Turns.{HasLent}
-
-abbrev pub next_call : {I J : Type 0} {D : I → Type 0} {E : J → Type 0} → Session I J D E → Session I J D E
-next_call session = record session { agent = record session.agent { caller = record session.agent.caller { call = one_more session.agent.caller.call } } }
 
 -- 1. One seat of a session.
 

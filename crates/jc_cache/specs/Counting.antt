@@ -9,7 +9,7 @@ use Rattle.jc_model.specs.Statistics.{Occurrence}
 use Rattle.jc_stripe.specs.State.{State}
 use Rattle.jc_stripe.specs.Occurrences.{all_occurrences}
 use Rattle.jc_lock.specs.declared.view.View.{View}
-use Rattle.jc_cache.specs.declared.session.Session.{Session}
+use Rattle.jc_session.specs.declared.session.Session.{Session}
 use Rattle.jc_cache.specs.Fronts.{HasSeen}
 use Rattle.jc_cache.specs.Meeting.{IsRefreshed}
 

@@ -37,9 +37,8 @@ use Rattle.jc_stripe.specs.Generations.{past_events, whole_history, IsOfSameStri
 use Rattle.jc_stripe.specs.Reached.{IsReached}
 use Rattle.jc_stripe.specs.Refusals.{first_refusal}
 use Rattle.jc_stripe.specs.Renewal.{RenewsIfFull}
-use Rattle.jc_stripe.specs.declared.begun.Begun.{Begun}
-use Rattle.jc_stripe.specs.declared.begun.Begun.TheVariants as begun
-use Rattle.jc_stripe.specs.declared.begun.StepDone.{StepDone}
+use Rattle.jc_stripe.specs.Outcomes.{Begun, StepDone}
+use Rattle.jc_stripe.specs.Outcomes as begun
 use Rattle.jc_stripe.specs.Tests.{asks_outside}
 use Rattle.jc_stripe.specs.OwnSteps.{HasOneMore}
 use Rattle.jc_lock.specs.declared.view.View.{View}

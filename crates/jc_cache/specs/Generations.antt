@@ -14,7 +14,7 @@ use Rattle.jc_stripe.specs.Generations.{whole_history}
 use Rattle.jc_stripe.specs.Renewal.{EndsGeneration}
 use Rattle.jc_lock.specs.Views.{Finds, after_give, after_take}
 use Rattle.jc_lock.specs.declared.view.View.{View}
-use Rattle.jc_cache.specs.declared.session.Session.{Session}
+use Rattle.jc_session.specs.declared.session.Session.{Session}
 use Rattle.jc_cache.specs.Fronts.{HasSeen}
 
 abbrev pub IsEndOf : {A : Type 0} → Result (Option ℕ) A → List Event → List Event → State → State → Type 0

@@ -1,7 +1,7 @@
 pub mod Caches
-pub mod Clients
 pub mod Fronts
 pub mod Sessions
+pub mod Enlisting
 pub mod Calls
 pub mod PhaseCalls
 pub mod Meeting

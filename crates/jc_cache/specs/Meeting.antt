@@ -14,7 +14,7 @@ use Rattle.atomic_table.specs.Seated.{TableId}
 use Rattle.jc_stripe.specs.State.{State}
 use Rattle.jc_lock.specs.Views.{Finds, after_give, after_take}
 use Rattle.jc_lock.specs.declared.view.View.{View}
-use Rattle.jc_cache.specs.declared.session.Session.{Session}
+use Rattle.jc_session.specs.declared.session.Session.{Session}
 use Rattle.jc_cache.specs.Fronts.{HasSeen}
 use Rattle.jc_cache.specs.Turns.{HasLent}
 use Rattle.jc_cache.specs.Caches.{CacheState}

@@ -19,7 +19,7 @@ use Rattle.jc_lock.specs.declared.view.View.{View}
 use Rattle.jc_lock.specs.Views.{Finds}
 use Rattle.jc_session.specs.declared.counts.Counted.{Counted}
 use Rattle.jc_session.specs.Counting.{counts_after}
-use Rattle.jc_cache.specs.declared.session.Session.{Session}
+use Rattle.jc_session.specs.declared.session.Session.{Session}
 use Rattle.jc_cache.specs.Caches.{CacheState}
 use Rattle.jc_engine.specs.Rows.{AllLend, Turn}
 use Rattle.jc_cache.specs.Fronts.{IsSameSeat}

@@ -28,7 +28,7 @@ use Rattle.jc_stripe.specs.OwnSteps.{is_before_call}
 use Rattle.jc_lock.specs.declared.view.View.{View}
 use Rattle.jc_session.specs.Counting.{one_more}
 use Rattle.jc_session.specs.declared.fault.SessionFault.{SessionFault}
-use Rattle.jc_cache.specs.declared.session.Session.{Session}
+use Rattle.jc_session.specs.declared.session.Session.{Session}
 use Rattle.jc_cache.specs.Caches.{CacheState, OwnerState, noted_by, fronts_of, session_refusal}
 
 pub record IsSeatAt (config : Config) (stripe session : ℕ) (view : View) : Type 0 where

@@ -13,8 +13,8 @@ use Rattle.jc_stripe.specs.Keys.{Looks}
 use Rattle.jc_stripe.specs.State.{State, IsJoined, IsOut}
 use Rattle.jc_stripe.specs.Phases.{PicksUp, Withdraws}
 use Rattle.jc_stripe.specs.Tickets.{JoinClaim}
-use Rattle.jc_stripe.specs.declared.begun.Begun.{Begun}
-use Rattle.jc_stripe.specs.declared.begun.Picked.{Picked}
+use Rattle.jc_stripe.specs.Outcomes.{Begun}
+use Rattle.jc_stripe.specs.Polled.{Polled}
 use Rattle.jc_stripe.specs.declared.ticket.Reservation.{Reservation}
 use Rattle.jc_lock.specs.declared.view.View.{View}
 use Rattle.jc_engine.specs.declared.first.How.TheVariants.{Now}
@@ -30,10 +30,10 @@ pub record HasLent (before : View) (row : List (State × State)) (after : View) 
 abbrev pub starting_now : Caller → Bytes → Op → Begun → Turn
 starting_now caller key op begun = turn_of (StartWaits Now caller key op) (StartsAt caller key op begun)
 
-abbrev pub picking_now : JoinClaim → Picked → Turn
+abbrev pub picking_now : JoinClaim → Polled → Turn
 picking_now join picked = turn_of (HasWaited (λ a. IsJoined a join) (IsTooEarly false join)) (λ a b. PicksUp a join picked b)
 
-abbrev pub picking_late : JoinClaim → Picked → Turn
+abbrev pub picking_late : JoinClaim → Polled → Turn
 picking_late join picked = turn_of (HasWaited (λ a. IsJoined a join) (IsTooEarly true join)) (λ a b. PicksUpLate a join picked b)
 
 abbrev pub withdrawing : Reservation → Turn

@@ -11,12 +11,12 @@ ghost use Rattle.jc_engine.specs.Entering.{ended_with};
 ghost use Rattle.jc_cache.specs.Calls.{Called, Gets, Tried, Invoked, value_in, value_into};
 
 use crate::calls::value_of;
-use crate::session::Session;
 use jc_engine::laws::one_lending;
 use jc_engine::{Access, Invocation};
 use jc_lock::HistLock;
 use jc_model::{Op, Reply};
 use jc_mutentry::EntryProcessor;
+use jc_session::Session;
 use jc_stripe::phase_laws::{own_numbers, steps_behind};
 use jc_types::{Config, Key, Refusal, Value, stripe_of};
 use std::marker::Model;

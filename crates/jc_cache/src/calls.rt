@@ -23,8 +23,8 @@ ghost use Rattle.jc_engine.specs.Entering.{ended_with};
 ghost use Rattle.jc_cache.specs.Calls.{Gets, Returns, value_in, flag_in, unit_in};
 
 use crate::cache::Cache;
-use crate::session::Session;
 use jc_model::{Op, Reply};
+use jc_session::Session;
 use jc_types::{Key, Refusal, Value};
 use std::sync::Wait;
 

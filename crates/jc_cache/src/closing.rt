@@ -21,10 +21,10 @@ mod own_seats;
 
 use crate::cache::Cache;
 use crate::owner::CacheOwner;
-use crate::session::Session;
 use jc_lock::{HistLock, Seat};
 use jc_model::{Event, Statistics};
 use jc_outside::Outside;
+use jc_session::Session;
 use jc_stripe::Stripe;
 use jc_stripe::phase_laws::is_legal;
 use jc_types::{Key, Refusal, Value};

@@ -9,11 +9,10 @@ ghost use Rattle.jc_cache.specs.Sessions.{Completes, MayCall};
 
 use crate::cache::Cache;
 use crate::closing::{Closed, ClosedStripe};
-use crate::session::Session;
 use jc_lock::{HistLock, Seat};
 use jc_model::Statistics;
 use jc_model::statistics::statistics_laws;
-use jc_session::Agent;
+use jc_session::{Agent, Session};
 use std::sync::Wait;
 
 impl Cache {

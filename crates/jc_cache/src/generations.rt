@@ -8,10 +8,9 @@ ghost use Rattle.jc_cache.specs.Meeting.{IsSessionSeat};
 ghost use Rattle.jc_cache.specs.Sessions.{Completes, MayCall};
 
 use crate::cache::Cache;
-use crate::session::Session;
 use jc_lock::{HistLock, Seat};
 use jc_model::Event;
-use jc_session::Agent;
+use jc_session::{Agent, Session};
 use jc_stripe::phase_laws::renewal;
 use std::alloc::AllocError;
 use std::sync::Wait;

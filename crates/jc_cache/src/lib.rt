@@ -16,7 +16,6 @@
 
 mod cache;
 mod calls;
-mod client;
 mod closing;
 mod counting;
 mod enlisting;
@@ -26,23 +25,18 @@ mod meeting;
 mod owner;
 mod phase_calls;
 mod reopening;
-mod serving;
-mod session;
 mod skipping;
 mod trying;
 
 pub use cache::Cache;
-pub use client::Client;
 pub use closing::{CloseFault, Closed, ClosedStripe};
 pub use jc_model::{Event, Op, Reply, Statistics};
 pub use jc_mutentry::{EntryProcessor, MutableEntry};
 pub use jc_outside::{Answers, CacheLoader, CacheWriter, Outside};
-pub use jc_session::SessionFault;
+pub use jc_session::{Session, SessionFault};
 pub use jc_stripe::{
     Appended, Ask, First, Join, LoadDone, Picked, ProcDone, Started, Ticket, WriteDone,
 };
 pub use jc_types::{Config, Key, Refusal, Value};
 pub use owner::CacheOwner;
 pub use reopening::{ReopenFault, Reopened};
-pub use serving::{Service, serve, work_all};
-pub use session::Session;

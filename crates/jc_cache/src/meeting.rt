@@ -4,9 +4,8 @@ ghost use Rattle.jc_cache.specs.Meeting.{TellsAt, TellEach, HaveMet, IsSessionSe
 ghost use Rattle.jc_cache.specs.Sessions.{MayCall};
 
 use crate::cache::Cache;
-use crate::session::Session;
 use jc_lock::{HistLock, Seat};
-use jc_session::Agent;
+use jc_session::{Agent, Session};
 use std::sync::Wait;
 
 impl Cache {

@@ -14,10 +14,9 @@ ghost use Rattle.jc_cache.specs.CacheInside.{IsWhole, GiveNumbers};
 ghost use Rattle.jc_cache.specs.Sessions.{IsGivenOut, IsNotGivenOut};
 
 use crate::cache::Cache;
-use crate::session::Session;
 use jc_lock::{HistLock, Seat};
 use jc_outside::{CacheLoader, CacheWriter};
-use jc_session::{Agent, SessionFault};
+use jc_session::{Agent, Session, SessionFault};
 use jc_stripe::{Origin, Reopened, Stripe, reopen};
 use jc_types::{Config, Key, Refusal, SESSIONS_MAX, Value};
 use std::alloc::{AllocError, Global};

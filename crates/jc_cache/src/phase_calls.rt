@@ -10,7 +10,7 @@ ghost use Rattle.jc_types.specs.Stripes.{stripe_of};
 ghost use Rattle.jc_model.specs.Group.{load_only, write_only};
 ghost use Rattle.jc_outside.specs.declared.done.Origin.TheVariants.{Live};
 ghost use Rattle.jc_stripe.specs.Effects.{HasReport, change_due, process_out};
-ghost use Rattle.jc_stripe.specs.Phases.{begun_with, with_reply};
+ghost use Rattle.jc_stripe.specs.Phases.{begun_with, polled_with, with_reply};
 ghost use Rattle.jc_stripe.specs.State.{State};
 ghost use Rattle.jc_stripe.specs.Tickets.{asks_loader, asks_processor, asks_writer, claim_of};
 ghost use Rattle.jc_session.specs.Counting.{counted_picked, counted_started};
@@ -24,11 +24,10 @@ ghost use Rattle.jc_cache.specs.PhaseCalls.{MayFind, MayStart, PhaseAt};
 ghost use Rattle.jc_cache.specs.Turns.{looking, picking_late, picking_now, starting_now, withdrawing};
 
 use crate::cache::Cache;
-use crate::session::Session;
 use jc_engine::laws::one_lending;
 use jc_engine::{Access, Answer, Commit, First, How, Phase, PickUp, Processed, Withdraw};
 use jc_model::{Op, Reply};
-use jc_session::Counted;
+use jc_session::{Counted, Session};
 use jc_stripe::{Appended, Ask, Join, LoadDone, Picked, ProcDone, Started, Ticket, WriteDone};
 use jc_types::{Key, stripe_of};
 use std::sync::Wait;
@@ -128,34 +127,48 @@ impl Cache {
         self.commit(rt, session, ticket, Processed { done, report }, reply)
     }
 
-    /// A call that has joined a load asks for its answer. It does not wait for the answer: `NotYet` gives the join back.
+    /// A call that has joined a load asks for its answer, which is written to `reply`. It does not wait for the answer: `NotYet`
+    /// gives the join back.
     ///
     /// Conditions: the session is of this cache, and the join is of the session.
-    pub fn pick_up<R: Wait>(&self, rt: &R, session: &mut Session, join: Join) -> Picked
+    pub fn pick_up<R: Wait>(
+        &self,
+        rt: &R,
+        session: &mut Session,
+        join: Join,
+        reply: &mut Reply,
+    ) -> Picked
         requires { IsCaller self.now session.old join.caller }
         ensures { GoesOn self.now session.new
             (PhaseAt (stripe_of join.key self.now.config.stripes) session.old
-            (picking_now join result) (counted_picked result) session.new) }
+            (picking_now join (polled_with result reply.new)) (counted_picked result) session.new) }
     {
         let at = stripe_of(join.key(), self.config.stripes);
         let pick_up = PickUp { join, waits: false };
-        self.phase_at(rt, session, at, pick_up, &mut Reply::Unit)
+        self.phase_at(rt, session, at, pick_up, reply)
     }
 
-    /// The answer of a load that a call has joined. It waits until the load was answered, or was given back (`Again`).
+    /// The answer of a load that a call has joined, which is written to `reply`. It waits until the load was answered, or was given
+    /// back (`Again`).
     ///
     /// Conditions: the session is of this cache, and has no reservation out, so that nobody waits for it meanwhile; the join is of the
     /// session.
-    pub fn wait_for_load<R: Wait>(&self, rt: &R, session: &mut Session, join: Join) -> Picked
+    pub fn wait_for_load<R: Wait>(
+        &self,
+        rt: &R,
+        session: &mut Session,
+        join: Join,
+        reply: &mut Reply,
+    ) -> Picked
         requires caller { IsCaller self.now session.old join.caller }
         requires reservations { session.old.agent.counts.reservations ≡ 0 }
         ensures { GoesOn self.now session.new
             (PhaseAt (stripe_of join.key self.now.config.stripes) session.old
-            (picking_late join result) (counted_picked result) session.new) }
+            (picking_late join (polled_with result reply.new)) (counted_picked result) session.new) }
     {
         let at = stripe_of(join.key(), self.config.stripes);
         let pick_up = PickUp { join, waits: true };
-        self.phase_at(rt, session, at, pick_up, &mut Reply::Unit)
+        self.phase_at(rt, session, at, pick_up, reply)
     }
 
     /// Gives up a call that has reserved its key and asked nobody: nothing is appended, and the entry stays. Each call that has joined

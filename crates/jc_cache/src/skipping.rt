@@ -1,26 +1,27 @@
 //! Call numbers that a session passes over.
 ghost use Rattle.std.specs.Prelude.{◌≡◌, max};
 ghost use Rattle.jc_session.specs.Counting.{one_more, call_before};
-ghost use Rattle.jc_cache.specs.Caches.{CacheState};
 ghost use Rattle.jc_cache.specs.Sessions.{IsOf, MayCall};
 
-use crate::session::Session;
+use crate::cache::Cache;
+use jc_session::Session;
 
-impl Session {
-    /// Raises the number of the next call to `n`; does nothing if it is already `n` or more, since the numbers of a session's
-    /// calls never fall. A call by the last number, `u64::MAX`, is refused (`HistoryFull`).
-    pub fn skip_to(&mut self, n: u64)
-        requires { Unit {0} }
-        ensures next { one_more self.new.agent.caller.call ≡ max (one_more self.old.agent.caller.call) n }
-        ensures call { self.new ≡ record self.old {
-          agent = record self.old.agent {
-            caller = record self.old.agent.caller { call = call_before self.old.agent.caller.call n };
+impl Cache {
+    /// Raises the number of the session's next call to `n`, as [`Session::skip_to`] does. The session is of the cache as before, and
+    /// may call it if it might before.
+    ///
+    /// Condition: the session is one of this cache's.
+    pub fn skip_to(&self, session: &mut Session, n: u64)
+        requires own { IsOf self.now session.old }
+        ensures next { one_more session.new.agent.caller.call ≡ max (one_more session.old.agent.caller.call) n }
+        ensures call { session.new ≡ record session.old {
+          agent = record session.old.agent {
+            caller = record session.old.agent.caller { call = call_before session.old.agent.caller.call n };
           };
         } }
-        ensures own { (cache : CacheState) → IsOf cache self.old → IsOf cache self.new }
-        ensures may { (cache : CacheState) → MayCall cache self.old → MayCall cache self.new }
+        ensures own { IsOf self.now session.new }
+        ensures may { MayCall self.now session.old → MayCall self.now session.new }
     {
-        // The empty condition above has this proved for whatever loader and writer the session has.
-        self.agent.skip_to(n);
+        session.skip_to(n);
     }
 }

@@ -12,8 +12,8 @@ ghost use Rattle.jc_cache.specs.Calls.{Tried, Tries, value_in, flag_in, unit_in}
 
 use crate::cache::Cache;
 use crate::calls::{flag_of, unit_of, value_of};
-use crate::session::Session;
 use jc_model::{Op, Reply};
+use jc_session::Session;
 use jc_types::{Key, Refusal, Value};
 
 impl Cache {

@@ -20,8 +20,8 @@ use Rattle.jc_stripe.specs.OwnSteps.{OwnSteps, is_before_call}
 use Rattle.jc_stripe.specs.Phases.{PicksUp, Withdraws}
 use Rattle.jc_stripe.specs.Renewal.{all_own_steps}
 use Rattle.jc_stripe.specs.Tickets.{JoinClaim, TicketClaim}
-use Rattle.jc_stripe.specs.declared.begun.Begun.TheVariants as begun
-use Rattle.jc_stripe.specs.declared.begun.Picked.TheVariants as picked
+use Rattle.jc_stripe.specs.Outcomes as begun
+use Rattle.jc_stripe.specs.Polled as polled
 use Rattle.jc_stripe.specs.declared.ticket.Reservation.{Reservation}
 use Rattle.jc_lock.specs.declared.view.View.{View}
 use Rattle.jc_session.specs.Counting.{one_more}
@@ -30,12 +30,12 @@ use Rattle.jc_session.specs.declared.counts.Counted.{Counted}
 use Rattle.jc_session.specs.declared.counts.Counted.TheVariants.{Reserved, Joined, Retried, Withdrawn}
 use Rattle.jc_engine.specs.Needs.{StartsAt}
 use Rattle.jc_cache.specs.Caches.{CacheState}
-use Rattle.jc_cache.specs.Calls.{next_call}
+use Rattle.jc_session.specs.Sessions.{next_call}
 use Rattle.jc_engine.specs.Rows.{Turn}
 use Rattle.jc_cache.specs.Turns.{picking_now, starting_now, withdrawing}
 use Rattle.jc_cache.specs.PhaseCalls.{PhaseAt}
 use Rattle.jc_cache.specs.Sessions.{IsOf, MayCall}
-use Rattle.jc_cache.specs.declared.session.Session.{Session}
+use Rattle.jc_session.specs.declared.session.Session.{Session}
 use Rattle.jc_call_tests.specs.Between.{HasOut}
 
 -- 1. Numbers of calls.
@@ -158,7 +158,7 @@ module _ {I J : Type 0} {D : I → Type 0} {E : J → Type 0} where
       }
 
   pub retried : OwnSteps → (cache : CacheState) (old new : Session I J D E) (stripe : ℕ) (join : JoinClaim) → HasOut cache old 0 1 → IsOf cache new → join.caller.session ≡ old.agent.caller.session
-      → PhaseAt stripe old (picking_now join picked.Again) Retried new → MayCall cache new
+      → PhaseAt stripe old (picking_now join polled.Again) Retried new → MayCall cache new
   retried steps cache old new stripe join out own who x =
       let session : ℕ = old.agent.caller.session in
       let again = steps.again x.seat.found x.after.noted join x.seat.reached x.seat.made in

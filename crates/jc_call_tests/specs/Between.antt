@@ -8,7 +8,7 @@ use Rattle.jc_lock.specs.declared.view.View.{View}
 use Rattle.jc_session.specs.Counting.{one_more}
 use Rattle.jc_cache.specs.Caches.{CacheState}
 use Rattle.jc_cache.specs.Sessions.{IsOf}
-use Rattle.jc_cache.specs.declared.session.Session.{Session}
+use Rattle.jc_session.specs.declared.session.Session.{Session}
 
 pub record HasOut {I J : Type 0} {D : I → Type 0} {E : J → Type 0} (cache : CacheState) (session : Session I J D E) (reservations joins : ℕ) : Type 0 where
   pub own : IsOf cache session

@@ -1,8 +1,9 @@
 mod held;
 mod loads;
 
-use jc_cache::{
-    CacheOwner, Client, Config, EntryProcessor, Event, Key, Outside, Refusal, Service, Value, serve,
+use jc_client::{
+    CacheOwner, Client, Config, EntryProcessor, Event, Key, Outside, Refusal, Service, Value,
+    clients, serve, sessions_of,
 };
 use jc_store::Increment;
 use std::alloc::Global;
@@ -178,7 +179,7 @@ fn each_call(rt: HostRuntime) {
     let mut owner = CacheOwner::living(alloc, &CONFIG).expect(&rt, "a cache");
     let outside = nothing(&rt, alloc, 2);
     let sessions = owner.enlist_all(alloc, outside).expect(&rt, "sessions");
-    let clients = owner.clients(alloc, sessions).expect(&rt, "clients");
+    let clients = clients(&owner, alloc, sessions).expect(&rt, "clients");
     call_by_last(&rt, alloc, clients, &mut increment);
     is(&rt, puts(&rt, alloc, owner), 7);
 }
@@ -207,8 +208,8 @@ fn closes(rt: HostRuntime) {
     let mut owner = CacheOwner::new(alloc, &CONFIG).expect(&rt, "a cache");
     let outside = nothing(&rt, alloc, 3);
     let sessions = owner.enlist_all(alloc, outside).expect(&rt, "sessions");
-    let clients = owner.clients(alloc, sessions).expect(&rt, "clients");
-    let sessions = owner.sessions_of(alloc, clients).expect(&rt, "memory");
+    let clients = clients(&owner, alloc, sessions).expect(&rt, "clients");
+    let sessions = sessions_of(&owner, alloc, clients).expect(&rt, "memory");
     match owner.close(alloc, sessions) {
         Ok(closed) => is(&rt, closed.outside.len(), 3),
         Err(fault) => panic!(&rt; "{}", fault.refusal),

@@ -6,7 +6,7 @@ use Rattle.jc_types.specs.declared.caller.Caller.{Caller}
 use Rattle.jc_model.specs.Cache.{Bytes}
 use Rattle.jc_model.specs.declared.event.Op.{Op}
 use Rattle.jc_stripe.specs.State.{State}
-use Rattle.jc_stripe.specs.declared.begun.Begun.TheVariants.{Asks}
+use Rattle.jc_stripe.specs.Outcomes.{Asks}
 use Rattle.jc_stripe.specs.Tickets.{TicketClaim}
 use Rattle.jc_engine.specs.Rows.{PhaseLaws, Row}
 use Rattle.jc_engine.specs.Turns.{IsBegunRow}

@@ -5,6 +5,8 @@
 --                    it is not done by its first phase, and joins no load
 --     row_append .. picks_phase
 --                    rows of lendings (`Rows`)
+--     steps_in, counted_longer
+--                    how many own steps of its session what was counted stands for, and that so many more are there after it
 --     reached_cache  what is cached is what the whole history leaves of the first opening
 use Rattle.std.proofs.Common.{◌≡◌, ◌==◌, ◌&&◌, ◌+◌, ◌++◌, ◌∷◌, map, inl, inr, ℕ, Bool, true, false, if◌then◌else◌, Option, None, Some, is_some, is_none, List, length, slice_get, append_assoc, refl, sym, ap, subst, ◌∙◌, arith}
 use Rattle.std.proofs.lemmas.List.{length-append}
@@ -26,11 +28,11 @@ use Rattle.jc_stripe.specs.Reached.{IsReached}
 use Rattle.jc_stripe.specs.Tickets.{TicketClaim, entry_seen}
 use Rattle.jc_stripe.specs.Refusals.{first_asked}
 use Rattle.jc_stripe.specs.Phases.{Commits, Steps, new_group}
-use Rattle.jc_stripe.specs.declared.begun.StepDone.{StepDone}
+use Rattle.jc_stripe.specs.Outcomes.{StepDone}
 use Rattle.jc_stripe.specs.declared.ticket.Reservation.{Reservation}
-use Rattle.jc_stripe.proofs.Beside.{ask_found}
-use Rattle.jc_stripe.proofs.SharedSteps.{stands_at}
+use Rattle.jc_stripe.proofs.CallerLemmas.{ask_found, stands_at}
 use Rattle.jc_engine.specs.MadeIn.{IsNext}
+pub use Rattle.jc_engine.proofs.Counted.{steps_in, counted_longer}
 pub use Rattle.jc_engine.proofs.Increments.{reached_cache}
 pub use Rattle.jc_engine.proofs.Rows.{Keeps, all_append, all_map, all_split, begun_row, call_in, commits_phase, lent_grows, once, picks_phase, row_split, start_keeps, starts_phase, turn_map, waited_keeps}
 pub use Rattle.jc_engine.proofs.Unasked.{no_done, no_join}

@@ -14,12 +14,12 @@ use Rattle.jc_stripe.specs.OnePhase.{own_steps}
 use Rattle.jc_stripe.specs.OwnSteps.{OwnSteps, HasOneMore}
 use Rattle.jc_stripe.specs.Phases.{MayBegin, Begins, PicksUp}
 use Rattle.jc_stripe.specs.Tickets.{JoinClaim}
-use Rattle.jc_stripe.specs.declared.begun.Begun.{Begun}
-use Rattle.jc_stripe.specs.declared.begun.Begun.TheVariants as begun
-use Rattle.jc_stripe.specs.declared.begun.Picked.{Picked}
-use Rattle.jc_stripe.specs.declared.begun.Picked.TheVariants as picked
+use Rattle.jc_stripe.specs.Outcomes.{Begun}
+use Rattle.jc_stripe.specs.Polled.{Polled}
+use Rattle.jc_stripe.specs.Outcomes as begun
+use Rattle.jc_stripe.specs.Polled as polled
 use Rattle.jc_stripe.proofs.CallerLemmas.{adds_one, gains_one}
-use Rattle.jc_session.specs.Counting.{IsCounted, counted_begun, counted_picked}
+use Rattle.jc_session.specs.Counting.{IsCounted, counted_begun, counted_polled}
 use Rattle.jc_session.specs.declared.counts.Counted.{Counted}
 use Rattle.jc_session.specs.declared.counts.Counted.TheVariants.{Nothing, Step as OneStep, Reserved, Committed, Joined, Answered, Retried, Withdrawn}
 
@@ -52,12 +52,12 @@ begun_longer law caller key op (begun.Asks ticket) old new may begins = as_long 
 begun_longer law caller key op (begun.Joined join) old new may begins = as_long caller.session old new (law.joins old new caller key op join begins)
 begun_longer law caller key op (begun.Refused refusal) old new may begins = as_long caller.session old new (law.refused old new caller key op refusal begins)
 
-picked_longer : OwnSteps → (join : JoinClaim) (p : Picked) (old new : State) → IsReached old → PicksUp old join p new → HasLonger join.caller.session (counted_picked p) old new
-picked_longer law join (picked.Answer reply place shared_with) old new reached picks =
+picked_longer : OwnSteps → (join : JoinClaim) (p : Polled) (old new : State) → IsReached old → PicksUp old join p new → HasLonger join.caller.session (counted_polled p) old new
+picked_longer law join (polled.Answer reply place shared_with) old new reached picks =
     let gains = law.picks_up old new join reply place shared_with reached picks in
     one_longer _ _ _ (gains_one join.caller.session old new _ place gains.1)
-picked_longer law join picked.Again old new reached picks = as_long join.caller.session old new (law.again old new join reached picks)
-picked_longer law join (picked.NotYet back) old new reached picks = as_long join.caller.session old new (law.not_yet old new join back picks)
+picked_longer law join polled.Again old new reached picks = as_long join.caller.session old new (law.again old new join reached picks)
+picked_longer law join (polled.NotYet back) old new reached picks = as_long join.caller.session old new (law.not_yet old new join back picks)
 
 moved : (n session : ℕ) (one counted : Counted) (old new : State) → n ≡ session → counted ≡ one → HasLonger n one old new → HasLonger session counted old new
 moved n session one counted old new own is longer = subst (λ (m : ℕ). HasLonger m counted old new) own (subst (λ (k : Counted). HasLonger n k old new) (sym is) longer)

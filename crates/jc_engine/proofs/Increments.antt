@@ -35,7 +35,7 @@ use Rattle.jc_stripe.specs.State.{State, Generation}
 use Rattle.jc_stripe.specs.Generations.{IsChain, opening_after, past_events, whole_history, first_opening}
 use Rattle.jc_stripe.specs.OrderOfUse.{by_use, is_use, order_after_event}
 use Rattle.jc_stripe.specs.Reached.{IsReached}
-use Rattle.jc_stripe.proofs.SharedSteps.{stands_at}
+use Rattle.jc_stripe.proofs.CallerLemmas.{stands_at}
 use Rattle.jc_engine.specs.Increments.{AllSetNext, EventsByTable, IsByTable, LeavesNext, LeavesSum, SetsNext, count_at, next_times, opening_entry}
 
 -- 1. What a whole history leaves.

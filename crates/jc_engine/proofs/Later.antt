@@ -10,8 +10,8 @@ use Rattle.jc_model.specs.declared.event.Out.{Out}
 use Rattle.jc_model.specs.declared.event.Reply.{Reply}
 use Rattle.jc_outside.specs.Calling.{LoadRelation, WriteRelation}
 use Rattle.jc_stripe.specs.State.{State}
-use Rattle.jc_stripe.specs.declared.begun.Begun.{Begun}
-use Rattle.jc_stripe.specs.declared.begun.Begun.TheVariants as begun
+use Rattle.jc_stripe.specs.Outcomes.{Begun}
+use Rattle.jc_stripe.specs.Outcomes as begun
 use Rattle.jc_session.specs.Boxed.{boxed}
 use Rattle.jc_session.specs.declared.agent.Agent.{Agent}
 use Rattle.jc_engine.specs.Asking.{AsksWriter, change_wanted}

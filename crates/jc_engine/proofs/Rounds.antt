@@ -18,9 +18,9 @@ use Rattle.jc_model.specs.Group.{nothing_said}
 use Rattle.jc_model.specs.declared.event.Op.{Op}
 use Rattle.jc_model.specs.declared.event.Reply.{Reply}
 use Rattle.jc_stripe.specs.State.{State}
-use Rattle.jc_stripe.specs.declared.begun.Begun.{Begun}
-use Rattle.jc_stripe.specs.declared.begun.Begun.TheVariants as begun
-use Rattle.jc_stripe.specs.declared.begun.Picked.TheVariants as picked
+use Rattle.jc_stripe.specs.Outcomes.{Begun}
+use Rattle.jc_stripe.specs.Outcomes as begun
+use Rattle.jc_stripe.specs.Polled as polled
 use Rattle.jc_stripe.specs.declared.begun.Started.{Started}
 use Rattle.jc_stripe.specs.Phases.{begun_with}
 use Rattle.jc_stripe.specs.Tickets.{JoinClaim}
@@ -82,10 +82,10 @@ module _ {G T : Type 0} (takes gives : G → T → State → G → T → Type 0)
   rounds_start g t = record { rounds = zero; row = []; lent = (refl, refl); rejoined = refl }
 
   pub rounds_on : (g : G) (t : T) (h : G) (u : T) (join : JoinClaim) (m : G) (w : T) (k : G) (v : T) → Rounds g t h u → Phase h u (begun.Joined join) m w
-      → (n : ℕ) → n ≡ caller.session → LentPhase takes gives finds n m w (picking join picked.Again) k v → Rounds g t k v
+      → (n : ℕ) → n ≡ caller.session → LentPhase takes gives finds n m w (picking join polled.Again) k v → Rounds g t k v
   rounds_on g t h u join m w k v so x n session again =
-      let y : LentPhase takes gives finds caller.session m w (picking join picked.Again) k v =
-      subst (λ (z : ℕ). LentPhase takes gives finds z m w (picking join picked.Again) k v) session again in
+      let y : LentPhase takes gives finds caller.session m w (picking join polled.Again) k v =
+      subst (λ (z : ℕ). LentPhase takes gives finds z m w (picking join polled.Again) k v) session again in
       record {
         rounds = suc so.rounds;
         row = so.row ++ (x.row ++ y.row);
@@ -106,12 +106,12 @@ module _ {G T : Type 0} (takes gives : G → T → State → G → T → Type 0)
   )
 
   pub shared_row : (g : G) (t : T) (h : G) (u : T) (join : JoinClaim) (m : G) (w : T) (n : ℕ) (reply : Reply) (place shared_with : ℕ) (k : G) (v : T) → Rounds g t h u → Phase h u (begun.Joined join) m w
-      → n ≡ caller.session → LentPhase takes gives finds n m w (picking join (picked.Answer reply place shared_with)) k v
+      → n ≡ caller.session → LentPhase takes gives finds n m w (picking join (polled.Answer reply place shared_with)) k v
       → (row : List (State × State)) × Row takes gives finds caller.session g t row k v × IsCallRow caller key op nothing_said (Ok reply) row
   shared_row g t h u join m w n reply place shared_with k v so x session answer =
       let start = begun_by (begun.Joined join) g t h u m w so x in
-      let last : LentPhase takes gives finds caller.session m w (picking join (picked.Answer reply place shared_with)) k v =
-      subst (λ (z : ℕ). LentPhase takes gives finds z m w (picking join (picked.Answer reply place shared_with)) k v) session answer in (
+      let last : LentPhase takes gives finds caller.session m w (picking join (polled.Answer reply place shared_with)) k v =
+      subst (λ (z : ℕ). LentPhase takes gives finds z m w (picking join (polled.Answer reply place shared_with)) k v) session answer in (
         start.0 ++ last.row,
         row_append takes gives finds caller.session g t start.0 m w last.row k v start.1 last.lent,
         record { begun = begun.Joined join; start = start.0; last = last.row; row_is = refl; begins = start.2; ends = (reply, place, shared_with, refl, refl, last.did) },

@@ -32,11 +32,10 @@ use Rattle.jc_stripe.specs.OnePhase.{IsPhaseOf}
 use Rattle.jc_stripe.specs.Phases.{Begins, Commits, PicksUp}
 use Rattle.jc_stripe.specs.Renewal.{Renewal, Renews, StaysOrRenews, all_own_steps}
 use Rattle.jc_stripe.specs.Tickets.{JoinClaim, TicketClaim}
-use Rattle.jc_stripe.specs.declared.begun.Begun.{Begun}
-use Rattle.jc_stripe.specs.declared.begun.Begun.TheVariants as begun
-use Rattle.jc_stripe.specs.declared.begun.Picked.{Picked}
-use Rattle.jc_stripe.specs.declared.begun.Picked.TheVariants as picked
-use Rattle.jc_stripe.specs.declared.begun.StepDone.{StepDone}
+use Rattle.jc_stripe.specs.Outcomes.{Begun, StepDone}
+use Rattle.jc_stripe.specs.Polled.{Polled}
+use Rattle.jc_stripe.specs.Outcomes as begun
+use Rattle.jc_stripe.specs.Polled as polled
 use Rattle.jc_stripe.specs.declared.ticket.Reservation.{Reservation}
 use Rattle.jc_stripe.proofs.CallerLemmas.{of_same, whole_goes_on, own_stay, stays_or_renews}
 use Rattle.jc_gate.specs.Lending.{ComesAfter}
@@ -150,7 +149,7 @@ module _ (law : PhaseLaws) (caller : Caller) (key : Bytes) (op : Op) where
   pub joined_keeps : (join : JoinClaim) (a b : State) → Begins a caller key op (begun.Joined join) b → Keeps caller.session a b
   joined_keeps join a b begins reached = own_stay caller.session a b (ap (λ (s : State). s.ended) begins.3) (law.own_steps.joins a b caller key op join begins)
 
-  again_keeps : (join : JoinClaim) (a b : State) → join.caller ≡ caller → PicksUp a join picked.Again b → Keeps caller.session a b
+  again_keeps : (join : JoinClaim) (a b : State) → join.caller ≡ caller → PicksUp a join polled.Again b → Keeps caller.session a b
   again_keeps join a b mine picks reached =
       subst (λ (w : Caller). all_own_steps w.session b ≡ all_own_steps w.session a) mine (own_stay join.caller.session a b (ap (λ (s : State). s.ended) picks.2) (law.own_steps.again a b join reached picks))
 
@@ -159,7 +158,7 @@ module _ (law : PhaseLaws) (caller : Caller) (key : Bytes) (op : Op) where
       let begins = x.joined.made.first.begins in
       subst (AllLend (Keeps caller.session)) (sym x.row_is) (all_append (Keeps caller.session) x.joins x.retries
       (turn_keeps caller.session (starting caller key op (begun.Joined x.join)) x.joins (start_keeps law caller.session caller key op) x.joined (joined_keeps x.join x.joined.found x.joined.left begins))
-      (turn_keeps caller.session (picking x.join picked.Again) x.retries (waited_keeps law caller.session _ _) x.retried (again_keeps x.join x.retried.found x.retried.left (ap (λ (j : JoinClaim). j.caller) begins.2) x.retried.made)))
+      (turn_keeps caller.session (picking x.join polled.Again) x.retries (waited_keeps law caller.session _ _) x.retried (again_keeps x.join x.retried.found x.retried.left (ap (λ (j : JoinClaim). j.caller) begins.2) x.retried.made)))
 
   pub rejoins_keep : (n : ℕ) (row : List (State × State)) → AreRejoins caller key op n row → AllLend (Keeps caller.session) row
   rejoins_keep zero row x = subst (AllLend (Keeps caller.session)) (sym x) tt
@@ -247,5 +246,5 @@ starts_phase how caller key op b old new x = inr (inl record { caller = caller; 
 pub commits_phase : (r : Reservation) (out : Out) (done : StepDone) (old new : State) → Commits old r out done new → IsPhaseOf r.caller.session old new
 commits_phase r out done old new x = inr (inr (inl record { reservation = r; out = out; done = done; own = refl; commits = x }))
 
-pub picks_phase : (join : JoinClaim) (p : Picked) (old new : State) → PicksUp old join p new → IsPhaseOf join.caller.session old new
+pub picks_phase : (join : JoinClaim) (p : Polled) (old new : State) → PicksUp old join p new → IsPhaseOf join.caller.session old new
 picks_phase join p old new x = inr (inr (inr (inr record { join = join; picked = p; own = refl; picks_up = x })))

@@ -9,11 +9,11 @@ use Rattle.jc_types.specs.declared.caller.Caller.{Caller}
 use Rattle.jc_types.specs.declared.config.Config.{Config}
 use Rattle.jc_model.specs.declared.event.Change.{Change}
 use Rattle.jc_model.specs.declared.event.Op.{Op}
-use Rattle.jc_model.specs.declared.event.Op.TheVariants.{Get, ContainsKey, Put, GetAndPut, PutIfAbsent, Remove, RemoveIf, GetAndRemove, Replace, ReplaceIf, GetAndReplace, Clear, LoadAll, Invoke}
+use Rattle.jc_model.specs.declared.event.Op.TheVariants.{Get, Invoke}
 use Rattle.jc_model.specs.Cache.{Bytes, entry_at}
 use Rattle.jc_model.specs.Table.{is_invoke, loader_ask}
-use Rattle.jc_stripe.specs.declared.begun.StepDone.{StepDone}
-use Rattle.jc_stripe.specs.declared.begun.Begun.TheVariants as begun
+use Rattle.jc_stripe.specs.Outcomes.{StepDone}
+use Rattle.jc_stripe.specs.Outcomes as begun
 use Rattle.jc_stripe.specs.declared.ticket.First.{First}
 use Rattle.jc_stripe.specs.declared.ticket.First.TheVariants.{Nobody, Loader, Writer, Processor}
 use Rattle.jc_stripe.specs.Refusals.{first_asked, first_by, may_join, reserves}
@@ -56,19 +56,7 @@ get_asked false entry change found load joins = cc
 load_asked : (config : Config) (op : Op) (entry : Option Bytes) (found : Option ℕ) (load : ℕ) → (if may_join op && config.read_through && is_none entry then found else None) ≡ Some load
     → reserves (first_asked config op entry) ≡ true
 load_asked config Get entry found load joins = get_asked config.read_through entry _ found load joins
-load_asked config ContainsKey entry found load joins = cc
-load_asked config (Put value) entry found load joins = cc
-load_asked config (GetAndPut value) entry found load joins = cc
-load_asked config (PutIfAbsent value) entry found load joins = cc
-load_asked config Remove entry found load joins = cc
-load_asked config (RemoveIf old) entry found load joins = cc
-load_asked config GetAndRemove entry found load joins = cc
-load_asked config (Replace value) entry found load joins = cc
-load_asked config (ReplaceIf old new) entry found load joins = cc
-load_asked config (GetAndReplace value) entry found load joins = cc
-load_asked config Clear entry found load joins = cc
-load_asked config (LoadAll replace) entry found load joins = cc
-load_asked config Invoke entry found load joins = cc
+load_asked config op entry found load joins = cc
 
 pub no_ticket : (old new : State) (caller : Caller) (key : Bytes) (op : Op) (ticket : TicketClaim) → asks_outside old key op ≡ false → Begins old caller key op (begun.Asks ticket) new → ⊥
 no_ticket old new caller key op ticket alone h = clash (asks_outside old key op) (ap reserves h.2 ∙ h.3) alone

@@ -28,9 +28,8 @@ use Rattle.jc_outside.specs.Calling.{LoadRelation, WriteRelation}
 use Rattle.jc_outside.specs.declared.done.Origin.TheVariants.{Live}
 use Rattle.jc_mutentry.specs.Running.{ProcessRelation}
 use Rattle.jc_stripe.specs.State.{State}
-use Rattle.jc_stripe.specs.declared.begun.StepDone.{StepDone}
-use Rattle.jc_stripe.specs.declared.begun.Begun.{Begun}
-use Rattle.jc_stripe.specs.declared.begun.Begun.TheVariants as begun
+use Rattle.jc_stripe.specs.Outcomes.{StepDone, Begun}
+use Rattle.jc_stripe.specs.Outcomes as begun
 use Rattle.jc_stripe.specs.Tickets.{TicketClaim, asks_writer, change_asked}
 use Rattle.jc_stripe.specs.declared.ticket.Reservation.{Reservation}
 use Rattle.jc_session.specs.Boxed.{boxed}

@@ -12,7 +12,7 @@ use Rattle.jc_model.specs.declared.event.Op.{Op}
 use Rattle.jc_model.specs.declared.event.Reply.{Reply}
 use Rattle.jc_stripe.specs.State.{State}
 use Rattle.jc_stripe.specs.Tickets.{TicketClaim}
-use Rattle.jc_stripe.specs.declared.begun.Begun.TheVariants.{Asks}
+use Rattle.jc_stripe.specs.Outcomes.{Asks}
 use Rattle.jc_session.specs.Counting.{one_more}
 use Rattle.jc_session.specs.declared.counts.Counts.{Counts}
 use Rattle.jc_engine.specs.Turns.{IsBegunRow, IsCallRow}

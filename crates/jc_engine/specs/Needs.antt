@@ -17,7 +17,7 @@
 --     IsReported      after a processor, the writer's report is there exactly if it is due
 --     CommitsHere     a call that was answered is to be committed on a live stripe in this state, if its reservation is out there
 --     is_early        a pick-up that waits has come too early
---     PicksUpBy       a pick-up, which may wait
+--     PicksUpBy       a pick-up, which may wait, and whose reply was written apart
 --     IsTooEarly      one that waits would come too early to a stripe in this state
 --     PicksUpLate     a pick-up that isn't too early
 use Rattle.std.specs.Prelude.{◌≡◌, ◌⊎◌, Bool, true, false, not, ◌&&◌, None, Some, length}
@@ -29,20 +29,23 @@ use Rattle.jc_types.specs.declared.refusal.Refusal.{Refusal}
 use Rattle.jc_model.specs.Cache.{Bytes, entry_at}
 use Rattle.jc_model.specs.declared.event.Op.{Op}
 use Rattle.jc_model.specs.declared.event.Op.TheVariants.{Get}
+use Rattle.jc_model.specs.declared.event.Reply.{Reply}
 use Rattle.jc_outside.specs.declared.done.Origin.TheVariants.{Live}
 use Rattle.jc_stripe.specs.declared.ticket.Reservation.{Reservation}
-use Rattle.jc_stripe.specs.declared.begun.Begun.{Begun}
-use Rattle.jc_stripe.specs.declared.begun.Begun.TheVariants as begun
+use Rattle.jc_stripe.specs.declared.begun.Picked.{Picked}
+use Rattle.jc_stripe.specs.declared.begun.Picked.TheVariants as picked
+use Rattle.jc_stripe.specs.Outcomes.{Begun}
+use Rattle.jc_stripe.specs.Polled.{Polled}
+use Rattle.jc_stripe.specs.Outcomes as begun
 use Rattle.jc_stripe.specs.Effects.{HasReport, change_due}
 use Rattle.jc_stripe.specs.State.{State}
 use Rattle.jc_stripe.specs.Tickets.{TicketClaim, JoinClaim}
 use Rattle.jc_stripe.specs.Renewal.{all_own_steps, is_renewable}
 use Rattle.jc_stripe.specs.OwnSteps.{may_come_all}
-use Rattle.jc_stripe.specs.declared.begun.Picked.{Picked}
-use Rattle.jc_stripe.specs.declared.begun.Picked.TheVariants as picked
+use Rattle.jc_stripe.specs.Polled as polled
 use Rattle.jc_stripe.specs.Refusals.{first_refusal, has_room}
 use Rattle.jc_stripe.specs.Tests.{asks_outside, is_clear}
-use Rattle.jc_stripe.specs.Phases.{MayBegin, Begins, PicksUp, hit_done}
+use Rattle.jc_stripe.specs.Phases.{MayBegin, Begins, PicksUp, hit_done, polled_with}
 use Rattle.jc_session.specs.declared.counts.Counted.{Counted}
 use Rattle.jc_session.specs.declared.counts.Counted.TheVariants.{Nothing, Step}
 use Rattle.jc_engine.specs.declared.first.How.{How}
@@ -122,19 +125,19 @@ pub record CommitsHere (ticket : TicketClaim) (answered : CallAnswer) (state : S
 -- 3. Pick-ups.
 
 abbrev pub is_early : Bool → Picked → Bool
-is_early waits (picked.Answer reply place shared_with) = false
+is_early waits (picked.Answer place shared_with) = false
 is_early waits picked.Again = false
 is_early waits (picked.NotYet back) = waits
 
-pub record PicksUpBy (waits : Bool) (old : State) (join : JoinClaim) (picked : Picked) (new : State) : Type 0 where
-  pub picks : PicksUp old join picked new
+pub record PicksUpBy (waits : Bool) (old : State) (join : JoinClaim) (picked : Picked) (reply : Reply) (new : State) : Type 0 where
+  pub picks : PicksUp old join (polled_with picked reply) new
   pub last : is_early waits picked ≡ false
 
 pub record IsTooEarly (waits : Bool) (join : JoinClaim) (state : State) : Type 0 where
   pub waits_is : waits ≡ true
-  pub not_yet : PicksUp state join (picked.NotYet join) state
+  pub not_yet : PicksUp state join (polled.NotYet join) state
 
-abbrev pub PicksUpLate : State → JoinClaim → Picked → State → Type 0
-PicksUpLate old join (picked.Answer reply place shared_with) new = PicksUp old join (picked.Answer reply place shared_with) new
-PicksUpLate old join picked.Again new = PicksUp old join picked.Again new
-PicksUpLate old join (picked.NotYet back) new = ⊥
+abbrev pub PicksUpLate : State → JoinClaim → Polled → State → Type 0
+PicksUpLate old join (polled.Answer reply place shared_with) new = PicksUp old join (polled.Answer reply place shared_with) new
+PicksUpLate old join polled.Again new = PicksUp old join polled.Again new
+PicksUpLate old join (polled.NotYet back) new = ⊥

@@ -29,11 +29,10 @@ use Rattle.jc_model.specs.declared.event.Reply.{Reply}
 use Rattle.jc_stripe.specs.State.{State, IsJoined, IsOut}
 use Rattle.jc_stripe.specs.Phases.{Commits, PicksUp}
 use Rattle.jc_stripe.specs.Tickets.{JoinClaim}
-use Rattle.jc_stripe.specs.declared.begun.Begun.{Begun}
-use Rattle.jc_stripe.specs.declared.begun.Begun.TheVariants as begun
-use Rattle.jc_stripe.specs.declared.begun.Picked.{Picked}
-use Rattle.jc_stripe.specs.declared.begun.Picked.TheVariants as picked
-use Rattle.jc_stripe.specs.declared.begun.StepDone.{StepDone}
+use Rattle.jc_stripe.specs.Outcomes.{Begun, StepDone}
+use Rattle.jc_stripe.specs.Polled.{Polled}
+use Rattle.jc_stripe.specs.Outcomes as begun
+use Rattle.jc_stripe.specs.Polled as polled
 use Rattle.jc_stripe.specs.declared.ticket.Reservation.{Reservation}
 use Rattle.jc_engine.specs.declared.first.How.{How}
 use Rattle.jc_engine.specs.declared.first.How.TheVariants.{Waits, Alone}
@@ -52,7 +51,7 @@ starting caller key op begun = turn_of (λ a b. StartWaits Waits caller key op a
 abbrev pub trying : Caller → Bytes → Op → Begun → Turn
 trying caller key op begun = turn_of (StartWaits Alone caller key op) (StartsBy Alone caller key op begun)
 
-abbrev pub picking : JoinClaim → Picked → Turn
+abbrev pub picking : JoinClaim → Polled → Turn
 picking join picked = turn_of (HasWaited (λ a. IsJoined a join) (IsTooEarly true join)) (λ a b. PicksUp a join picked b)
 
 abbrev pub committing : Reservation → Out → StepDone → Turn
@@ -67,7 +66,7 @@ module _ (caller : Caller) (key : Bytes) (op : Op) where
     pub retries : List (State × State)
     pub row_is : row ≡ joins ++ retries
     pub joined : IsTurn (starting caller key op (begun.Joined join)) joins
-    pub retried : IsTurn (picking join picked.Again) retries
+    pub retried : IsTurn (picking join polled.Again) retries
 
   abbrev pub AreRejoins : ℕ → List (State × State) → Type 0
   AreRejoins zero row = row ≡ []
@@ -86,7 +85,7 @@ EndsBy (begun.Done done) asked ended row = (ended ≡ Ok done.reply) × (asked �
 EndsBy (begun.Refused refusal) asked ended row = (ended ≡ Err refusal) × (asked ≡ nothing_said) × (row ≡ [])
 EndsBy (begun.Asks ticket) asked ended row = (done : StepDone) × (ended ≡ Ok done.reply) × IsTurn (committing ticket.reservation asked done) row
 EndsBy (begun.Joined join) asked ended row =
-    (reply : Reply) × (place : ℕ) × (shared_with : ℕ) × (ended ≡ Ok reply) × (asked ≡ nothing_said) × IsTurn (picking join (picked.Answer reply place shared_with)) row
+    (reply : Reply) × (place : ℕ) × (shared_with : ℕ) × (ended ≡ Ok reply) × (asked ≡ nothing_said) × IsTurn (picking join (polled.Answer reply place shared_with)) row
 
 pub record IsCallRow (caller : Caller) (key : Bytes) (op : Op) (asked : Out) (ended : Result Reply Refusal) (row : List (State × State)) : Type 0 where
   pub begun : Begun

@@ -1,7 +1,7 @@
 //! A call up to where it is done, refused, or has somebody to ask.
 ghost use Rattle.std.specs.Prelude.{◌≡◌, ℕ};
 ghost use Rattle.std.specs.Bool.{OnTrue, OnFalse};
-ghost use Rattle.jc_stripe.specs.declared.begun.Picked.TheVariants.{Answer, Again};
+ghost use Rattle.jc_stripe.specs.Polled.{Answer, Again};
 ghost use Rattle.jc_session.specs.Counting.{counts_after};
 ghost use Rattle.jc_session.specs.declared.counts.Counted.TheVariants.{Answered, Retried};
 ghost use Rattle.jc_engine.specs.Rows.{LentPhase};
@@ -64,7 +64,7 @@ impl<'a, G: Gate> Access<'a, G> {
 
     /// Waits for the answer of a load that was joined, and writes it to `reply`. `false` says that the load was given back unanswered.
     ///
-    /// Out of line: a call that joins no load shouldn't clear the room of such an answer.
+    /// Out of line: a call that joins no load shouldn't clear the room of a pick-up.
     #[inline(never)]
     fn pick_up<R: Wait>(&mut self, rt: &R, join: Join, reply: &mut Reply) -> bool
         requires ready { IsReady G.is_free G.speaks_for self.old }
@@ -83,13 +83,9 @@ impl<'a, G: Gate> Access<'a, G> {
         let pick_up = PickUp { join, waits: true };
         match self.lend(rt, pick_up, reply) {
             Picked::Answer {
-                reply: answer,
                 place: _,
                 shared_with: _,
-            } => {
-                *reply = answer;
-                true
-            }
+            } => true,
             Picked::Again => false,
             Picked::NotYet(_join) => unreachable!(),
         }

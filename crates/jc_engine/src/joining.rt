@@ -7,7 +7,7 @@ use jc_model::Reply;
 use jc_session::Counted;
 use jc_stripe::{Join, Picked, Stripe};
 
-/// The pick-up of a call that has joined a load. It can be made where the join is out.
+/// The pick-up of a call that has joined a load. It can be made where the join is out. The answer, if there is one, is written.
 pub struct PickUp {
     /// What it has joined.
     pub join: Join,
@@ -30,7 +30,7 @@ impl Phase for PickUp {
 
     ghost puts_off = { λ p a. IsTooEarly p.waits p.join a };
 
-    ghost makes = { λ p a picked reply b. PicksUpBy p.waits a p.join picked b };
+    ghost makes = { λ p a picked reply b. PicksUpBy p.waits a p.join picked reply b };
 
     ghost counts = { λ picked. counted_picked picked };
 
@@ -40,9 +40,9 @@ impl Phase for PickUp {
         stripe.holds_join(&self.join)
     }
 
-    fn make(self, stripe: &mut Stripe, _reply: &mut Reply) -> Result<Picked, Self> {
+    fn make(self, stripe: &mut Stripe, reply: &mut Reply) -> Result<Picked, Self> {
         let PickUp { join, waits } = self;
-        let picked = stripe.pick_up(join);
+        let picked = stripe.pick_up(join, reply);
         if !is_early(waits, &picked) {
             return Ok(picked);
         }

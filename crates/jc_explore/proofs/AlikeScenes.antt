@@ -1,25 +1,9 @@
 -- Scenes that are alike go on alike.
-use Rattle.std.proofs.Common.{◌≡◌, List, Option, None, Some, slice_get, sym, refl, ap, ◌∙◌, subst}
-use Rattle.jc_model.specs.declared.event.Event.{Event}
-use Rattle.jc_stripe.specs.State.{State}
-use Rattle.jc_world.specs.declared.event.WorldEvent.{WorldEvent}
-use Rattle.jc_world.specs.Alike.{WorldsGoOnAlike}
-use Rattle.jc_world.specs.Essence.{EssencesTell}
-use Rattle.jc_world.specs.Events.{Run}
-use Rattle.jc_world.specs.World.{WorldState}
-use Rattle.jc_explore.specs.declared.moves.Move.{Move}
-use Rattle.jc_explore.specs.declared.program.Program.{Program}
-use Rattle.jc_explore.specs.declared.replies.ThreadReply.{ThreadReply}
-use Rattle.jc_explore.specs.declared.scene.Position.{Position}
-use Rattle.jc_explore.specs.Keys.{ScenesAlike}
-use Rattle.jc_explore.specs.Schedule.{SceneState, Moves, events_of, events_at, positions_at, positions_after, replies_after}
+use Rattle.jc_explore.proofs.Common.{◌≡◌, List, Option, None, Some, slice_get, sym, refl, ap, ◌∙◌, subst, Event, State, WorldEvent, WorldsGoOnAlike, EssencesTell, Run, WorldState, Move, Program, ThreadReply, Position, ScenesAlike, SceneState, Moves, events_of, events_at, positions_at, positions_after, replies_after}
 use Rattle.jc_explore.proofs.Essences.{alike-essence}
 
 pub scenes-refl : (s : SceneState) → ScenesAlike s s
 scenes-refl s = record { world = refl; positions = refl; replies = refl }
-
-pub scenes-same : (s t : SceneState) → s ≡ t → ScenesAlike s t
-scenes-same s t is = subst (ScenesAlike s) is (scenes-refl s)
 
 pub scenes-sym : (s t : SceneState) → ScenesAlike s t → ScenesAlike t s
 scenes-sym s t h = record { world = sym h.world; positions = sym h.positions; replies = sym h.replies }

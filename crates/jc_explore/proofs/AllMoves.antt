@@ -1,17 +1,9 @@
 -- The moves of a program's threads are all that it can have.
-use Rattle.std.proofs.Common.{◌≡◌, ℕ, zero, suc, ◌+◌, ◌<◌, ◌≤◌, List, [], ◌∷◌, ◌++◌, length, replicate, true, Option, None, Some, is_some, slice_get, slice_set, sym, refl, ap, ◌∙◌, arith, true≢false, nat_lt, ◌⊎◌, inl, inr}
+use Rattle.jc_explore.proofs.Common.{◌≡◌, ℕ, zero, suc, ◌+◌, ◌<◌, ◌≤◌, List, [], ◌∷◌, ◌++◌, length, replicate, true, Option, None, Some, is_some, slice_get, slice_set, sym, refl, ap, ◌∙◌, arith, true≢false, nat_lt, ◌⊎◌, inl, inr, Move, Program, Position, moves_of_thread, moves_up_to, SceneState, Moves, Plays, opening, has_session, have_sessions, positions_at, unbegun, IsAmong, and_parts, lt-ltb, stands_on}
 use Rattle.jc_types.specs.declared.limits.TheConstants.{SESSIONS_MAX}
 use Rattle.jc_explore.specs.declared.moves.Act.{Act}
 use Rattle.jc_explore.specs.declared.moves.Act.TheVariants as act
-use Rattle.jc_explore.specs.declared.moves.Move.{Move}
-use Rattle.jc_explore.specs.declared.program.Program.{Program}
-use Rattle.jc_explore.specs.declared.scene.Position.{Position}
-use Rattle.jc_explore.specs.Moves.{moves_of_thread, moves_up_to}
-use Rattle.jc_explore.specs.Schedule.{SceneState, Moves, Plays, opening, has_session, have_sessions, positions_at, unbegun}
-use Rattle.jc_explore.specs.Search.{IsAmong}
 use Rattle.jc_explore.proofs.Scenes.{nobody-moves}
-use Rattle.std.proofs.lemmas.Bool.{and_parts}
-use borrow.Author.Tests.{lt-ltb}
 
 pub eq_or_less : (t n : ℕ) → t < n + 1 → (t < n) ⊎ (t ≡ n)
 eq_or_less zero zero h = inr refl
@@ -20,11 +12,6 @@ eq_or_less (suc t) zero h = absurd (omega arith)
 eq_or_less (suc t) (suc n) h = elim (eq_or_less t n (omega arith)) [ inl less ↦ inl (omega arith) | inr same ↦ inr (ap suc same) ]
 
 -- 1. Elements of lists.
-
-pub get-front : {X : Type 0} (xs ys : List X) (k : ℕ) (x : X) → slice_get xs k ≡ Some x → slice_get (xs ++ ys) k ≡ Some x
-get-front [] ys k x is = absurd (true≢false (ap is_some (sym is)))
-get-front (y ∷ xs) ys zero x is = is
-get-front (y ∷ xs) ys (suc k) x is = get-front xs ys k x is
 
 get-behind : {X : Type 0} (xs ys : List X) (k : ℕ) (x : X) → slice_get ys k ≡ Some x → (j : ℕ) × (slice_get (xs ++ ys) j ≡ Some x)
 get-behind [] ys k x is = (k, is)
@@ -41,7 +28,7 @@ set-length (y ∷ xs) zero x = refl
 set-length (y ∷ xs) (suc k) x = ap suc (set-length xs k x)
 
 pub among-front : (xs ys : List Move) (m : Move) → IsAmong xs m → IsAmong (xs ++ ys) m
-among-front xs ys m h = (h.0, get-front xs ys h.0 m h.1)
+among-front xs ys m h = (h.0, stands_on xs ys h.0 m h.1)
 
 pub among-last : (xs : List Move) (m : Move) → IsAmong (xs ++ m ∷ []) m
 among-last xs m = get-behind xs (m ∷ []) 0 m refl
@@ -66,7 +53,7 @@ is-among zero m h = absurd (omega (arith, h))
 is-among (suc n) m h = go (eq_or_less m.thread n (omega (arith, h))) (is-among n m)
   where
     go : (m.thread < n) ⊎ (m.thread ≡ n) → (m.thread < n → IsAmong (moves_up_to n) m) → IsAmong (moves_up_to n ++ moves_of_thread n) m
-    go (inl less) rest = let r = rest less in (r.0, get-front (moves_up_to n) (moves_of_thread n) r.0 m r.1)
+    go (inl less) rest = let r = rest less in (r.0, stands_on (moves_up_to n) (moves_of_thread n) r.0 m r.1)
     go (inr same) rest =
         let at = here m.act n in
         get-behind (moves_up_to n) (moves_of_thread n) at.0 m (at.1 ∙ ap (λ (t : ℕ). Some (record { thread = t; act = m.act })) (sym same))

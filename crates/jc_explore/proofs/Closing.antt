@@ -1,19 +1,5 @@
 -- What is known is closed: wherever a run leads, something like it is known.
-use Rattle.std.proofs.Common.{◌≡◌, ℕ, ◌+◌, ◌<◌, List, [], ◌∷◌, ◌++◌, length, Some, slice_get, sym, ap, ◌∙◌, subst, inl, inr, arith}
-use Rattle.std.proofs.lemmas.Option.{slice_get-get_or, slice_get_within}
-use Rattle.jc_world.specs.Alike.{WorldsGoOnAlike}
-use Rattle.jc_world.specs.Determinism.{RunsAreDetermined}
-use Rattle.jc_world.specs.Essence.{EssencesTell}
-use Rattle.jc_explore.specs.declared.known.KnownState.{KnownState}
-use Rattle.jc_explore.specs.declared.moves.Move.{Move}
-use Rattle.jc_explore.specs.declared.program.Program.{Program}
-use Rattle.jc_explore.specs.declared.search.Finding.{Finding}
-use Rattle.jc_explore.specs.Explored.{IsEnd, IsFound, HasEachOutcome}
-use Rattle.jc_explore.specs.Final.{FinalValue, IsFinal}
-use Rattle.jc_explore.specs.Keys.{ScenesAlike}
-use Rattle.jc_explore.specs.Moves.{moves_up_to}
-use Rattle.jc_explore.specs.Schedule.{SceneState, Moves, Plays, opening}
-use Rattle.jc_explore.specs.Search.{GoesOn, Grows, HasEachKnown, IsClosedAt, IsClosedUpTo, IsKnown, KeepsMoves, LeadsLike, StaysAt, WasFollowed}
+use Rattle.jc_explore.proofs.Common.{◌≡◌, ℕ, ◌+◌, ◌<◌, List, [], ◌∷◌, ◌++◌, length, Some, slice_get, sym, ap, ◌∙◌, subst, inl, inr, arith, slice_get-get_or, slice_get_within, WorldsGoOnAlike, RunsAreDetermined, EssencesTell, KnownState, Move, Program, Finding, IsEnd, IsFound, HasEachOutcome, FinalValue, IsFinal, ScenesAlike, moves_up_to, SceneState, Moves, Plays, opening, GoesOn, Grows, HasEachKnown, IsClosedAt, IsClosedUpTo, IsKnown, KeepsMoves, LeadsLike, StaysAt, WasFollowed}
 use Rattle.jc_explore.proofs.AlikeScenes.{scenes-sym, moves-alike}
 use Rattle.jc_explore.proofs.AllMoves.{eq_or_less, moves-among}
 use Rattle.jc_explore.proofs.Finals.{final-alike}

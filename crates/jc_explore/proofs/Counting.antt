@@ -1,23 +1,6 @@
 -- The states that are known are as many scenes, no two of them alike.
-use Rattle.std.proofs.Common.{◌≡◌, ℕ, zero, suc, ◌<◌, ◌⊎◌, List, [], ◌∷◌, length, Some, slice_get, get_or, sym, refl, ap, ◌∙◌, subst, arith, true, false, inl, inr}
-use Rattle.std.proofs.lemmas.Option.{slice_get_within}
-use Rattle.std.specs.List.{All, AllPairs}
-use Rattle.jc_world.specs.Determinism.{RunsAreDetermined}
-use Rattle.jc_world.specs.Essence.{WorldEssence, essence_of_world}
-use Rattle.jc_snapshot.specs.declared.seen.Seen.{Seen}
-use Rattle.jc_snapshot.specs.Laws.{HasOneSnapshot}
-use Rattle.jc_snapshot.specs.Snapshot.{IsSnapshot}
-use Rattle.jc_explore.specs.declared.key.StateKey.{StateKey}
-use Rattle.jc_explore.specs.declared.known.KnownState.{KnownState}
-use Rattle.jc_explore.specs.declared.known.States.{States}
-use Rattle.jc_explore.specs.declared.program.Program.{Program}
+use Rattle.jc_explore.proofs.Common.{◌≡◌, ℕ, zero, suc, ◌<◌, ◌⊎◌, List, [], ◌∷◌, length, Some, slice_get, get_or, sym, refl, ap, ◌∙◌, subst, arith, true, false, inl, inr, slice_get_within, All, AllPairs, RunsAreDetermined, WorldEssence, essence_of_world, Seen, HasOneSnapshot, IsSnapshot, StateKey, KnownState, States, Program, Finding, OUTCOMES_MAX, AreFollowed, AreUnlike, HasEachScene, IsAmongScenes, IsCounted, IsReached, ScenesAlike, IsKeyOf, HaveOneKey, SceneState, Plays, opening, AreKnown, HasEachKnown, IsClosedUpTo, IsKnown, IsKnownBy, LeadsLike}
 use Rattle.jc_explore.specs.declared.search.Explored.{Explored}
-use Rattle.jc_explore.specs.declared.search.Finding.{Finding}
-use Rattle.jc_explore.specs.declared.search.TheConstants.{OUTCOMES_MAX}
-use Rattle.jc_explore.specs.Explored.{AreFollowed, AreUnlike, HasEachScene, IsAmongScenes, IsCounted, IsReached}
-use Rattle.jc_explore.specs.Keys.{ScenesAlike, IsKeyOf, HaveOneKey}
-use Rattle.jc_explore.specs.Schedule.{SceneState, Plays, opening}
-use Rattle.jc_explore.specs.Search.{AreKnown, HasEachKnown, IsClosedUpTo, IsKnown, IsKnownBy, LeadsLike}
 use Rattle.jc_explore.proofs.AlikeScenes.{scenes-refl}
 use Rattle.jc_explore.proofs.Runs.{plays-determined}
 use Rattle.jc_explore.proofs.Searching.{same-at, there-at}

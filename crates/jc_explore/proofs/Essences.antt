@@ -1,15 +1,9 @@
 -- Worlds that are alike have one essence, so scenes that are alike go on alike.
-use Rattle.std.proofs.Common.{◌≡◌, ℕ, List, [], ◌∷◌, Option, length, map, sym, refl, ap, ◌∙◌}
+use Rattle.jc_explore.proofs.Common.{◌≡◌, ℕ, List, [], ◌∷◌, Option, length, map, sym, refl, ap, ◌∙◌, Bytes, Event, State, AgreeAt, Agree, IsLike, AreLike, WorldsAlike, answer_in, StripeEssence, essence_of, WorldEssence, essence_of_world, WorldState}
 use Rattle.jc_inflight.specs.declared.joiner.Joiner.{Joiner}
 use Rattle.jc_inflight.specs.declared.joiner.JoinState.{JoinState}
 use Rattle.jc_inflight.specs.declared.joiner.JoinState.TheVariants.{Waiting, Answered, Again}
-use Rattle.jc_model.specs.Cache.{Bytes}
-use Rattle.jc_model.specs.declared.event.Event.{Event}
 use Rattle.jc_stripe.specs.OrderOfUse.{by_use}
-use Rattle.jc_stripe.specs.State.{State}
-use Rattle.jc_world.specs.Alike.{AgreeAt, Agree, IsLike, AreLike, WorldsAlike}
-use Rattle.jc_world.specs.Essence.{answer_in, StripeEssence, essence_of, WorldEssence, essence_of_world}
-use Rattle.jc_world.specs.World.{WorldState}
 
 answer-agrees : (s : JoinState) (h k : List Event) → AgreeAt s h k → answer_in h s ≡ answer_in k s
 answer-agrees Waiting h k a = refl
@@ -51,7 +45,3 @@ pub alike-essence : (w v : WorldState) → WorldsAlike w v → essence_of_world 
 alike-essence w v h =
     ap (λ (es : List StripeEssence). with_stripes w es) (are_like-essences w.stripes v.stripes h.alike)
     ∙ sym (ap (λ (x : WorldState). with_stripes x (map essence_of v.stripes)) h.is)
-
--- what stays of a world besides its stripes and its order
-pub rest-same : (w v : WorldState) → essence_of_world w ≡ essence_of_world v → record w { stripes = []; order = [] } ≡ record v { stripes = []; order = [] }
-rest-same w v is = ap (λ (e : WorldEssence). e.rest) is

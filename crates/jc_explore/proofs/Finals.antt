@@ -1,17 +1,8 @@
 -- A scene has one final state, and scenes that are alike have the same.
-use Rattle.std.proofs.Common.{◌≡◌, ℕ, zero, suc, List, [], ◌∷◌, slice_get, sym, refl, ap, ◌∙◌}
+use Rattle.jc_explore.proofs.Common.{◌≡◌, ℕ, zero, suc, List, [], ◌∷◌, slice_get, sym, refl, ap, ◌∙◌, Bytes, Cache, entry_at, State, AreLike, WorldsAlike, EssencesTell, WorldState, home, entry_in, cached_entry, ThreadReply, FinalValue, IsFinal, ScenesAlike, SceneState}
 use Rattle.std.specs.FinMap.{entries}
 use Rattle.jc_model.proofs.CallerLemmas.{same_cache}
-use Rattle.jc_model.specs.Cache.{Bytes, Cache, entry_at}
-use Rattle.jc_stripe.specs.State.{State}
-use Rattle.jc_world.specs.Alike.{AreLike, WorldsAlike}
 use Rattle.jc_world.specs.Audit.{differing}
-use Rattle.jc_world.specs.Essence.{EssencesTell}
-use Rattle.jc_world.specs.World.{WorldState, home, entry_in, cached_entry}
-use Rattle.jc_explore.specs.declared.replies.ThreadReply.{ThreadReply}
-use Rattle.jc_explore.specs.Final.{FinalValue, IsFinal}
-use Rattle.jc_explore.specs.Keys.{ScenesAlike}
-use Rattle.jc_explore.specs.Schedule.{SceneState}
 
 cached-like : (ss ts : List State) (k : ℕ) (key : Bytes) → AreLike ss ts → entry_in (slice_get ss k) key ≡ entry_in (slice_get ts k) key
 cached-like [] [] k key h = refl

@@ -1,16 +1,5 @@
 -- Scenes with one key are alike, and a key stays one while the tables grow.
-use Rattle.std.proofs.Common.{ℕ, List, sym, ap, ◌∙◌, subst}
-use Rattle.std.specs.List.{All}
-use Rattle.jc_world.specs.Essence.{essence_of_world}
-use Rattle.jc_snapshot.specs.declared.seen.Seen.{Seen}
-use Rattle.jc_snapshot.specs.Laws.{SnapshotsTell, SnapshotsStay}
-use Rattle.jc_snapshot.specs.Snapshot.{IsSnapshot, GrowsTo}
-use Rattle.jc_explore.specs.declared.key.StateKey.{StateKey}
-use Rattle.jc_explore.specs.declared.known.KnownState.{KnownState}
-use Rattle.jc_explore.specs.declared.program.Program.{Program}
-use Rattle.jc_explore.specs.Keys.{ScenesAlike, IsKeyOf, HaveOneKey, KeyValue}
-use Rattle.jc_explore.specs.Schedule.{SceneState}
-use Rattle.jc_explore.specs.Search.{IsKnownBy}
+use Rattle.jc_explore.proofs.Common.{ℕ, List, sym, ap, ◌∙◌, subst, All, essence_of_world, Seen, SnapshotsTell, SnapshotsStay, IsSnapshot, GrowsTo, StateKey, KnownState, Program, ScenesAlike, IsKeyOf, HaveOneKey, KeyValue, SceneState, IsKnownBy}
 
 pub tell-alike : SnapshotsTell → (seen : Seen) (a b : StateKey) (s t : SceneState) → HaveOneKey a b → IsKeyOf seen a s → IsKeyOf seen b t → ScenesAlike s t
 tell-alike tell seen a b s t one x y =

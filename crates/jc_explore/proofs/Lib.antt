@@ -1,3 +1,4 @@
+pub mod Common
 mod Essences
 mod AlikeScenes
 mod Keys

@@ -1,14 +1,5 @@
 -- Runs of a program: they are determined, they split, and they go on by one step.
-use Rattle.std.proofs.Common.{◌≡◌, ℕ, ◌+◌, ◌<◌, List, [], ◌∷◌, ◌++◌, length, take, get_or, sym, refl, ap, ◌∙◌, subst}
-use Rattle.std.proofs.lemmas.List.{take_more}
-use Rattle.jc_world.specs.World.{WorldState}
-use Rattle.jc_explore.specs.declared.moves.Move.{Move}
-use Rattle.jc_explore.specs.declared.scene.Position.{Position}
-use Rattle.jc_explore.specs.declared.program.Program.{Program}
-use Rattle.jc_explore.specs.Schedule.{SceneState, Moves, Plays, events_of, replies_after}
-use Rattle.jc_world.specs.declared.event.Shown.{Shown}
-use Rattle.jc_explore.specs.declared.replies.ThreadReply.{ThreadReply}
-use Rattle.jc_world.specs.Determinism.{RunsAreDetermined}
+use Rattle.jc_explore.proofs.Common.{◌≡◌, ℕ, ◌+◌, ◌<◌, List, [], ◌∷◌, ◌++◌, length, take, get_or, sym, refl, ap, ◌∙◌, subst, take_more, WorldState, Move, Position, Program, SceneState, Moves, Plays, events_of, replies_after, Shown, ThreadReply, RunsAreDetermined}
 
 scene-as : (s : SceneState) (w : WorldState) (positions : List Position) (replies : List ThreadReply) → s.world ≡ w → s.positions ≡ positions → s.replies ≡ replies → s ≡ record { world = w; positions = positions; replies = replies }
 scene-as s w positions replies a b d =

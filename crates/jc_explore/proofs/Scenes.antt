@@ -1,16 +1,6 @@
 -- A move of a schedule is one by what was played, and isn't one by what was played.
-use Rattle.std.proofs.Common.{◌≡◌, List, [], ◌∷◌, ◌++◌, Bool, true, false, Option, None, Some, slice_get, slice_set, sym, refl, ap, ◌∙◌, subst, true≢false}
-use Rattle.jc_world.specs.declared.event.WorldEvent.{WorldEvent}
-use Rattle.jc_world.specs.declared.event.Shown.{Shown}
-use Rattle.jc_world.specs.Determinism.{RunsAreDetermined, have_memory}
-use Rattle.jc_world.specs.Events.{Run, RunAppending}
+use Rattle.jc_explore.proofs.Common.{◌≡◌, List, [], ◌∷◌, ◌++◌, Bool, true, false, Option, None, Some, slice_get, slice_set, sym, refl, ap, ◌∙◌, subst, true≢false, WorldEvent, Shown, RunsAreDetermined, have_memory, Run, RunAppending, WorldState, Move, Program, Position, SceneState, has_number_for, events_at, events_of, is_proper, position_after, positions_at, positions_after, replies_after, Moves, inl, inr, ◌&&◌, nat_lt, length}
 use Rattle.jc_world.specs.Fits.{fits}
-use Rattle.jc_world.specs.World.{WorldState}
-use Rattle.jc_explore.specs.declared.moves.Move.{Move}
-use Rattle.jc_explore.specs.declared.program.Program.{Program}
-use Rattle.jc_explore.specs.declared.scene.Position.{Position}
-use Rattle.jc_explore.specs.Schedule.{SceneState, has_number_for, events_at, events_of, is_proper, position_after, positions_at, positions_after, replies_after, Moves}
-use Rattle.std.proofs.Common.{inl, inr, ◌&&◌, nat_lt, length}
 
 -- what was shown of its events decides whether it is one
 pub stays : RunsAreDetermined → (p : Program) (old : SceneState) (m : Move) (events : List WorldEvent) (seen : List Shown) (n : WorldState)
@@ -60,20 +50,6 @@ nobody-moves p old m at = nothing-moves p old m (ap (λ (o : Option Position). e
 and-false : (b : Bool) → (b && false) ≡ false
 and-false true = refl
 and-false false = refl
-
-unfit-runs : (w n : WorldState) (e : WorldEvent) (es : List WorldEvent) (seen : List Shown) → fits w e ≡ false → Run w (e ∷ es) seen n → is_proper seen ≡ false
-unfit-runs w n e es [] unfit run = absurd run
-unfit-runs w n e es (s ∷ seen) unfit run =
-    elim run.1 [
-      | inl fit ↦ absurd (true≢false (sym fit.0 ∙ unfit))
-      | inr none ↦ ap (λ (x : Shown). is_proper (x ∷ seen)) none.1 ∙ and-false (nat_lt 0 (length (s ∷ seen)))
-    ]
-
--- nor if its first event doesn't fit
-pub unfit-moves : (p : Program) (old : SceneState) (m : Move) (e : WorldEvent) (es : List WorldEvent) → events_of p old m ≡ e ∷ es → fits old.world e ≡ false
-    → (new : SceneState) → Moves p old m new → ⊥
-unfit-moves p old m e es is unfit new moves =
-    true≢false (sym moves.proper ∙ unfit-runs old.world new.world e es moves.seen unfit (subst (λ (xs : List WorldEvent). Run old.world xs moves.seen new.world) is moves.runs))
 
 -- the events, as they were appended
 pub events-are : (p : Program) (old : SceneState) (m : Move) (position : Position) (before after : List WorldEvent) → slice_get old.positions m.thread ≡ Some position

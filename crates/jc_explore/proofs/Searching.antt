@@ -1,27 +1,6 @@
 -- What is known grows, and what is like something known is known.
-use Rattle.std.proofs.Common.{◌≡◌, ℕ, zero, suc, ◌+◌, ◌<◌, List, [], ◌∷◌, ◌++◌, length, Bool, true, false, Some, None, Option, is_some, slice_get, sym, refl, ap, ◌∙◌, subst, arith, true≢false, append_assoc, inl, inr}
-use Rattle.std.proofs.lemmas.List.{append-nil, get_or-map, length-map, map-append}
-use Rattle.std.proofs.Common.{length-append, get_or, map, ◌||◌}
-use Rattle.std.specs.List.{All, AllPairs, Any}
-use Rattle.std.proofs.lemmas.List.{get_or_append_left}
-use Rattle.std.proofs.lemmas.Option.{slice_get-get_or, slice_get_within}
-use Rattle.std.proofs.lemmas.List.Elements.{All-push}
-use Rattle.std.proofs.lemmas.List.Quantifiers.{Any-push}
-use Rattle.std.proofs.lemmas.Bool.{and_parts}
-use Rattle.jc_explore.specs.declared.key.StateKey.{StateKey}
-use Rattle.jc_explore.specs.declared.known.KnownState.{KnownState}
-use Rattle.jc_explore.specs.declared.known.States.{States}
-use Rattle.jc_explore.specs.declared.moves.Move.{Move}
+use Rattle.jc_explore.proofs.Common.{◌≡◌, ℕ, zero, suc, ◌+◌, ◌<◌, List, [], ◌∷◌, ◌++◌, length, Bool, true, false, Some, None, Option, is_some, slice_get, sym, refl, ap, ◌∙◌, subst, arith, true≢false, append_assoc, inl, inr, append-nil, get_or-map, length-map, map-append, length-append, get_or, map, ◌||◌, All, AllPairs, Any, get_or_append_left, slice_get-get_or, slice_get_within, All-push, Any-push, and_parts, StateKey, KnownState, States, Move, Program, Finding, IsFound, FinalValue, final_of, ScenesAlike, IsKeyOf, HaveOneKey, HasPlace, fingerprint_of_key, fingerprint_of_value, SceneState, Moves, Plays, opening, has_session, have_sessions, AreKnown, Grows, HavePlaces, HavePrints, IsAmong, IsKeyAt, IsKnown, IsKnownBy, LeadsLike, StaysAt, WasFollowed, kept_if, Seen, SnapshotsTell}
 use Rattle.jc_explore.specs.declared.places.Places.{Places}
-use Rattle.jc_explore.specs.declared.program.Program.{Program}
-use Rattle.jc_explore.specs.declared.search.Finding.{Finding}
-use Rattle.jc_explore.specs.Explored.{IsFound}
-use Rattle.jc_explore.specs.Final.{FinalValue, final_of}
-use Rattle.jc_explore.specs.Keys.{ScenesAlike, IsKeyOf, HaveOneKey, HasPlace, fingerprint_of_key, fingerprint_of_value}
-use Rattle.jc_explore.specs.Schedule.{SceneState, Moves, Plays, opening, has_session, have_sessions}
-use Rattle.jc_explore.specs.Search.{AreKnown, Grows, HavePlaces, HavePrints, IsAmong, IsKeyAt, IsKnown, IsKnownBy, LeadsLike, StaysAt, WasFollowed, kept_if}
-use Rattle.jc_snapshot.specs.declared.seen.Seen.{Seen}
-use Rattle.jc_snapshot.specs.Laws.{SnapshotsTell}
 use Rattle.jc_explore.proofs.Keys.{tell-alike}
 use Rattle.jc_explore.proofs.AllMoves.{among-front, among-last, eq_or_less, sessions-push}
 use Rattle.jc_explore.proofs.AlikeScenes.{scenes-refl, scenes-sym, scenes-trans}

@@ -1,18 +1,6 @@
 -- The search is breadth first: the schedule of a known state, and that of an outcome, is a shortest one.
-use Rattle.std.proofs.Common.{◌≡◌, ℕ, ◌+◌, ◌<◌, ◌≤◌, ◌⊎◌, List, [], ◌∷◌, ◌++◌, length, Some, slice_get, get_or, sym, ap, ◌∙◌, subst, inl, inr, arith}
-use Rattle.std.proofs.Common.{length-append}
-use Rattle.std.specs.List.{All, Any}
-use Rattle.std.proofs.lemmas.List.{get_or_push}
-use Rattle.std.proofs.lemmas.Option.{slice_get-get_or, slice_get_within}
-use Rattle.jc_explore.specs.declared.known.KnownState.{KnownState}
-use Rattle.jc_explore.specs.declared.moves.Move.{Move}
-use Rattle.jc_explore.specs.declared.program.Program.{Program}
-use Rattle.jc_explore.specs.declared.search.Finding.{Finding}
-use Rattle.jc_explore.specs.Explored.{AreShortest, IsFound, IsShortest, IsWhole}
-use Rattle.jc_explore.specs.Final.{FinalValue, final_of}
-use Rattle.jc_explore.specs.Schedule.{SceneState, Moves, Plays, opening}
-use Rattle.jc_explore.specs.Search.{Adds, AreAsLong, AreNew, Grows, IsClosedAt, IsClosedUpTo, IsKnown, LeadsLike}
-use Rattle.jc_explore.proofs.AllMoves.{eq_or_less, get-front, lt_or_le}
+use Rattle.jc_explore.proofs.Common.{◌≡◌, ℕ, ◌+◌, ◌<◌, ◌≤◌, ◌⊎◌, List, [], ◌∷◌, ◌++◌, length, Some, slice_get, get_or, sym, ap, ◌∙◌, subst, inl, inr, arith, length-append, All, Any, get_or_push, slice_get-get_or, slice_get_within, KnownState, Move, Program, Finding, AreShortest, IsFound, IsShortest, IsWhole, FinalValue, final_of, SceneState, Moves, Plays, opening, Adds, AreAsLong, AreNew, Grows, IsClosedAt, IsClosedUpTo, IsKnown, LeadsLike, stands_on}
+use Rattle.jc_explore.proofs.AllMoves.{eq_or_less, lt_or_le}
 use Rattle.jc_explore.proofs.Searching.{any-grown, same-at, slice-back, there-at}
 
 -- 1. What was added to a list.
@@ -195,7 +183,7 @@ pub more-breadth : (p : Program) (was now : List KnownState) (before found : Lis
     → IsBreadthFirst p now found (place + 1)
 more-breadth p was now before found place d breadth closed here grown more added fresh at =
     let inside : place < length was = slice_get_within was place d here in
-    let there : slice_get now place ≡ Some d = subst (λ (ks : List KnownState). slice_get ks place ≡ Some d) (sym grown.1) (get-front was grown.0 place d here) in
+    let there : slice_get now place ≡ Some d = subst (λ (ks : List KnownState). slice_get ks place ≡ Some d) (sym grown.1) (stands_on was grown.0 place d here) in
     let sorted : IsSorted now = sorted-now was now place d grown added breadth.bounded here breadth.sorted in
     record {
       sorted = sorted;

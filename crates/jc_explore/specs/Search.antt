@@ -29,7 +29,9 @@
 --     Visits          a schedule's state was followed: it is closed
 --     Searches        a search knows the opening alone, has found nothing, and has the invariant
 --     Ends            a search has ended: the final states that it has found, which are all if it is whole
---     HasExplored     the same for the final states that an exploration has found
+--     HasExplored     the result of an exploration with this budget of states: outcomes with shortest schedules of theirs, no two
+--                     the same, and all of them if it is whole, with no more states than the budget; otherwise it has met more
+--                     states than the budget, or found more outcomes than the limit
 use Rattle.std.specs.Prelude.{◌≡◌, ℕ, ◌+◌, ◌<◌, ◌≤◌, ◌⊎◌, List, [], ◌∷◌, ◌++◌, Bool, true, false, length, map, Some, slice_get}
 use Rattle.std.specs.List.{All, Any, AllPairs}
 use Rattle.jc_snapshot.specs.declared.seen.Seen.{Seen}

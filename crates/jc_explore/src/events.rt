@@ -1,11 +1,11 @@
 //! The events of a move.
-ghost use Rattle.std.specs.Prelude.{◌≡◌, ◌++◌, ◌∷◌, [], ◌<◌, nat_lt, true, IfOk, OnOk, None, Some, option_copied};
+ghost use Rattle.std.specs.Prelude.{◌≡◌, ◌++◌, ◌∷◌, [], ◌<◌, nat_lt, true, IfOk, OnOk, None, Some};
 ghost use Rattle.jc_types.specs.declared.limits.TheConstants.{NUMBER_MAX, SESSIONS_MAX};
 ghost use Rattle.jc_model.specs.declared.event.LoadAnswer.TheVariants.{Failed};
 ghost use Rattle.jc_world.specs.declared.command.Command.TheVariants.{Single};
 ghost use Rattle.jc_world.specs.declared.event.WorldEvent.TheVariants as event;
 ghost use Rattle.jc_world.specs.declared.process.LoadSource.TheVariants as source;
-ghost use Rattle.jc_explore.specs.Schedule.{act_events, begin_events, call_events, entry_calls, events_at, has_number_for, if_failing, item_at, next_number, run_processor, under_way};
+ghost use Rattle.jc_explore.specs.Schedule.{act_events, begin_events, call_events, entry_calls, events_at, has_number_for, if_failing, next_number, run_processor, under_way};
 
 use crate::moves::{Act, Move};
 use crate::program::{Faults, Item, Program};
@@ -20,16 +20,6 @@ use std::alloc::{AllocError, Global};
 struct Target {
     call: u64,
     key: Key,
-}
-
-/// The item of a thread at a place of its list.
-fn item_at(program: &Program, thread: usize, at: usize) -> Option<&Item>
-    ensures { option_copied result ≡ item_at program.now thread at }
-{
-    match program.threads.get(thread) {
-        Some(items) => items.get(at),
-        None => None,
-    }
 }
 
 fn single(op: &Op, key: &Key) -> Command
@@ -351,14 +341,14 @@ pub(crate) fn put_events(
     let session = step.thread as u32 + 1;
     let call = world.call_of(session);
     if !step.act.is_begin() {
-        return match item_at(program, step.thread, position.begun.saturating_sub(1)) {
+        return match program.item(step.thread, position.begun.saturating_sub(1)) {
             Some(item) => put_under_way(alloc, events, &program.faults, call, item, step.act),
             None => Ok(()),
         };
     }
     match call {
         Some(_call) => Ok(()),
-        None => match item_at(program, step.thread, position.begun) {
+        None => match program.item(step.thread, position.begun) {
             Some(item) => put_begin(events, next_number(last), session, item),
             None => Ok(()),
         },

@@ -150,7 +150,7 @@ pub(crate) fn note_state(
     Ok(())
 }
 
-/// As [`note_state`](States::note_state), for a schedule and one more move.
+/// Notes the state after a schedule and one more move, as [`note_state`](States::note_state) does.
 pub(crate) fn note_next(
     alloc: Global,
     program: &Program,

@@ -1,10 +1,10 @@
-//! What may happen to the threads of a program, one move at a time.
+//! The moves of a program's threads, one at a time.
 ghost use Rattle.std.specs.Prelude.{◌≡◌, ◌++◌, ◌∷◌, [], IfOk, OnOk};
 ghost use Rattle.jc_explore.specs.Moves.{moves_of_thread, moves_up_to, is_begin};
 
 use std::alloc::{AllocError, Global};
 
-/// What may happen next to a thread: one phase of its call, or an answer from outside.
+/// The next step of a thread: one phase of its call, or an answer from outside.
 #[derive(Clone, Copy, Debug, PartialEq, Eq)]
 pub enum Act {
     /// Its next item begins: a call makes its first phase, or another program writes the store.

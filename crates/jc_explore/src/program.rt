@@ -1,4 +1,7 @@
 //! Programs: a cache's shape, the entries of its store, and the items of each thread.
+ghost use Rattle.std.specs.Prelude.{◌≡◌, option_copied};
+ghost use Rattle.jc_explore.specs.Schedule.{item_at};
+
 use jc_model::Op;
 use jc_types::{Config, Key, Value};
 use jc_world::EntryCalls;
@@ -54,4 +57,16 @@ pub struct Program {
     pub threads: Vec<Vec<Item>>,
     /// The faults that may happen.
     pub faults: Faults,
+}
+
+impl Program {
+    /// The item of a thread at a place of its list.
+    pub fn item(&self, thread: usize, at: usize) -> Option<&Item>
+        ensures { option_copied result ≡ item_at self.now thread at }
+    {
+        match self.threads.get(thread) {
+            Some(items) => items.get(at),
+            None => None,
+        }
+    }
 }

@@ -7,7 +7,7 @@ ghost use Rattle.jc_types.specs.Limits.{check};
 ghost use Rattle.jc_explore.specs.Explored.{AreDistinct, AreShortest, AreWitnessed, HasEachOutcome, IsCounted, IsEnd, IsFound, IsRefusedAs, IsTried, IsAccepted};
 ghost use Rattle.jc_explore.specs.Final.{FinalValue, IsFinal, final_of};
 ghost use Rattle.jc_explore.specs.Moves.{moves_up_to};
-ghost use Rattle.jc_explore.specs.Schedule.{SceneState, Moves, Plays, has_session, have_sessions, opening, state_of};
+ghost use Rattle.jc_explore.specs.Schedule.{Moves, Plays, has_session, have_sessions, opening, state_of};
 ghost use Rattle.jc_explore.specs.Search.{AreKnown, Ends, Expands, Follows, HasExplored, IsSearchOf, KeepsMoves, NotesEnd, Searches, Visits, kept_if};
 
 use crate::final_state::FinalState;
@@ -124,54 +124,26 @@ fn return_to(
     Ok(())
 }
 
-/// Brings the scene to where a schedule and one more move lead, if the move is possible there. The scene may already be where the
-/// schedule leads.
-fn attempt(
-    alloc: Global,
-    program: &Program,
-    scene: &mut Scene,
-    schedule: &[Move],
-    step: Move,
-    is_there: bool,
-) -> Result<bool, AllocError>
-    requires config { check program.now.config ≡ Ok tt }
-    requires sessions { have_sessions schedule.now ≡ true }
-    requires session { has_session step ≡ true }
-    requires there { is_there ≡ true
-        → Plays program.now (opening program.now) schedule.now (state_of scene.old) }
-    ensures moved { IfOk result (λ moved. moved ≡ true
-        → Plays program.now (opening program.now) (schedule.now ++ step ∷ []) (state_of scene.new)) }
-    ensures stays { IfOk result (λ moved. moved ≡ false
-        → (new : SceneState) → Plays program.now (opening program.now) (schedule.now ++ step ∷ []) new → ⊥) }
-{
-    runs_are_determined();
-    return_to(alloc, program, scene, schedule, is_there)?;
-    let moved = scene.step(alloc, program, step)?;
-    Ok(moved)
-}
-
-/// Follows one move after a schedule, if it is possible there: afterwards the state to which it leads is known. The scene may
-/// already be where the schedule leads.
+/// Follows one move after a schedule, if it is possible there: afterwards the state to which it leads is known. The scene is where
+/// the schedule leads.
 fn follow(
     alloc: Global,
     program: &Program,
     scene: &mut Scene,
     schedule: &[Move],
     step: Move,
-    is_there: bool,
     known: &mut States,
 ) -> Result<bool, AllocError>
     requires config { check program.now.config ≡ Ok tt }
     requires sessions { have_sessions schedule.now ≡ true }
     requires session { has_session step ≡ true }
-    requires there { is_there ≡ true
-        → Plays program.now (opening program.now) schedule.now (state_of scene.old) }
+    requires there { Plays program.now (opening program.now) schedule.now (state_of scene.old) }
     requires known { AreKnown program.now known.old }
     ensures { IfOk result (λ moved.
         Follows program.now schedule.now step known.old known.new moved) }
 {
     runs_are_determined();
-    let moved = attempt(alloc, program, scene, schedule, step, is_there)?;
+    let moved = scene.step(alloc, program, step)?;
     if !moved {
         return Ok(false);
     }
@@ -189,7 +161,7 @@ fn keep_if(kept: &mut Vec<Move>, step: Move, may: bool) -> Result<(), AllocError
     Ok(())
 }
 
-/// Those of some moves whose first event fits now: the others aren't possible.
+/// Keeps the moves whose first event fits now: the others aren't possible.
 fn keep_moves(
     alloc: Global,
     program: &Program,
@@ -235,7 +207,8 @@ fn expand(
     let mut any = false;
     let mut is_there = true;
     for step in moves {
-        let moved = follow(alloc, program, scene, schedule, *step, is_there, known)?;
+        return_to(alloc, program, scene, schedule, is_there)?;
+        let moved = follow(alloc, program, scene, schedule, *step, known)?;
         is_there = false;
         let now = either(any, moved);
         any = now;

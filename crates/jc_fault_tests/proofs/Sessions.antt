@@ -11,7 +11,7 @@ use Rattle.std.specs.List.{All}
 use Rattle.std.proofs.lemmas.List.Elements.{All-nil, All-push, All-weaker}
 use Rattle.jc_cache.specs.Caches.{CacheState}
 use Rattle.jc_cache.specs.Sessions.{IsOf, MayCall}
-use Rattle.jc_cache.specs.declared.session.Session.{Session}
+use Rattle.jc_session.specs.declared.session.Session.{Session}
 
 pub one_more : {X : Type 0} (xs ys : List X) (x : X) (P : CacheState → X → Type 0) (k l : CacheState) → l ≡ k → ys ≡ xs ++ x ∷ [] → All (P k) xs → P l x → All (P l) ys
 one_more {X} xs ys x P k l same is all here =

@@ -8,7 +8,7 @@ use Rattle.jc_types.specs.declared.caller.Caller.{Caller}
 use Rattle.jc_types.specs.declared.config.Config.{Config}
 use Rattle.jc_types.specs.declared.refusal.Refusal.{Refusal}
 use Rattle.jc_model.specs.declared.event.Op.{Op}
-use Rattle.jc_model.specs.declared.event.Op.TheVariants.{Get, ContainsKey, Put, GetAndPut, PutIfAbsent, Remove, RemoveIf, GetAndRemove, Replace, ReplaceIf, GetAndReplace, Clear, LoadAll, Invoke}
+use Rattle.jc_model.specs.declared.event.Op.TheVariants.{Get, LoadAll, Invoke}
 use Rattle.jc_model.specs.declared.event.LoadAnswer.{LoadAnswer}
 use Rattle.jc_model.specs.declared.event.LoadAnswer.TheVariants as load
 use Rattle.jc_model.specs.declared.event.WriteAnswer.{WriteAnswer}
@@ -23,25 +23,13 @@ use Rattle.jc_model.specs.declared.event.Event.TheVariants.{Step}
 use Rattle.jc_model.specs.Cache.{Bytes}
 use Rattle.jc_model.specs.Table.{answers_fit, reply_after, reply_by_fault, loader_ask, load_fits, write_ask, early_fault, first_fault, is_load_given, is_process_given, is_write_given, is_invoke, outcome_of}
 use Rattle.jc_model.specs.Group.{load_only, shared_event}
+use Rattle.jc_model.proofs.CallerLemmas.{is_numbered}
 use Rattle.jc_history.specs.Values.{repeats_outside, values_in_op, values_in_load, values_in_effect, values_in_process, values_in_reply, IsStorable}
 
 -- 1. At most so many values.
 
 pub few_in_op : (op : Op) → values_in_op op ≤ 2
-few_in_op Get = omega arith
-few_in_op ContainsKey = omega arith
-few_in_op (Put value) = omega arith
-few_in_op (GetAndPut value) = omega arith
-few_in_op (PutIfAbsent value) = omega arith
-few_in_op Remove = omega arith
-few_in_op (RemoveIf value) = omega arith
-few_in_op GetAndRemove = omega arith
-few_in_op (Replace value) = omega arith
-few_in_op (ReplaceIf old new) = omega arith
-few_in_op (GetAndReplace value) = omega arith
-few_in_op Clear = omega arith
-few_in_op (LoadAll replace) = omega arith
-few_in_op Invoke = omega arith
+few_in_op op = (is_numbered op).few
 
 pub few_in_load : (answer : LoadAnswer) → values_in_load answer ≤ 1
 few_in_load load.NotAsked = omega arith

@@ -2,6 +2,7 @@
 use Rattle.std.proofs.Common.{◌≡◌, ℕ, ◌<◌, ◌≤◌, ◌^◌, true, false, List, [], ◌∷◌, ◌++◌, length, leb, Bool, cond, Option, Some, None, refl, sym, ap, ◌∙◌, append_assoc, arith}
 use Rattle.std.specs.Int.{w16, w32, w64, to_le_bytes}
 use Rattle.std.proofs.Math.Dec.{eqb-suc-zero}
+use Rattle.std.specs.List.{AllByRecursion}
 use Rattle.std.specs.Cmp.Lexicographic.{same_text}
 use Rattle.std.proofs.lemmas.Bool.{le-leb}
 use Rattle.std.proofs.lemmas.List.{take_at, drop_at, length-append}
@@ -12,7 +13,6 @@ use Rattle.jc_types.specs.declared.refusal.Refusal.TheVariants.{HistoryFull, Bus
 use Rattle.jc_types.specs.declared.config.Field.TheVariants.{Stripes, Capacity, History}
 use Rattle.jc_types.specs.declared.limits.TheConstants.{KEY_MAX, VALUE_MAX}
 use Rattle.jc_model.specs.declared.event.Op.{Op}
-use Rattle.jc_model.specs.declared.event.Op.TheVariants.{Get, ContainsKey, Put, GetAndPut, PutIfAbsent, Remove, RemoveIf, GetAndRemove, Replace, ReplaceIf, GetAndReplace, Clear, LoadAll, Invoke}
 use Rattle.jc_model.specs.declared.event.LoadAnswer.{LoadAnswer}
 use Rattle.jc_model.specs.declared.event.LoadAnswer.TheVariants as load
 use Rattle.jc_model.specs.declared.event.WriteAnswer.{WriteAnswer}
@@ -28,9 +28,10 @@ use Rattle.jc_model.specs.declared.event.Cause.TheVariants.{Full, Memory}
 use Rattle.jc_model.specs.declared.event.Event.{Event}
 use Rattle.jc_model.specs.declared.event.Event.TheVariants.{Step, Evict}
 use Rattle.jc_model.specs.Cache.{Bytes}
-use Rattle.jc_model.specs.Table.{holds}
+use Rattle.jc_model.specs.Table.{holds, op_number, op_values, value_count, numbered_op}
+use Rattle.jc_model.proofs.CallerLemmas.{AreFirst, is_numbered, numbered}
 use Rattle.jc_history.specs.Values.{value_from_outside, repeats_outside}
-use Rattle.jc_history.specs.Encoding.{text_bytes, optional_bytes, caller_bytes, op_bytes, load_bytes, write_bytes, effect_bytes, process_bytes, out_bytes, refusal_bytes, reply_bytes, event_bytes}
+use Rattle.jc_history.specs.Encoding.{text_bytes, optional_bytes, caller_bytes, values_bytes, op_bytes, load_bytes, write_bytes, effect_bytes, process_bytes, out_bytes, refusal_bytes, reply_bytes, event_bytes}
 use Rattle.jc_history.specs.Encodable.{IsCode, IsKeyText, IsValueText, IsEncodableOptional, IsEncodableCaller, IsEncodableOp, IsEncodableLoad, IsEncodableWrite, IsEncodableEffect, IsEncodableProcess, IsEncodableOut, IsEncodableRefusal, IsEncodableReply, IsEncodable}
 use Rattle.jc_history.specs.Decoding.{Decoder, byte, number_2, number_4, number_8, decode_text, decode_value, decode_key, decode_optional, decode_caller, decode_op, decode_load, decode_write, decode_effect, decode_process, decode_out, decode_refusal, decode_reply, decode_step, decode_event}
 
@@ -74,23 +75,23 @@ unfolding decode_caller
 decode_caller-caller_bytes caller rest h =
     rw (number_4-to_le_bytes caller.session (to_le_bytes w64 caller.call ++ rest) h.session_is, number_8-to_le_bytes caller.call rest h.call_is) refl
 
-decode_op-op_bytes : (op : Op) (rest : List ℕ) → IsEncodableOp op → decode_op (op_bytes op ++ rest) ≡ (op, rest)
+two_parts : (a b rest : List ℕ) → (a ++ (b ++ [])) ++ rest ≡ a ++ (b ++ rest)
+two_parts a b rest = append_assoc a (b ++ []) rest ∙ ap (λ (l : List ℕ). a ++ l) (append_assoc b [] rest)
+
+-- an operation by its number and its values
+decode_numbered : (number : ℕ) (values : List Bytes) (op : Op) (rest : List ℕ) → value_count number ≡ length values → length values ≤ 2
+    → ((first second : Bytes) → AreFirst values first second → numbered_op number first second ≡ op) → AllByRecursion IsValueText values
+    → decode_op (number ∷ (values_bytes values ++ rest)) ≡ (op, rest)
 unfolding decode_op byte
-decode_op-op_bytes Get rest h = refl
-decode_op-op_bytes ContainsKey rest h = refl
-decode_op-op_bytes (Put value) rest h = rw (decode_value-text_bytes value rest h) refl
-decode_op-op_bytes (GetAndPut value) rest h = rw (decode_value-text_bytes value rest h) refl
-decode_op-op_bytes (PutIfAbsent value) rest h = rw (decode_value-text_bytes value rest h) refl
-decode_op-op_bytes Remove rest h = refl
-decode_op-op_bytes (RemoveIf value) rest h = rw (decode_value-text_bytes value rest h) refl
-decode_op-op_bytes GetAndRemove rest h = refl
-decode_op-op_bytes (Replace value) rest h = rw (decode_value-text_bytes value rest h) refl
-decode_op-op_bytes (ReplaceIf old new) rest h = rw (append_assoc old (text_bytes new) rest, decode_value-text_bytes old (text_bytes new ++ rest) h.0, decode_value-text_bytes new rest h.1) refl
-decode_op-op_bytes (GetAndReplace value) rest h = rw (decode_value-text_bytes value rest h) refl
-decode_op-op_bytes Clear rest h = refl
-decode_op-op_bytes (LoadAll false) rest h = refl
-decode_op-op_bytes (LoadAll true) rest h = refl
-decode_op-op_bytes Invoke rest h = refl
+decode_numbered number [] op rest count few same h = rw count (ap (λ (o : Op). (o, rest)) (same [] [] tt))
+decode_numbered number (value ∷ []) op rest count few same h =
+    rw (count, append_assoc (text_bytes value) [] rest, decode_value-text_bytes value rest h.0) (ap (λ (o : Op). (o, rest)) (same value [] refl))
+decode_numbered number (first ∷ second ∷ []) op rest count few same h =
+    rw (count, two_parts (text_bytes first) (text_bytes second) rest, decode_value-text_bytes first (text_bytes second ++ rest) h.0, decode_value-text_bytes second rest h.1.0) (ap (λ (o : Op). (o, rest)) (same first second (refl, refl)))
+decode_numbered number (first ∷ second ∷ third ∷ values) op rest count few same h = absurd (omega arith)
+
+decode_op-op_bytes : (op : Op) (rest : List ℕ) → IsEncodableOp op → decode_op (op_bytes op ++ rest) ≡ (op, rest)
+decode_op-op_bytes op rest h = decode_numbered (op_number op) (op_values op) op rest (is_numbered op).count (is_numbered op).few (numbered op) h
 
 decode_load-load_bytes : (answer : LoadAnswer) (rest : List ℕ) → IsEncodableLoad answer → decode_load (load_bytes answer ++ rest) ≡ (answer, rest)
 unfolding decode_load byte

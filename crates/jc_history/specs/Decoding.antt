@@ -32,7 +32,6 @@ use Rattle.jc_types.specs.declared.refusal.Refusal.TheVariants.{HistoryFull, Bus
 use Rattle.jc_types.specs.declared.config.Field.TheVariants.{Stripes, Capacity, History}
 use Rattle.jc_types.specs.declared.limits.TheConstants.{KEY_MAX, VALUE_MAX}
 use Rattle.jc_model.specs.declared.event.Op.{Op}
-use Rattle.jc_model.specs.declared.event.Op.TheVariants.{Get, ContainsKey, Put, GetAndPut, PutIfAbsent, Remove, RemoveIf, GetAndRemove, Replace, ReplaceIf, GetAndReplace, Clear, LoadAll, Invoke}
 use Rattle.jc_model.specs.declared.event.LoadAnswer.{LoadAnswer}
 use Rattle.jc_model.specs.declared.event.LoadAnswer.TheVariants as load
 use Rattle.jc_model.specs.declared.event.WriteAnswer.{WriteAnswer}
@@ -47,6 +46,7 @@ use Rattle.jc_model.specs.declared.event.Reply.TheVariants as reply
 use Rattle.jc_model.specs.declared.event.Cause.TheVariants.{Full, Memory}
 use Rattle.jc_model.specs.declared.event.Event.{Event}
 use Rattle.jc_model.specs.declared.event.Event.TheVariants.{Step, Evict}
+use Rattle.jc_model.specs.Table.{value_count, numbered_op}
 use Rattle.jc_history.specs.Values.{value_from_outside}
 
 -- a decoder of an X: it gives the X and the bytes after it
@@ -114,22 +114,10 @@ decode_caller = do
 
 unfoldable pub decode_op : Decoder Op
 decode_op = do
-  tag ← byte
-  if tag == 0 then give Get
-      else if tag == 1 then give ContainsKey
-      else if tag == 2 then with_value Put
-      else if tag == 3 then with_value GetAndPut
-      else if tag == 4 then with_value PutIfAbsent
-      else if tag == 5 then give Remove
-      else if tag == 6 then with_value RemoveIf
-      else if tag == 7 then give GetAndRemove
-      else if tag == 8 then with_value Replace
-      else if tag == 9 then (decode_value >>= λ old. with_value (ReplaceIf old))
-      else if tag == 10 then with_value GetAndReplace
-      else if tag == 11 then give Clear
-      else if tag == 12 then give (LoadAll false)
-      else if tag == 13 then give (LoadAll true)
-      else give Invoke
+  number ← byte
+  if value_count number == 0 then give (numbered_op number [] [])
+      else if value_count number == 1 then with_value (λ value. numbered_op number value [])
+      else (decode_value >>= λ first. with_value (numbered_op number first))
 
 unfoldable pub decode_load : Decoder LoadAnswer
 decode_load = do

@@ -16,12 +16,12 @@
 --     IsEncodableStep       all parts of a step can be encoded
 --     IsEncodable           all parts of an event can be encoded
 use Rattle.std.specs.Prelude.{ℕ, ◌<◌, ◌≤◌, ◌^◌, List, length, Option, None, Some}
+use Rattle.std.specs.List.{AllByRecursion}
 use Rattle.jc_types.specs.declared.caller.Caller.{Caller}
 use Rattle.jc_types.specs.declared.refusal.Refusal.{Refusal}
 use Rattle.jc_types.specs.declared.refusal.Refusal.TheVariants.{HistoryFull, Busy, TooManyInFlight, TooManyJoiners, LoaderFailed, WriterFailed, ProcessorFailed, OutOfMemory, TooManyKeys, BadConfig, NoLoader, NoWriter, TooManySessions, StillReserved, RepeatedKey}
 use Rattle.jc_types.specs.declared.limits.TheConstants.{KEY_MAX, VALUE_MAX}
 use Rattle.jc_model.specs.declared.event.Op.{Op}
-use Rattle.jc_model.specs.declared.event.Op.TheVariants.{Get, ContainsKey, Put, GetAndPut, PutIfAbsent, Remove, RemoveIf, GetAndRemove, Replace, ReplaceIf, GetAndReplace, Clear, LoadAll, Invoke}
 use Rattle.jc_model.specs.declared.event.Out.{Out}
 use Rattle.jc_model.specs.declared.event.LoadAnswer.{LoadAnswer}
 use Rattle.jc_model.specs.declared.event.LoadAnswer.TheVariants as load
@@ -33,6 +33,7 @@ use Rattle.jc_model.specs.declared.event.Effect.{Effect}
 use Rattle.jc_model.specs.declared.event.Effect.TheVariants as effect
 use Rattle.jc_model.specs.declared.event.Reply.{Reply}
 use Rattle.jc_model.specs.declared.event.Reply.TheVariants as reply
+use Rattle.jc_model.specs.Table.{op_values}
 use Rattle.jc_model.specs.declared.event.Event.{Event}
 use Rattle.jc_model.specs.declared.event.Event.TheVariants.{Step, Evict}
 
@@ -54,20 +55,7 @@ pub record IsEncodableCaller (caller : Caller) : Type 0 where
   pub call_is : caller.call < 2 ^ 64
 
 abbrev pub IsEncodableOp : Op → Type 0
-IsEncodableOp Get = Unit {0}
-IsEncodableOp ContainsKey = Unit {0}
-IsEncodableOp (Put value) = IsValueText value
-IsEncodableOp (GetAndPut value) = IsValueText value
-IsEncodableOp (PutIfAbsent value) = IsValueText value
-IsEncodableOp Remove = Unit {0}
-IsEncodableOp (RemoveIf value) = IsValueText value
-IsEncodableOp GetAndRemove = Unit {0}
-IsEncodableOp (Replace value) = IsValueText value
-IsEncodableOp (ReplaceIf old new) = IsValueText old × IsValueText new
-IsEncodableOp (GetAndReplace value) = IsValueText value
-IsEncodableOp Clear = Unit {0}
-IsEncodableOp (LoadAll replace) = Unit {0}
-IsEncodableOp Invoke = Unit {0}
+IsEncodableOp op = AllByRecursion IsValueText (op_values op)
 
 abbrev pub IsEncodableLoad : LoadAnswer → Type 0
 IsEncodableLoad load.NotAsked = Unit {0}

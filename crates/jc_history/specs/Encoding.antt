@@ -2,7 +2,8 @@
 --     text_bytes        the length of a text in two bytes, and then the text
 --     optional_bytes    0 if there is nothing, otherwise 1 and the bytes of the thing
 --     caller_bytes      the bytes of a caller
---     op_bytes          the bytes of an operation
+--     values_bytes      the bytes of values, one after another
+--     op_bytes          the bytes of an operation: its number and its values
 --     load_bytes        the bytes of the loader's answer
 --     write_bytes       the bytes of the writer's answer
 --     effect_bytes      the bytes of a processor's effect on its entry
@@ -18,7 +19,6 @@ use Rattle.jc_types.specs.declared.refusal.Refusal.{Refusal}
 use Rattle.jc_types.specs.declared.refusal.Refusal.TheVariants.{HistoryFull, Busy, TooManyInFlight, TooManyJoiners, LoaderFailed, WriterFailed, ProcessorFailed, OutOfMemory, TooManyKeys, BadConfig, NoLoader, NoWriter, TooManySessions, StillReserved, RepeatedKey}
 use Rattle.jc_types.specs.declared.config.Field.TheVariants.{Stripes, Capacity, History}
 use Rattle.jc_model.specs.declared.event.Op.{Op}
-use Rattle.jc_model.specs.declared.event.Op.TheVariants.{Get, ContainsKey, Put, GetAndPut, PutIfAbsent, Remove, RemoveIf, GetAndRemove, Replace, ReplaceIf, GetAndReplace, Clear, LoadAll, Invoke}
 use Rattle.jc_model.specs.declared.event.LoadAnswer.{LoadAnswer}
 use Rattle.jc_model.specs.declared.event.LoadAnswer.TheVariants as load
 use Rattle.jc_model.specs.declared.event.WriteAnswer.{WriteAnswer}
@@ -33,6 +33,7 @@ use Rattle.jc_model.specs.declared.event.Reply.TheVariants as reply
 use Rattle.jc_model.specs.declared.event.Cause.TheVariants.{Full, Memory}
 use Rattle.jc_model.specs.declared.event.Event.{Event}
 use Rattle.jc_model.specs.declared.event.Event.TheVariants.{Step, Evict}
+use Rattle.jc_model.specs.Table.{op_number, op_values}
 use Rattle.jc_history.specs.Values.{repeats_outside}
 
 -- the length of a text in two bytes, and then the text
@@ -47,22 +48,13 @@ optional_bytes bytes (Some x) = 1 ∷ bytes x
 abbrev pub caller_bytes : Caller → List ℕ
 caller_bytes caller = to_le_bytes w32 caller.session ++ to_le_bytes w64 caller.call
 
+-- values, one after another
+abbrev pub values_bytes : List (List ℕ) → List ℕ
+values_bytes [] = []
+values_bytes (value ∷ values) = text_bytes value ++ values_bytes values
+
 abbrev pub op_bytes : Op → List ℕ
-op_bytes Get = 0 ∷ []
-op_bytes ContainsKey = 1 ∷ []
-op_bytes (Put value) = 2 ∷ text_bytes value
-op_bytes (GetAndPut value) = 3 ∷ text_bytes value
-op_bytes (PutIfAbsent value) = 4 ∷ text_bytes value
-op_bytes Remove = 5 ∷ []
-op_bytes (RemoveIf value) = 6 ∷ text_bytes value
-op_bytes GetAndRemove = 7 ∷ []
-op_bytes (Replace value) = 8 ∷ text_bytes value
-op_bytes (ReplaceIf old new) = 9 ∷ (text_bytes old ++ text_bytes new)
-op_bytes (GetAndReplace value) = 10 ∷ text_bytes value
-op_bytes Clear = 11 ∷ []
-op_bytes (LoadAll false) = 12 ∷ []
-op_bytes (LoadAll true) = 13 ∷ []
-op_bytes Invoke = 14 ∷ []
+op_bytes op = op_number op ∷ values_bytes (op_values op)
 
 abbrev pub load_bytes : LoadAnswer → List ℕ
 load_bytes load.NotAsked = 0 ∷ []

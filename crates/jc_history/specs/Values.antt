@@ -11,10 +11,9 @@
 --     values_in_reply       the number of values of a reply, beside those from outside
 --     values_in             the number of values of an event
 --     IsStorable            an event has no more values than an event may have
-use Rattle.std.specs.Prelude.{ℕ, ◌+◌, ◌≤◌, Bool, Option, None, Some, if◌then◌else◌}
+use Rattle.std.specs.Prelude.{ℕ, ◌+◌, ◌≤◌, length, Bool, Option, None, Some, if◌then◌else◌}
 use Rattle.std.specs.Option.{option_len, option_or}
 use Rattle.jc_model.specs.declared.event.Op.{Op}
-use Rattle.jc_model.specs.declared.event.Op.TheVariants.{Get, ContainsKey, Put, GetAndPut, PutIfAbsent, Remove, RemoveIf, GetAndRemove, Replace, ReplaceIf, GetAndReplace, Clear, LoadAll, Invoke}
 use Rattle.jc_model.specs.declared.event.LoadAnswer.{LoadAnswer}
 use Rattle.jc_model.specs.declared.event.LoadAnswer.TheVariants as load
 use Rattle.jc_model.specs.declared.event.ProcessAnswer.{ProcessAnswer}
@@ -27,7 +26,7 @@ use Rattle.jc_model.specs.declared.event.Reply.TheVariants as reply
 use Rattle.jc_model.specs.declared.event.Event.{Event}
 use Rattle.jc_model.specs.declared.event.Event.TheVariants.{Step, Evict}
 use Rattle.jc_model.specs.Cache.{Bytes}
-use Rattle.jc_model.specs.Table.{holds, outcome_of, value_after_load}
+use Rattle.jc_model.specs.Table.{op_values, holds, outcome_of, value_after_load}
 use Rattle.jc_history.specs.declared.room.TheConstants.{EVENT_VALUES}
 
 -- the value that a reply may repeat: the one that the processor answered, otherwise the one that the loader found
@@ -38,20 +37,7 @@ abbrev pub repeats_outside : Out → Bytes → Bool
 repeats_outside out value = holds (value_from_outside out) value
 
 abbrev pub values_in_op : Op → ℕ
-values_in_op Get = 0
-values_in_op ContainsKey = 0
-values_in_op (Put value) = 1
-values_in_op (GetAndPut value) = 1
-values_in_op (PutIfAbsent value) = 1
-values_in_op Remove = 0
-values_in_op (RemoveIf value) = 1
-values_in_op GetAndRemove = 0
-values_in_op (Replace value) = 1
-values_in_op (ReplaceIf old new) = 2
-values_in_op (GetAndReplace value) = 1
-values_in_op Clear = 0
-values_in_op (LoadAll replace) = 0
-values_in_op Invoke = 0
+values_in_op op = length (op_values op)
 
 abbrev pub values_in_load : LoadAnswer → ℕ
 values_in_load load.NotAsked = 0

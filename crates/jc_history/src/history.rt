@@ -11,8 +11,8 @@ ghost use Rattle.jc_history.specs.Values.{IsStorable};
 ghost use Rattle.jc_history.specs.Stored.{events_at, IsComplete};
 ghost use Rattle.jc_history.specs.HistoryInside.{CanAppend, AppendsEvent};
 
-use crate::decoding::{decode_event, decode_reply_of_step};
-use crate::encoding::{encode_event, encode_hit, encode_step};
+use crate::codec::decoding::{decode_event, decode_reply_of_step};
+use crate::codec::encoding::{encode_event, encode_hit, encode_step};
 use crate::lent::LentStep;
 use crate::room::EVENT_ROOM;
 use jc_model::{Event, Reply, Statistics};

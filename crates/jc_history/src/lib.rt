@@ -1,7 +1,7 @@
 //! The events of one stripe, stored as bytes, and the room that is reserved for later events.
 //!
 //! - [`history`] has the history.
-//! - `encoding` appends the bytes of an event, and `decoding` reads the event again.
+//! - `codec` appends the bytes of an event, and reads the event again.
 //! - `room` states how many bytes an event takes at most.
 //!
 //! Why it is so:
@@ -13,8 +13,7 @@
 //!   (`Values.antt`). A reply that repeats a value from outside is one byte.
 #![tactic(auto)]
 
-mod decoding;
-mod encoding;
+mod codec;
 pub mod history;
 mod lent;
 mod room;

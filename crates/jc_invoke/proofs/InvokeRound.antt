@@ -7,49 +7,15 @@
 --     all_called       each reservation that a round has made is of a key of the call
 --     ready_later      the memory for what the next round asks outside
 --     may_run          the processor may be run for each ticket that a round has
---     asked_by, told_of    what was answered for the keys that a round has reserved
+--     told_of          what was answered for the keys that a round has reserved
 --     calls_then       the calls of rounds, and of those after them
 --     have_none, have_same, have_more    what the rounds have asked
-use Rattle.std.specs.declared.dyn_box.DynBox.{DynBox}
-use Rattle.std.proofs.Common.{◌≡◌, ◌≤◌, ◌++◌, ℕ, zero, suc, List, [], ◌∷◌, map, slice_get, Bool, true, Option, None, Some, IfNone, IfSome, refl, sym, ap, subst, ◌∙◌}
-use Rattle.std.proofs.lemmas.List.{map-append}
-use Rattle.std.proofs.lemmas.Option.{same_Some}
-use Rattle.std.specs.Global.{Vec}
-use Rattle.std.specs.List.{All, AllByRecursion, IsAmong}
+use Rattle.jc_invoke.proofs.Common.{CacheState, HasAsked, Session, HaveAsked, IsInvoked, IsReady, IsRoundAsked, IsToBeRun, MayRunEach, LeavesBatches, IsRoomFor, IsNextRoom, CallsEach, CallsRound, RunBehavior, in_boxes, Batches, RoundRoom, Bytes, Op, Clear, Get, Invoke, LoadAll, KeepsType, IsOutAt, all_map, all_mapped, all_out, among_there, distinct_reserved, types_on, RunState, done_room, key_run, reservations_of, AsksFor, reserved_keys, HasReserved, IsTold, KeepsTickets, IsShown, KeyRun, ProcessAll, ProcessRound, Round, EachTakesMemory, ops_of, ops_with, Past, are_fresh, reserved_by, Answers, BulkCall, Progress, TicketClaim, asks_processor, entry_seen, is_loadable, Reservation, ◌≡◌, ◌≤◌, ◌++◌, ℕ, zero, suc, List, [], ◌∷◌, map, slice_get, Bool, true, Option, None, Some, IfNone, IfSome, refl, sym, ap, subst, ◌∙◌, map-append, same_Some, Vec, All, AllByRecursion, IsAmong, DynBox}
 use Rattle.jc_types.specs.declared.caller.Caller.{Caller}
 use Rattle.jc_types.specs.declared.config.Config.{Config}
-use Rattle.jc_model.specs.Cache.{Bytes}
-use Rattle.jc_model.specs.declared.event.Op.{Op}
-use Rattle.jc_model.specs.declared.event.Op.TheVariants.{Clear, Get, Invoke, LoadAll}
-use Rattle.jc_outside.specs.Calling.{KeepsType, LoadRelation}
-use Rattle.jc_outside.specs.CallingAll.{DeleteAllRelation, WriteAllRelation}
-use Rattle.jc_mutentry.specs.Running.{ProcessRelation}
-use Rattle.jc_session.specs.Boxed.{boxed}
 use Rattle.jc_stripe.specs.Refusals.{first_asked}
-use Rattle.jc_stripe.specs.Tickets.{TicketClaim, asks_processor, entry_seen, is_loadable}
-use Rattle.jc_stripe.specs.declared.ticket.Reservation.{Reservation}
-use Rattle.jc_cache.specs.Caches.{CacheState}
-use Rattle.jc_cache.specs.Sessions.{HasAsked}
-use Rattle.jc_cache.specs.declared.session.Session.{Session}
-use Rattle.jc_rounds.specs.declared.answers.Answers.{Answers}
-use Rattle.jc_rounds.specs.declared.bulk_call.BulkCall.{BulkCall}
-use Rattle.jc_rounds.specs.declared.progress.Progress.{Progress}
-use Rattle.jc_rounds.specs.Answers.{RunState, done_room, key_run, reservations_of}
-use Rattle.jc_rounds.specs.Asking.{AsksFor, reserved_keys}
 use Rattle.jc_rounds.specs.KeyProgress.{is_reserved}
 use Rattle.jc_rounds.specs.Keys.{IsTicketFor}
-use Rattle.jc_rounds.specs.Rounds.{IsShown, KeyRun, ProcessAll, ProcessRound, Round}
-use Rattle.jc_rounds.specs.Ran.{HasReserved, IsTold, KeepsTickets}
-use Rattle.jc_rounds.specs.Running.{EachTakesMemory}
-use Rattle.jc_rounds.specs.Targets.{ops_of, ops_with}
-use Rattle.jc_rounds.specs.Underway.{Past, are_fresh, reserved_by}
-use Rattle.jc_rounds.proofs.CallerLemmas.{IsOutAt, all_map, all_mapped, all_out, among_there, distinct_reserved, types_on}
-use Rattle.jc_invoke.specs.declared.room.Batches.{Batches}
-use Rattle.jc_invoke.specs.declared.room.RoundRoom.{RoundRoom}
-use Rattle.jc_invoke.specs.InvokeRounds.{HaveAsked, IsInvoked, IsReady}
-use Rattle.jc_invoke.specs.Processing.{IsRoundAsked, IsToBeRun, MayRunEach}
-use Rattle.jc_invoke.specs.RoundRooms.{LeavesBatches, IsRoomFor, IsNextRoom}
-use Rattle.jc_invoke.specs.Runs.{CallsEach}
 use Rattle.jc_invoke.proofs.RoundAsked.{keys_run}
 
 -- 1. Keys.
@@ -151,37 +117,27 @@ module _ {I J : Type 0} {D : I → Type 0} {E : J → Type 0} (cache : CacheStat
 
 -- 3. What is asked outside.
 
-module _ {P L W : Type 0} (processes : ProcessRelation P) (process_state : P → List ℕ) (loads : LoadRelation L) (load_state : L → List ℕ)
-    (writes_all : WriteAllRelation W) (deletes_all : DeleteAllRelation W) (write_state : W → List ℕ) (args : List Bytes) (through : Bool) where
+module _ {P L W : Type 0} (behavior : RunBehavior L W P) (args : List Bytes) (through : Bool) where
   pub calls_then : (rounds more : List ProcessRound) (p q r : P) (l m n : Option L) (u v w : Option W)
-      → CallsEach processes process_state loads load_state writes_all deletes_all write_state args through p l u rounds q m v
-      → CallsEach processes process_state loads load_state writes_all deletes_all write_state args through q m v more r n w
-      → CallsEach processes process_state loads load_state writes_all deletes_all write_state args through p l u (rounds ++ more) r n w
+      → CallsEach behavior args through p l u rounds q m v
+      → CallsEach behavior args through q m v more r n w
+      → CallsEach behavior args through p l u (rounds ++ more) r n w
   calls_then [] more p q r l m n u v w each later =
-      subst (λ x. CallsEach processes process_state loads load_state writes_all deletes_all write_state args through x l u more r n w) each.0
-      (subst (λ x. CallsEach processes process_state loads load_state writes_all deletes_all write_state args through q x u more r n w) each.1
-      (subst (λ x. CallsEach processes process_state loads load_state writes_all deletes_all write_state args through q m x more r n w) each.2 later))
+      subst (λ x. CallsEach behavior args through x l u more r n w) each.0
+      (subst (λ x. CallsEach behavior args through q x u more r n w) each.1
+      (subst (λ x. CallsEach behavior args through q m x more r n w) each.2 later))
   calls_then (x ∷ rounds) more p q r l m n u v w each later =
       (each.0, each.1, each.2, each.3, calls_then rounds more each.0 q r each.1 m n each.2 v w each.4 later)
 
 module _ {I J P Z : Type 0} {D : I → Type 0} {E : J → Type 0} {F : P → Type 0}
-    (loads : LoadRelation ((i : I) × D i)) (load_state : (i : I) × D i → List ℕ)
-    (writes_all : WriteAllRelation ((j : J) × E j)) (deletes_all : DeleteAllRelation ((j : J) × E j)) (write_state : (j : J) × E j → List ℕ)
-    (processes : ProcessRelation (DynBox P Z F)) (process_state : DynBox P Z F → List ℕ) (args : List Bytes) (cache : CacheState) where
-  abbrev Asked : Session I J D E → Bool → List TicketClaim → DynBox P Z F → Session I J D E → Answers → DynBox P Z F → Type 0
-  Asked mid through tickets processor after answers p =
-      HasAsked mid after (IsRoundAsked loads load_state writes_all deletes_all write_state processes process_state args through mid.agent tickets processor after.agent answers p)
+    (behavior : RunBehavior ((i : I) × D i) ((j : J) × E j) (DynBox P Z F)) (args : List Bytes) (cache : CacheState) where
+  abbrev Asked : List Bytes → Session I J D E → Bool → List TicketClaim → DynBox P Z F → Session I J D E → Answers → DynBox P Z F → Type 0
+  Asked given mid through tickets processor after answers p = HasAsked mid after (IsRoundAsked behavior given through mid.agent tickets processor after.agent answers p)
 
-  -- the room is the cache's, and the arguments are those of the call
-  pub asked_by : (mid after : Session I J D E) (through : Bool) (tickets : List TicketClaim) (processor p : DynBox P Z F) (answers : Answers) (given : List Bytes) → given ≡ args → through ≡ cache.config.write_through
-      → HasAsked mid after (IsRoundAsked loads load_state writes_all deletes_all write_state processes process_state given through mid.agent tickets processor after.agent answers p) → Asked mid cache.config.write_through tickets processor after answers p
-  asked_by mid after through tickets processor p answers given same_args same has =
-      subst (λ t. Asked mid t tickets processor after answers p) same
-      (subst (λ xs. HasAsked mid after (IsRoundAsked loads load_state writes_all deletes_all write_state processes process_state xs through mid.agent tickets processor after.agent answers p)) same_args has)
-
-  pub told_of : (past : Past) (mid after : Session I J D E) (begun filled : BulkCall) (v : Vec TicketClaim) (processor p : DynBox P Z F) (answers : Answers) → HasReserved cache past mid begun → IsInvoked begun
-      → KeepsTickets begun.tickets v → filled ≡ record begun { tickets = v } → (has : Asked mid cache.config.write_through begun.tickets.items processor after answers p) → IsTold cache past (ProcessAll has.asked.round) after filled answers None
-  told_of past mid after begun filled v processor p answers reserved invoked kept is has =
+  -- `given` are the arguments that the processor was run with
+  pub told_of : (given : List Bytes) (past : Past) (mid after : Session I J D E) (begun filled : BulkCall) (v : Vec TicketClaim) (processor p : DynBox P Z F) (through : Bool) (answers : Answers) → HasReserved cache past mid begun → IsInvoked begun → through ≡ cache.config.write_through
+      → KeepsTickets begun.tickets v → filled ≡ record begun { tickets = v } → (has : Asked given mid through begun.tickets.items processor after answers p) → IsTold cache past (ProcessAll has.asked.round) after filled answers None
+  told_of given past mid after begun filled v processor p through answers reserved invoked same kept is has =
       let a = has.asked in
       subst (λ (x : BulkCall). IsTold cache past (ProcessAll a.round) after x answers None) (sym is) (record {
         asking = mid;
@@ -194,13 +150,13 @@ module _ {I J P Z : Type 0} {D : I → Type 0} {E : J → Type 0} {F : P → Typ
         keys = ap (map (λ (run : KeyRun). run.key)) a.runs_are ∙ keys_run a.runs ∙ ap reserved_keys a.calls_are;
         asks = asks_for cache.config (ops_of begun.targets.now) a.round a.runs (map reserved_by begun.tickets.items) a.runs_are a.calls_are (all_called cache past mid begun invoked reserved);
         fault_is = refl;
-        answered = a.answered cache.config refl;
+        answered = a.answered cache.config (sym same);
       })
 
   -- what the rounds have asked
 
   abbrev Have : Session I J D E → DynBox P Z F → Session I J D E → DynBox P Z F → List Round → Type 0
-  Have old processor new p rounds = HaveAsked loads load_state writes_all deletes_all write_state processes process_state args cache old processor new p rounds
+  Have old processor new p rounds = HaveAsked behavior args cache old processor new p rounds
 
   pub have_none : (session : Session I J D E) (processor : DynBox P Z F) → Have session processor session processor []
   have_none session processor = record { runs = []; rounds_are = refl; calls = (refl, refl, refl); types = (refl, refl); processor_type = refl }
@@ -209,7 +165,7 @@ module _ {I J P Z : Type 0} {D : I → Type 0} {E : J → Type 0} {F : P → Typ
   have_same old mid new processor p rounds same have = record {
     runs = have.runs;
     rounds_are = have.rounds_are;
-    calls = subst (λ h. CallsEach processes process_state (boxed loads) (boxed load_state) (boxed writes_all) (boxed deletes_all) (boxed write_state) args cache.config.write_through processor old.agent.hands.outside.loader old.agent.hands.outside.writer have.runs p h.outside.loader h.outside.writer) (sym same) have.calls;
+    calls = subst (λ h. CallsEach (in_boxes behavior) args cache.config.write_through processor old.agent.hands.outside.loader old.agent.hands.outside.writer have.runs p h.outside.loader h.outside.writer) (sym same) have.calls;
     types = (
       subst (λ h. KeepsType old.agent.hands.outside.loader h.outside.loader) (sym same) have.types.0,
       subst (λ h. KeepsType old.agent.hands.outside.writer h.outside.writer) (sym same) have.types.1,
@@ -217,18 +173,22 @@ module _ {I J P Z : Type 0} {D : I → Type 0} {E : J → Type 0} {F : P → Typ
     processor_type = have.processor_type;
   }
 
-  pub have_more : (old mid asking after : Session I J D E) (processor p q : DynBox P Z F) (rounds : List Round) (tickets : List TicketClaim) (answers : Answers) → asking.agent.hands ≡ mid.agent.hands → Have old processor mid p rounds
-      → (has : Asked asking cache.config.write_through tickets p after answers q) → Have old processor after q (rounds ++ ProcessAll has.asked.round ∷ [])
+  -- `new` is the session once the round is over
+  pub have_more : (old mid asking after new : Session I J D E) (processor p q : DynBox P Z F) (rounds : List Round) (tickets : List TicketClaim) (through : Bool) (answers : Answers) (given : List Bytes) → asking.agent.hands ≡ mid.agent.hands → Have old processor mid p rounds
+      → given ≡ args → through ≡ cache.config.write_through → (has : Asked given asking through tickets p after answers q) → new.agent.hands ≡ after.agent.hands → Have old processor new q (rounds ++ ProcessAll has.asked.round ∷ [])
   unfolding have_same
-  have_more old mid asking after processor p q rounds tickets answers from have has =
+  have_more old mid asking after new processor p q rounds tickets through answers given from have same_args same has to =
       let a = has.asked in
       let here = have_same old mid asking processor p rounds from have in
-      record {
+      let asked : CallsRound (in_boxes behavior) args cache.config.write_through p asking.agent.hands.outside.loader asking.agent.hands.outside.writer a.round q after.agent.hands.outside.loader after.agent.hands.outside.writer =
+      subst (λ xs. CallsRound (in_boxes behavior) xs cache.config.write_through p asking.agent.hands.outside.loader asking.agent.hands.outside.writer a.round q after.agent.hands.outside.loader after.agent.hands.outside.writer) same_args
+      (subst (λ t. CallsRound (in_boxes behavior) given t p asking.agent.hands.outside.loader asking.agent.hands.outside.writer a.round q after.agent.hands.outside.loader after.agent.hands.outside.writer) same a.asked) in
+      have_same old after new processor q (rounds ++ ProcessAll a.round ∷ []) to (record {
         runs = have.runs ++ a.round ∷ [];
         rounds_are = ap (λ rs. rs ++ ProcessAll a.round ∷ []) have.rounds_are ∙ sym (map-append ProcessAll have.runs (a.round ∷ []));
-        calls = calls_then processes process_state (boxed loads) (boxed load_state) (boxed writes_all) (boxed deletes_all) (boxed write_state) args cache.config.write_through have.runs (a.round ∷ []) processor p q
+        calls = calls_then (in_boxes behavior) args cache.config.write_through have.runs (a.round ∷ []) processor p q
             old.agent.hands.outside.loader asking.agent.hands.outside.loader after.agent.hands.outside.loader old.agent.hands.outside.writer asking.agent.hands.outside.writer after.agent.hands.outside.writer here.calls
-            (q, after.agent.hands.outside.loader, after.agent.hands.outside.writer, a.asked, (refl, refl, refl));
+            (q, after.agent.hands.outside.loader, after.agent.hands.outside.writer, asked, (refl, refl, refl));
         types = types_on old.agent asking.agent after.agent here.types a.types;
         processor_type = a.processor_type ∙ have.processor_type;
-      }
+      })

@@ -4,29 +4,8 @@
 --     over           after the last round nothing is out, and each key has an end
 --     invoked        then the call is carried out
 --     left_as        the processor that is left, under whichever name
-use Rattle.std.specs.declared.dyn_box.DynBox.{DynBox}
-use Rattle.std.proofs.Common.{◌≡◌, ◌==◌, ℕ, List, [], length, map, refl, sym, ap, subst, ◌∙◌}
-use Rattle.std.specs.List.{IsDistinct}
-use Rattle.std.specs.Map.{keys_of}
-use Rattle.std.specs.Cmp.Lexicographic.{pointwise}
-use Rattle.jc_model.specs.Cache.{Bytes}
-use Rattle.jc_model.specs.declared.event.Op.TheVariants.{Invoke}
-use Rattle.jc_outside.specs.Calling.{LoadRelation}
-use Rattle.jc_outside.specs.CallingAll.{DeleteAllRelation, WriteAllRelation}
-use Rattle.jc_mutentry.specs.Running.{ProcessRelation}
-use Rattle.jc_cache.specs.Caches.{CacheState}
-use Rattle.jc_cache.specs.Calls.{next_call}
-use Rattle.jc_cache.specs.Sessions.{MayCall}
-use Rattle.jc_cache.specs.declared.session.Session.{Session}
-use Rattle.jc_rounds.specs.declared.bulk_call.BulkCall.{BulkCall}
-use Rattle.jc_rounds.specs.Ends.{KeyEnd, key_ends}
-use Rattle.jc_rounds.specs.Rounds.{ProcessAll, ProcessRound}
-use Rattle.jc_rounds.specs.Running.{HasRun, IsCarriedOut, with_rounds}
-use Rattle.jc_rounds.specs.Targets.{ops_of, ops_with}
-use Rattle.jc_rounds.specs.Underway.{IsBetween, IsNew, IsOver, Past}
-use Rattle.jc_rounds.proofs.CallerLemmas.{carried_out, may_again, none_run, opens_call}
-use Rattle.jc_invoke.specs.Invoke.{IsInvokedAll}
-use Rattle.jc_invoke.specs.InvokeRounds.{RunsOn}
+use Rattle.jc_invoke.proofs.Common.{CacheState, MayCall, Session, IsInvokedAll, RunsOn, RunBehavior, Bytes, Invoke, carried_out, may_again, none_run, opens_call, KeyEnd, key_ends, ProcessAll, ProcessRound, HasRun, IsCarriedOut, with_rounds, ops_of, ops_with, IsBetween, IsNew, IsOver, Past, BulkCall, ◌≡◌, ◌==◌, ℕ, List, [], length, map, refl, sym, ap, subst, ◌∙◌, pointwise, IsDistinct, keys_of, DynBox}
+use Rattle.jc_session.specs.Sessions.{next_call}
 use Rattle.jc_invoke.proofs.KeyResults.{as_many, keys_distinct}
 
 module _ {I J : Type 0} {D : I → Type 0} {E : J → Type 0} (cache : CacheState) (old mid : Session I J D E) (call : BulkCall) (keys : List Bytes) where
@@ -42,12 +21,10 @@ module _ {I J : Type 0} {D : I → Type 0} {E : J → Type 0} (cache : CacheStat
   has_begun may begun new are distinct = none_run cache before_it mid call refl (ap (λ (s : Session I J D E). s.seats.items) (sym begun)) (between may begun new are distinct)
 
 module _ {I J P Z : Type 0} {D : I → Type 0} {E : J → Type 0} {F : P → Type 0}
-    (loads : LoadRelation ((i : I) × D i)) (load_state : (i : I) × D i → List ℕ)
-    (writes_all : WriteAllRelation ((j : J) × E j)) (deletes_all : DeleteAllRelation ((j : J) × E j)) (write_state : (j : J) × E j → List ℕ)
-    (processes : ProcessRelation (DynBox P Z F)) (process_state : DynBox P Z F → List ℕ) (args : List Bytes) (cache : CacheState)
+    (behavior : RunBehavior ((i : I) × D i) ((j : J) × E j) (DynBox P Z F)) (args : List Bytes) (cache : CacheState)
     (old mid new : Session I J D E) (call later : BulkCall) (processor p : DynBox P Z F) (keys : List Bytes) where
   abbrev Made : Session I J D E → Type 0
-  Made session = RunsOn loads load_state writes_all deletes_all write_state processes process_state args cache (before_it cache old mid call keys) session call processor new later p
+  Made session = RunsOn behavior args cache (before_it cache old mid call keys) session call processor new later p
 
   targets_later : Made mid → ops_of call.targets.now ≡ ops_with Invoke keys → ops_of later.targets.now ≡ ops_with Invoke keys
   targets_later made are = ap (λ t. ops_of t.now) made.targets ∙ are
@@ -59,7 +36,7 @@ module _ {I J P Z : Type 0} {D : I → Type 0} {E : J → Type 0} {F : P → Typ
       (may_again cache after new later b, (b.no_tickets, b.no_joins), b.on.under.so_far.many ∙ ap length (targets_later made are) ∙ as_many Invoke keys)
 
   pub invoked : mid ≡ next_call old → ops_of call.targets.now ≡ ops_with Invoke keys → IsOver later → Made mid
-      → (rounds : List ProcessRound) × IsInvokedAll loads load_state writes_all deletes_all write_state processes process_state cache old keys args processor (key_ends (ops_with Invoke keys) later.progress.items) rounds new p
+      → (rounds : List ProcessRound) × IsInvokedAll behavior cache old keys args processor (key_ends (ops_with Invoke keys) later.progress.items) rounds new p
   invoked begun are late many =
       let past = before_it cache old mid call keys in
       let made : Made (next_call old) = subst Made begun many in
@@ -77,12 +54,7 @@ module _ {I J P Z : Type 0} {D : I → Type 0} {E : J → Type 0} {F : P → Typ
       )
 
 -- the processor that is left, under whichever name
-pub left_as : {I J P Z : Type 0} {D : I → Type 0} {E : J → Type 0} {F : P → Type 0}
-    (loads : LoadRelation ((i : I) × D i)) (load_state : (i : I) × D i → List ℕ)
-    (writes_all : WriteAllRelation ((j : J) × E j)) (deletes_all : DeleteAllRelation ((j : J) × E j)) (write_state : (j : J) × E j → List ℕ)
-    (processes : ProcessRelation (DynBox P Z F)) (process_state : DynBox P Z F → List ℕ) (args : List Bytes) (cache : CacheState)
-    (old new : Session I J D E) (keys : List Bytes) (processor p q : DynBox P Z F) (ends : List KeyEnd) (rounds : List ProcessRound)
-    → IsInvokedAll loads load_state writes_all deletes_all write_state processes process_state cache old keys args processor ends rounds new p → q ≡ p
-    → IsInvokedAll loads load_state writes_all deletes_all write_state processes process_state cache old keys args processor ends rounds new q
-left_as loads load_state writes_all deletes_all write_state processes process_state args cache old new keys processor p q ends rounds is same =
-    subst (λ x. IsInvokedAll loads load_state writes_all deletes_all write_state processes process_state cache old keys args processor ends rounds new x) (sym same) is
+pub left_as : {I J P Z : Type 0} {D : I → Type 0} {E : J → Type 0} {F : P → Type 0} (behavior : RunBehavior ((i : I) × D i) ((j : J) × E j) (DynBox P Z F)) (cache : CacheState)
+    (old new : Session I J D E) (keys args : List Bytes) (processor p q : DynBox P Z F) (ends : List KeyEnd) (rounds : List ProcessRound)
+    → IsInvokedAll behavior cache old keys args processor ends rounds new p → q ≡ p → IsInvokedAll behavior cache old keys args processor ends rounds new q
+left_as behavior cache old new keys args processor p q ends rounds is same = subst (IsInvokedAll behavior cache old keys args processor ends rounds new) (sym same) is

@@ -4,19 +4,9 @@
 --     results_more    the results of the keys before a place, with one key more
 --     results_new     the next key is in none of them
 --     results_whole   the results of all keys
-use Rattle.std.proofs.Common.{◌≡◌, ◌==◌, ◌<◌, ◌≤◌, ◌+◌, ◌++◌, ℕ, suc, List, [], ◌∷◌, length, take, get_or, false, Some, option_map, Result, slice_get, refl, sym, ap, subst}
-use Rattle.std.specs.List.{cons_option, list_any, IsDistinct}
-use Rattle.std.specs.Map.{keys_of}
-use Rattle.std.specs.Cmp.Lexicographic.{pointwise}
+use Rattle.jc_invoke.proofs.Common.{result_at, result_entries, result_of, Bytes, Op, entries_more, entries_new, entries_whole, same_keys, key_end, key_ends, ops_with, Progress, ◌≡◌, ◌==◌, ◌<◌, ◌≤◌, ◌+◌, ◌++◌, ℕ, suc, List, [], ◌∷◌, length, take, get_or, false, Some, option_map, Result, slice_get, refl, sym, ap, subst, pointwise, cons_option, list_any, IsDistinct, keys_of}
 use Rattle.jc_types.specs.declared.refusal.Refusal.{Refusal}
-use Rattle.jc_model.specs.Cache.{Bytes}
-use Rattle.jc_model.specs.declared.event.Op.{Op}
-use Rattle.jc_rounds.specs.declared.progress.Progress.{Progress}
 use Rattle.jc_rounds.specs.declared.progress.Progress.TheVariants.{Waiting, Reserved, Joined, Ended}
-use Rattle.jc_rounds.specs.Ends.{key_end, key_ends}
-use Rattle.jc_rounds.specs.Targets.{ops_with}
-use Rattle.jc_rounds.proofs.CallerLemmas.{entries_more, entries_new, entries_whole, same_keys}
-use Rattle.jc_invoke.specs.Invoke.{result_at, result_entries, result_of}
 
 pub as_many : (op : Op) (keys : List Bytes) → length (ops_with op keys) ≡ length keys
 as_many op [] = refl

@@ -5,36 +5,13 @@
 --     kind_asked       a call of the writer, as that of the round's changes of one kind
 --     unasked_writer   the writer isn't called for nothing
 --     round_asked      the round
-use Rattle.std.specs.declared.dyn_box.DynBox.{DynBox}
-use Rattle.std.proofs.Common.{◌≡◌, ◌==◌, ◌||◌, ℕ, zero, suc, List, [], ◌∷◌, map, reverse, Bool, true, false, Option, Result, Ok, refl, sym, ap, subst, ◌∙◌, arith}
-use Rattle.std.proofs.lemmas.Cmp.{nat_list_eq_equiv}
-use Rattle.std.proofs.lemmas.List.{reverse-reverse}
-use Rattle.std.specs.Global.{Vec}
-use Rattle.std.specs.List.{AllByRecursion, IsAmong}
-use Rattle.std.specs.Cmp.Lexicographic.{pointwise}
-use Rattle.jc_model.specs.Batches.{is_among}
-use Rattle.jc_model.specs.Cache.{Bytes}
+use Rattle.jc_invoke.proofs.Common.{Session, HasRunEach, IsRoundAsked, IsToBeRun, RunBehavior, RunsEach, WritesKind, batch_changes, in_boxes, RoundRoom, is_among, Bytes, Change, ProcessResult, KeepsType, no_batch, or_true, IsToBeAnswered, RunState, claims_after, key_of, key_run, reports, reservations_of, reserved_keys, WriteCallAsked, WritesBatch, wanted, KeyRun, ProcessAll, ProcessRound, keys_asked, reserved_by, Agent, Claim, TicketClaim, asks_processor, ◌≡◌, ◌==◌, ◌||◌, ℕ, zero, suc, List, [], ◌∷◌, map, reverse, Bool, true, false, Option, Result, Ok, refl, sym, ap, subst, ◌∙◌, arith, nat_list_eq_equiv, reverse-reverse, pointwise, Vec, AllByRecursion, IsAmong, DynBox}
 use Rattle.jc_model.specs.declared.event.WriteAnswer.{WriteAnswer}
 use Rattle.jc_model.specs.declared.event.WriteAnswer.TheVariants.{NotAsked}
-use Rattle.jc_outside.specs.Calling.{KeepsType, LoadRelation}
 use Rattle.jc_outside.specs.CallingAll.{DeleteAllRelation, WriteAllRelation, writes_done}
 use Rattle.jc_outside.specs.Done.{WriteResult}
-use Rattle.jc_mutentry.specs.Done.{ProcessResult}
-use Rattle.jc_mutentry.specs.Running.{ProcessRelation}
 use Rattle.jc_session.specs.Boxed.{boxed}
-use Rattle.jc_session.specs.declared.agent.Agent.{Agent}
-use Rattle.jc_stripe.specs.Tickets.{Claim, TicketClaim, asks_processor}
-use Rattle.jc_cache.specs.declared.session.Session.{Session}
 use Rattle.jc_rounds.specs.declared.answers.Answers.TheVariants as answers
-use Rattle.jc_rounds.specs.Answers.{IsToBeAnswered, RunState, claims_after, key_of, key_run, reports, reservations_of}
-use Rattle.jc_rounds.specs.Asking.{reserved_keys}
-use Rattle.jc_rounds.specs.OutsideCalls.{WriteCallAsked, WritesBatch, wanted}
-use Rattle.jc_rounds.specs.Rounds.{KeyRun, ProcessAll, ProcessRound, keys_asked}
-use Rattle.jc_rounds.specs.Underway.{reserved_by}
-use Rattle.jc_rounds.proofs.CallerLemmas.{no_batch, or_true}
-use Rattle.jc_invoke.specs.declared.room.RoundRoom.{RoundRoom}
-use Rattle.jc_invoke.specs.Processing.{HasRunEach, IsRoundAsked, IsToBeRun}
-use Rattle.jc_invoke.specs.Runs.{RunsEach, WritesKind, batch_changes}
 use Rattle.jc_invoke.proofs.Runs.{changes_are}
 
 -- 1. Keys.
@@ -60,15 +37,12 @@ each_among all (r ∷ runs) among = (among (key_run r) (zero, (omega arith, refl
 
 -- 2. The calls of the writer.
 
-pub kind_asked : {W : Type 0} (writes_all : WriteAllRelation W) (deletes_all : DeleteAllRelation W) (write_state : W → List ℕ) (through kind deletes : Bool) (runs : List RunState) (items : List Claim) (v w w' : Option W) (returned : Result (Unit {0}) ℕ) (said : Bytes → WriteAnswer)
-    → deletes ≡ kind → items ≡ claims_after through kind runs → w ≡ v → WritesBatch writes_all deletes_all write_state deletes (wanted items) w returned said w'
-    → WritesKind writes_all deletes_all write_state kind (batch_changes through kind (map key_run runs)) v said w'
-kind_asked writes_all deletes_all write_state through kind deletes runs items v w w' returned said same are from batch = (
-  returned,
-  subst (λ x. WritesBatch writes_all deletes_all write_state kind (batch_changes through kind (map key_run runs)) x returned said w') from
-      (subst (λ x. WritesBatch writes_all deletes_all write_state kind x w returned said w') (ap wanted are ∙ changes_are through kind runs)
-      (subst (λ x. WritesBatch writes_all deletes_all write_state x (wanted items) w returned said w') same batch)),
-)
+pub kind_asked : {L W P : Type 0} (behavior : RunBehavior L W P) (args : List Bytes) (through kind deletes : Bool) (runs : List RunState) (items : List Claim) (v w w' : Option W) (returned : Result (Unit {0}) ℕ) (said : Bytes → WriteAnswer)
+    → deletes ≡ kind → items ≡ claims_after through kind runs → w ≡ v → WritesBatch behavior.writes_all behavior.deletes_all behavior.write_state deletes (wanted items) w returned said w'
+    → WritesKind behavior args kind (batch_changes through kind (map key_run runs)) v said w'
+kind_asked {L} {W} {P} behavior args through kind deletes runs items v w w' returned said same are from batch =
+    let Writes : Bool → List (Bytes × Option Change) → Option W → Type 0 = λ k changes x. WritesBatch behavior.writes_all behavior.deletes_all behavior.write_state k changes x returned said w' in
+    (returned, subst (Writes kind (batch_changes through kind (map key_run runs))) from (subst (λ x. Writes kind x w) (ap wanted are ∙ changes_are through kind runs) (subst (λ k. Writes k (wanted items) w) same batch)))
 
 -- a writer that isn't called for nothing
 pub unasked_writer : {I J : Type 0} {D : I → Type 0} {E : J → Type 0}
@@ -86,16 +60,14 @@ unasked_writer writes_all deletes_all write_state session deletes items done non
 -- 3. The round.
 
 module _ {I J P Z : Type 0} {D : I → Type 0} {E : J → Type 0} {F : P → Type 0}
-    (loads : LoadRelation ((i : I) × D i)) (load_state : (i : I) × D i → List ℕ)
-    (writes_all : WriteAllRelation ((j : J) × E j)) (deletes_all : DeleteAllRelation ((j : J) × E j)) (write_state : (j : J) × E j → List ℕ)
-    (processes : ProcessRelation (DynBox P Z F)) (process_state : DynBox P Z F → List ℕ) (args : List Bytes) (through : Bool) where
+    (behavior : RunBehavior ((i : I) × D i) ((j : J) × E j) (DynBox P Z F)) (args : List Bytes) (through : Bool) where
   pub round_asked : (first : Agent I J D E) (mid written_by new : Session I J D E) (processor p : DynBox P Z F) (tickets : List TicketClaim) (room : RoundRoom)
       (done : Vec (ProcessResult Claim)) (written deleted : Vec (WriteResult Claim)) (returned also_returned : Result (Unit {0}) ℕ)
-      → HasRunEach loads load_state processes process_state args through first tickets processor mid.agent room p
-      → WriteCallAsked writes_all deletes_all write_state mid room.writes.deletes room.writes.items returned written.items written_by
-      → WriteCallAsked writes_all deletes_all write_state written_by room.deletes.deletes room.deletes.items also_returned deleted.items new
+      → HasRunEach behavior args through first tickets processor mid.agent room p
+      → WriteCallAsked behavior.writes_all behavior.deletes_all behavior.write_state mid room.writes.deletes room.writes.items returned written.items written_by
+      → WriteCallAsked behavior.writes_all behavior.deletes_all behavior.write_state written_by room.deletes.deletes room.deletes.items also_returned deleted.items new
       → done.items ≡ reverse room.runs.items → AllByRecursion IsToBeRun tickets
-      → IsRoundAsked loads load_state writes_all deletes_all write_state processes process_state args through first tickets processor new.agent (answers.Processes done written deleted) p
+      → IsRoundAsked behavior args through first tickets processor new.agent (answers.Processes done written deleted) p
   round_asked first mid written_by new processor p tickets room done written deleted returned also_returned has w d back fresh =
       let round : ProcessRound = record { runs = map key_run has.runs; written = w.said; deleted = d.said } in
       let keys : keys_asked (ProcessAll round) ≡ reserved_keys (map reserved_by tickets) = keys_run has.runs ∙ ap reserved_keys has.calls_are in
@@ -117,11 +89,11 @@ module _ {I J P Z : Type 0} {D : I → Type 0} {E : J → Type 0} {F : P → Typ
           key_asked round tickets (λ key is. ap (λ ks. is_among ks key) keys ∙ is) fresh,
         );
         asked = record {
-          runs_are = subst (λ x. RunsEach processes process_state (boxed loads) (boxed load_state) args processor first.hands.outside.loader (map key_run has.runs) p x) (sym loader) has.each;
+          runs_are = subst (λ x. RunsEach (in_boxes behavior) args processor first.hands.outside.loader (map key_run has.runs) p x) (sym loader) has.each;
           between = written_by.agent.hands.outside.writer;
-          writes_are = kind_asked (boxed writes_all) (boxed deletes_all) (boxed write_state) through false room.writes.deletes has.runs room.writes.items first.hands.outside.writer mid.agent.hands.outside.writer written_by.agent.hands.outside.writer returned w.said
+          writes_are = kind_asked (in_boxes behavior) args through false room.writes.deletes has.runs room.writes.items first.hands.outside.writer mid.agent.hands.outside.writer written_by.agent.hands.outside.writer returned w.said
               has.writes_kind has.writes_are has.writer w.writes;
-          deletes_are = kind_asked (boxed writes_all) (boxed deletes_all) (boxed write_state) through true room.deletes.deletes has.runs room.deletes.items written_by.agent.hands.outside.writer written_by.agent.hands.outside.writer new.agent.hands.outside.writer also_returned d.said
+          deletes_are = kind_asked (in_boxes behavior) args through true room.deletes.deletes has.runs room.deletes.items written_by.agent.hands.outside.writer written_by.agent.hands.outside.writer new.agent.hands.outside.writer also_returned d.said
               has.deletes_kind has.deletes_are refl d.writes;
         };
         types = (

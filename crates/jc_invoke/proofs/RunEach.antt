@@ -8,30 +8,10 @@
 --     reserved_set    a ticket was used: the reservations are the same
 --     many_same       as many tickets stand for the same reservations
 --     run_next, left_next    one ticket more
+--     run_as          a run, under whichever names of its ticket and of its arguments
 --     may_take        there is room for the next run, and its key is new
 --     begins          before the first run
-use Rattle.std.specs.declared.dyn_box.DynBox.{DynBox}
-use Rattle.std.proofs.Common.{◌≡◌, ◌==◌, ◌≤◌, ◌<◌, ◌+◌, ◌++◌, ℕ, zero, suc, List, [], ◌∷◌, length, map, set, take, drop, get_or, Bool, false, true, Option, None, Some, if◌then◌else◌, vec_capacity, refl, sym, ap, subst, ◌∙◌, arith}
-use Rattle.std.proofs.lemmas.List.{drop_more, length-append, map-append, take-append-drop, take-map, take_more}
-use Rattle.std.specs.List.{IsDistinct}
-use Rattle.std.specs.Cmp.Lexicographic.{pointwise}
-use Rattle.jc_model.specs.Batches.{is_among}
-use Rattle.jc_model.specs.Cache.{Bytes}
-use Rattle.jc_model.specs.declared.event.Change.{Change}
-use Rattle.jc_outside.specs.Calling.{LoadRelation}
-use Rattle.jc_mutentry.specs.Running.{ProcessRelation}
-use Rattle.jc_session.specs.Boxed.{boxed}
-use Rattle.jc_session.specs.declared.agent.Agent.{Agent}
-use Rattle.jc_stripe.specs.Tickets.{TicketClaim}
-use Rattle.jc_rounds.specs.declared.answers.Answers.{Answers}
-use Rattle.jc_rounds.specs.Answers.{RunState, claims_after, done_of, done_room, reservations_of}
-use Rattle.jc_rounds.specs.Asking.{reserved_keys}
-use Rattle.jc_rounds.specs.OutsideCalls.{WriteCallState, asked_keys, no_writes}
-use Rattle.jc_rounds.specs.Underway.{reserved_by}
-use Rattle.jc_invoke.specs.declared.room.Batches.{Batches}
-use Rattle.jc_invoke.specs.declared.room.RoundRoom.{RoundRoom}
-use Rattle.jc_invoke.specs.RoundRooms.{IsRoomFor, IsNextRoom}
-use Rattle.jc_invoke.specs.Processing.{HasRunEach, IsTicketRun, KeepsRunsRoom, TakesKey}
+use Rattle.jc_invoke.proofs.Common.{HasRunEach, IsTicketRun, KeepsRunsRoom, TakesKey, IsRoomFor, IsNextRoom, RunBehavior, in_boxes, Batches, RoundRoom, is_among, Bytes, Change, RunState, claims_after, done_of, done_room, reservations_of, reserved_keys, WriteCallState, asked_keys, no_writes, reserved_by, Answers, Agent, TicketClaim, ◌≡◌, ◌==◌, ◌≤◌, ◌<◌, ◌+◌, ◌++◌, ℕ, zero, suc, List, [], ◌∷◌, length, map, set, take, drop, get_or, Bool, false, true, Option, None, Some, if◌then◌else◌, vec_capacity, refl, sym, ap, subst, ◌∙◌, arith, drop_more, length-append, map-append, take-append-drop, take-map, take_more, pointwise, IsDistinct, DynBox}
 use Rattle.jc_invoke.proofs.Runs.{claims_push, new_claim, runs_push}
 
 pub record RoomLeft (through : Bool) (all place : ℕ) (room : RoundRoom) : Type 0 where
@@ -92,20 +72,19 @@ many_same xs ys same = sym (as_many ys) ∙ ap length same ∙ as_many xs
 -- 3. The next run.
 
 module _ {I J P Z : Type 0} {D : I → Type 0} {E : J → Type 0} {F : P → Type 0}
-    (loads : LoadRelation ((i : I) × D i)) (load_state : (i : I) × D i → List ℕ)
-    (processes : ProcessRelation (DynBox P Z F)) (process_state : DynBox P Z F → List ℕ) (args : List Bytes) (through : Bool)
+    (behavior : RunBehavior ((i : I) × D i) ((j : J) × E j) (DynBox P Z F)) (args : List Bytes) (through : Bool)
     (first old new : Agent I J D E) (processor p q : DynBox P Z F) (tickets now : List TicketClaim) (place : ℕ) (d ticket : TicketClaim) (room room' : RoundRoom) where
   pub run_next : map reserved_by now ≡ map reserved_by tickets → place < length now → room.through ≡ through
-      → HasRunEach loads load_state processes process_state args through first (take place tickets) processor old room p
-      → IsTicketRun loads load_state processes process_state args old (get_or now place d) room p new ticket room' q
-      → HasRunEach loads load_state processes process_state args through first (take (place + 1) tickets) processor new room' q
+      → HasRunEach behavior args through first (take place tickets) processor old room p
+      → IsTicketRun behavior args old (get_or now place d) room p new ticket room' q
+      → HasRunEach behavior args through first (take (place + 1) tickets) processor new room' q
   run_next same near writes_through has one = record {
     runs = has.runs ++ one.run ∷ [];
     calls_are = map-append (λ (r : RunState). r.reservation) has.runs (one.run ∷ [])
         ∙ (λ i. (has.calls_are ∙ takes_same tickets now place same) i ++ one.reservation i ∷ [])
         ∙ sym (map-append reserved_by (take place now) (get_or now place d ∷ []))
         ∙ ap (map reserved_by) (sym (take_more now place d near)) ∙ sym (takes_same tickets now (place + 1) same);
-    each = runs_push processes process_state (boxed loads) (boxed load_state) args has.runs (has.runs ++ one.run ∷ []) one.run processor p q first.hands.outside.loader old.hands.outside.loader new.hands.outside.loader refl has.each one.one;
+    each = runs_push (in_boxes behavior) args has.runs (has.runs ++ one.run ∷ []) one.run processor p q first.hands.outside.loader old.hands.outside.loader new.hands.outside.loader refl has.each one.one;
     done_are = one.done_is ∙ ap (λ ds. ds ++ done_of one.run ∷ []) has.done_are ∙ sym (map-append done_of has.runs (one.run ∷ []));
     writes_are = claims_push through false has.runs (has.runs ++ one.run ∷ []) one.run room.writes.items room'.writes.items refl has.writes_are (one.noted.writes_are ∙ ap (λ t. room.writes.items ++ claims_after t false (one.run ∷ [])) writes_through);
     deletes_are = claims_push through true has.runs (has.runs ++ one.run ∷ []) one.run room.deletes.items room'.deletes.items refl has.deletes_are (one.noted.deletes_are ∙ ap (λ t. room.deletes.items ++ claims_after t true (one.run ∷ [])) writes_through);
@@ -116,7 +95,7 @@ module _ {I J P Z : Type 0} {D : I → Type 0} {E : J → Type 0} {F : P → Typ
     processor_type = one.processor_type ∙ has.processor_type;
   }
 
-  pub left_next : (all : ℕ) → RoomLeft through all place room → IsTicketRun loads load_state processes process_state args old (get_or now place d) room p new ticket room' q → RoomLeft through all (place + 1) room'
+  pub left_next : (all : ℕ) → RoomLeft through all place room → IsTicketRun behavior args old (get_or now place d) room p new ticket room' q → RoomLeft through all (place + 1) room'
   left_next all left one = record {
     through_is = one.noted.through_is ∙ left.through_is;
     runs = let n = ap length one.done_is ∙ length-append room.runs.items (done_of one.run ∷ []) in omega (arith, n, one.noted.runs_room, left.runs);
@@ -125,7 +104,7 @@ module _ {I J P Z : Type 0} {D : I → Type 0} {E : J → Type 0} {F : P → Typ
   }
 
   pub may_take : map reserved_by now ≡ map reserved_by tickets → place < length now → IsDistinct (pointwise ◌==◌) (reserved_keys (map reserved_by tickets)) → RoomLeft through (length tickets) place room
-      → HasRunEach loads load_state processes process_state args through first (take place tickets) processor old room p → TakesKey room (get_or now place d).reservation.key
+      → HasRunEach behavior args through first (take place tickets) processor old room p → TakesKey room (get_or now place d).reservation.key
   may_take same near distinct left has =
       let r = (get_or now place d).reservation in
       let rest = map reserved_by (drop (place + 1) now) in
@@ -142,13 +121,19 @@ module _ {I J P Z : Type 0} {D : I → Type 0} {E : J → Type 0} {F : P → Typ
         deletes_new = ap (λ xs. is_among (asked_keys xs) r.key) has.deletes_are ∙ new_claim through true has.runs r rest apart;
       }
 
+-- a run of a ticket, under whichever names
+pub run_as : {I J P Z : Type 0} {D : I → Type 0} {E : J → Type 0} {F : P → Type 0} (behavior : RunBehavior ((i : I) × D i) ((j : J) × E j) (DynBox P Z F)) (args given : List Bytes)
+    (old new : Agent I J D E) (processor p : DynBox P Z F) (t same ticket : TicketClaim) (room room' : RoundRoom) → given ≡ args → t ≡ same
+    → IsTicketRun behavior given old t room processor new ticket room' p → IsTicketRun behavior args old same room processor new ticket room' p
+run_as behavior args given old new processor p t same ticket room room' given_is is run =
+    subst (λ x. IsTicketRun behavior args old x room processor new ticket room' p) is (subst (λ xs. IsTicketRun behavior xs old t room processor new ticket room' p) given_is run)
+
 -- before the first run
 pub begins : {I J P Z : Type 0} {D : I → Type 0} {E : J → Type 0} {F : P → Type 0}
-    (loads : LoadRelation ((i : I) × D i)) (load_state : (i : I) × D i → List ℕ)
-    (processes : ProcessRelation (DynBox P Z F)) (process_state : DynBox P Z F → List ℕ) (args : List Bytes)
+    (behavior : RunBehavior ((i : I) × D i) ((j : J) × E j) (DynBox P Z F)) (args : List Bytes)
     (most : ℕ) (through : Bool) (first : Agent I J D E) (processor : DynBox P Z F) (tickets : List TicketClaim) (room : RoundRoom) → length tickets ≤ most → IsRoomFor most through room
-    → RoomLeft room.through (length tickets) 0 room × HasRunEach loads load_state processes process_state args room.through first [] processor first room processor
-begins loads load_state processes process_state args most through first processor tickets room few is =
+    → RoomLeft room.through (length tickets) 0 room × HasRunEach behavior args room.through first [] processor first room processor
+begins behavior args most through first processor tickets room few is =
     let writes = ap (λ (w : WriteCallState). w.room) is.writes_are in
     let deletes = ap (λ (w : WriteCallState). w.room) is.deletes_are in
     let none = ap length is.no_runs in (

@@ -7,52 +7,35 @@
 --     changes_are              what is asked for, as changes of keys
 --     has_writer               there is a writer if anything is asked for
 --     rest_on                  two calls outside leave all of a session but its hands
-use Rattle.std.proofs.Common.{◌≡◌, ◌==◌, ◌||◌, ◌++◌, ℕ, List, [], ◌∷◌, map, Bool, true, false, Option, None, Some, IsSome, if◌then◌else◌, refl, sym, ap, subst, ◌∙◌}
-use Rattle.std.proofs.lemmas.Cmp.{nat_list_eq_equiv}
-use Rattle.std.proofs.lemmas.List.{map-append}
+use Rattle.jc_invoke.proofs.Common.{Session, RunBehavior, RunsEach, RunsOne, batch_changes, is_among, Bytes, Change, ProcessResult, RunState, claim_after, claims_after, done_of, is_change_of, key_run, reservations_of, reserved_keys, asked_keys, wanted, KeyRun, change_of, Claim, claim_of, entry_seen, id_of, is_loadable, Reservation, ◌≡◌, ◌==◌, ◌||◌, ◌++◌, ℕ, List, [], ◌∷◌, map, Bool, true, false, Option, None, Some, IsSome, if◌then◌else◌, refl, sym, ap, subst, ◌∙◌, nat_list_eq_equiv, map-append, pointwise, AllByRecursion, IsDistinct, cons_option}
 use Rattle.std.proofs.lemmas.Map.Keys.{IsDistinct-head, IsDistinct-tail}
-use Rattle.std.specs.List.{AllByRecursion, IsDistinct, cons_option}
-use Rattle.std.specs.Cmp.Lexicographic.{pointwise}
-use Rattle.jc_model.specs.Batches.{is_among}
-use Rattle.jc_model.specs.Cache.{Bytes}
-use Rattle.jc_model.specs.declared.event.Change.{Change}
-use Rattle.jc_outside.specs.Calling.{LoadRelation}
 use Rattle.jc_outside.specs.declared.done.Origin.TheVariants.{Live}
-use Rattle.jc_mutentry.specs.Done.{ProcessResult}
-use Rattle.jc_mutentry.specs.Running.{LoadsIfGiven, ProcessRelation, RunsOnce}
-use Rattle.jc_stripe.specs.Tickets.{Claim, claim_of, entry_seen, id_of, is_loadable}
-use Rattle.jc_stripe.specs.declared.ticket.Reservation.{Reservation}
-use Rattle.jc_cache.specs.declared.session.Session.{Session}
-use Rattle.jc_rounds.specs.Answers.{RunState, claim_after, claims_after, done_of, is_change_of, key_run, reservations_of}
-use Rattle.jc_rounds.specs.Asking.{reserved_keys}
-use Rattle.jc_rounds.specs.OutsideCalls.{asked_keys, wanted}
-use Rattle.jc_rounds.specs.Rounds.{KeyRun, change_of}
-use Rattle.jc_invoke.specs.Runs.{RunsEach, RunsOne, batch_changes}
+use Rattle.jc_mutentry.specs.Running.{LoadsIfGiven, RunsOnce}
 
 -- 1. Runs.
 
-module _ {P L : Type 0} (processes : ProcessRelation P) (process_state : P → List ℕ) (loads : LoadRelation L) (load_state : L → List ℕ) (args : List Bytes) where
-  pub runs_then : (runs : List KeyRun) (run : KeyRun) (p q r : P) (l m n : Option L) → RunsEach processes process_state loads load_state args p l runs q m → RunsOne processes process_state loads load_state args q m run r n
-      → RunsEach processes process_state loads load_state args p l (runs ++ run ∷ []) r n
+module _ {P L W : Type 0} (behavior : RunBehavior L W P) (args : List Bytes) where
+  pub runs_then : (runs : List KeyRun) (run : KeyRun) (p q r : P) (l m n : Option L) → RunsEach behavior args p l runs q m → RunsOne behavior args q m run r n
+      → RunsEach behavior args p l (runs ++ run ∷ []) r n
   runs_then [] run p q r l m n each one =
-      (r, n, subst (λ x. RunsOne processes process_state loads load_state args x l run r n) each.0 (subst (λ x. RunsOne processes process_state loads load_state args q x run r n) each.1 one), (refl, refl))
+      (r, n, subst (λ x. RunsOne behavior args x l run r n) each.0 (subst (λ x. RunsOne behavior args q x run r n) each.1 one), (refl, refl))
   runs_then (x ∷ runs) run p q r l m n each one = (each.0, each.1, each.2, runs_then runs run each.0 q r each.1 m n each.3 one)
 
   -- a run of a ticket's reservation
   pub one_of : (run : RunState) (r : Reservation) (ask : Claim) (p q : P) (l m : Option L) → run.reservation ≡ r → ask ≡ claim_of r
-      → RunsOnce processes process_state p ask.reservation.key args (is_loadable ask.reservation.first) (entry_seen ask.reservation.first) run.load run.process q
-      → LoadsIfGiven loads load_state l ask.reservation.key run.load m → RunsOne processes process_state loads load_state args p l (key_run run) q m
+      → RunsOnce behavior.processes behavior.process_state p ask.reservation.key args (is_loadable ask.reservation.first) (entry_seen ask.reservation.first) run.load run.process q
+      → LoadsIfGiven behavior.loads behavior.load_state l ask.reservation.key run.load m → RunsOne behavior args p l (key_run run) q m
   one_of run r ask p q l m same is once load =
       let asks : ask ≡ claim_of run.reservation = is ∙ ap claim_of (sym same) in
       record {
-        run_is = subst (λ (x : Claim). RunsOnce processes process_state p x.reservation.key args (is_loadable x.reservation.first) (entry_seen x.reservation.first) run.load run.process q) asks once;
-        load_is = subst (λ (x : Claim). LoadsIfGiven loads load_state l x.reservation.key run.load m) asks load;
+        run_is = subst (λ (x : Claim). RunsOnce behavior.processes behavior.process_state p x.reservation.key args (is_loadable x.reservation.first) (entry_seen x.reservation.first) run.load run.process q) asks once;
+        load_is = subst (λ (x : Claim). LoadsIfGiven behavior.loads behavior.load_state l x.reservation.key run.load m) asks load;
       }
 
-  pub runs_push : (runs runs' : List RunState) (run : RunState) (p q r : P) (l m n : Option L) → runs' ≡ runs ++ run ∷ [] → RunsEach processes process_state loads load_state args p l (map key_run runs) q m
-      → RunsOne processes process_state loads load_state args q m (key_run run) r n → RunsEach processes process_state loads load_state args p l (map key_run runs') r n
+  pub runs_push : (runs runs' : List RunState) (run : RunState) (p q r : P) (l m n : Option L) → runs' ≡ runs ++ run ∷ [] → RunsEach behavior args p l (map key_run runs) q m
+      → RunsOne behavior args q m (key_run run) r n → RunsEach behavior args p l (map key_run runs') r n
   runs_push runs runs' run p q r l m n is each one =
-      subst (λ xs. RunsEach processes process_state loads load_state args p l xs r n) (sym (ap (map key_run) is ∙ map-append key_run runs (run ∷ []))) (runs_then (map key_run runs) (key_run run) p q r l m n each one)
+      subst (λ xs. RunsEach behavior args p l xs r n) (sym (ap (map key_run) is ∙ map-append key_run runs (run ∷ []))) (runs_then (map key_run runs) (key_run run) p q r l m n each one)
 
 pub done_as : (done : ProcessResult Claim) (r s : Reservation) (ask : Claim) → done.ask ≡ ask → ask ≡ claim_of r → s ≡ r → done.origin ≡ Live → done ≡ done_of (record { reservation = s; load = done.load; process = done.process })
 done_as done r s ask is asks same live =

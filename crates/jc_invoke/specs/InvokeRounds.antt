@@ -8,13 +8,9 @@ use Rattle.std.specs.Prelude.{◌≡◌, ℕ, List, map}
 use Rattle.jc_types.specs.declared.config.Config.{Config}
 use Rattle.jc_model.specs.Cache.{Bytes}
 use Rattle.jc_model.specs.declared.event.Op.TheVariants.{Invoke}
-use Rattle.jc_outside.specs.Calling.{LoadRelation}
-use Rattle.jc_outside.specs.CallingAll.{DeleteAllRelation, WriteAllRelation}
-use Rattle.jc_mutentry.specs.Running.{ProcessRelation}
-use Rattle.jc_session.specs.Boxed.{boxed}
 use Rattle.jc_engine.specs.Asking.{KeepsTypes}
 use Rattle.jc_cache.specs.Caches.{CacheState}
-use Rattle.jc_cache.specs.declared.session.Session.{Session}
+use Rattle.jc_session.specs.declared.session.Session.{Session}
 use Rattle.jc_rounds.specs.declared.bulk_call.BulkCall.{BulkCall}
 use Rattle.jc_rounds.specs.Rounds.{ProcessAll, ProcessRound, Round}
 use Rattle.jc_rounds.specs.Ran.{Ran}
@@ -22,7 +18,7 @@ use Rattle.jc_rounds.specs.Targets.{ops_of, ops_with}
 use Rattle.jc_rounds.specs.Underway.{Past}
 use Rattle.jc_invoke.specs.declared.room.RoundRoom.{RoundRoom}
 use Rattle.jc_invoke.specs.RoundRooms.{IsRoomFor}
-use Rattle.jc_invoke.specs.Runs.{CallsEach}
+use Rattle.jc_invoke.specs.Runs.{CallsEach, RunBehavior, in_boxes}
 
 abbrev pub IsInvoked : BulkCall → Type 0
 IsInvoked call = (keys : List Bytes) × (ops_of call.targets.now ≡ ops_with Invoke keys)
@@ -32,13 +28,11 @@ pub record IsReady (config : Config) (call : BulkCall) (room : RoundRoom) : Type
   pub room_is : IsRoomFor call.most config.write_through room
 
 module _ {I J P Z : Type 0} {D : I → Type 0} {E : J → Type 0} {F : P → Type 0}
-    (loads : LoadRelation ((i : I) × D i)) (load_state : (i : I) × D i → List ℕ)
-    (writes_all : WriteAllRelation ((j : J) × E j)) (deletes_all : DeleteAllRelation ((j : J) × E j)) (write_state : (j : J) × E j → List ℕ)
-    (processes : ProcessRelation (DynBox P Z F)) (process_state : DynBox P Z F → List ℕ) (args : List Bytes) (cache : CacheState) where
+    (behavior : RunBehavior ((i : I) × D i) ((j : J) × E j) (DynBox P Z F)) (args : List Bytes) (cache : CacheState) where
   pub record HaveAsked (old : Session I J D E) (processor : DynBox P Z F) (new : Session I J D E) (processor' : DynBox P Z F) (rounds : List Round) : Type 0 where
     pub runs : List ProcessRound
     pub rounds_are : rounds ≡ map ProcessAll runs
-    pub calls : CallsEach processes process_state (boxed loads) (boxed load_state) (boxed writes_all) (boxed deletes_all) (boxed write_state) args cache.config.write_through
+    pub calls : CallsEach (in_boxes behavior) args cache.config.write_through
         processor old.agent.hands.outside.loader old.agent.hands.outside.writer runs processor' new.agent.hands.outside.loader new.agent.hands.outside.writer
     pub types : KeepsTypes old.agent new.agent
     pub processor_type : processor'.vtable ≡ processor.vtable

@@ -4,6 +4,7 @@
 --     HasNoted       it has noted that of this run
 --     IsToBeRun      a ticket whose processor is to be run: nobody was asked
 --     KeepsRunsRoom  there is as much room for runs, and in a cache that doesn't write through the batches are as they were
+--     KeepsProcessing  the processor and its arguments are lent as before
 --     IsTicketRun    the processor was run for a ticket, and this is in the room after it
 --     MayRunEach     the processor may be run for each of these tickets, and then the writer be asked: nobody was asked, and the room is empty
 --     HasRunEach     the processor was run for each of these tickets, and this is in the room after it
@@ -16,17 +17,14 @@ use Rattle.std.specs.Cmp.Lexicographic.{pointwise}
 use Rattle.jc_types.specs.declared.config.Config.{Config}
 use Rattle.jc_model.specs.Batches.{is_among}
 use Rattle.jc_model.specs.Cache.{Bytes}
-use Rattle.jc_outside.specs.Calling.{KeepsType, LoadRelation}
-use Rattle.jc_outside.specs.CallingAll.{DeleteAllRelation, WriteAllRelation}
+use Rattle.jc_outside.specs.Calling.{KeepsType}
 use Rattle.jc_mutentry.specs.Done.{ProcessResult}
-use Rattle.jc_mutentry.specs.Running.{ProcessRelation}
 use Rattle.jc_stripe.specs.Tickets.{Claim, TicketClaim, asks_processor, claim_of}
-use Rattle.jc_session.specs.Boxed.{boxed}
 use Rattle.jc_session.specs.declared.agent.Agent.{Agent}
 use Rattle.jc_engine.specs.Asking.{KeepsTypes}
 use Rattle.jc_cache.specs.Caches.{CacheState}
 use Rattle.jc_cache.specs.Sessions.{IsOf}
-use Rattle.jc_cache.specs.declared.session.Session.{Session}
+use Rattle.jc_session.specs.declared.session.Session.{Session}
 use Rattle.jc_rounds.specs.declared.answers.Answers.{Answers}
 use Rattle.jc_rounds.specs.Answers.{AreAnswers, RunState, claims_after, done_of, key_run, reservations_of}
 use Rattle.jc_rounds.specs.Asking.{reserved_keys}
@@ -34,8 +32,9 @@ use Rattle.jc_rounds.specs.OutsideCalls.{asked_keys}
 use Rattle.jc_rounds.specs.Rounds.{ProcessAll, ProcessRound}
 use Rattle.jc_rounds.specs.Underway.{reserved_by}
 use Rattle.jc_invoke.specs.declared.room.RoundRoom.{RoundRoom}
+use Rattle.jc_invoke.specs.declared.run.Processing.{Processing}
 use Rattle.jc_invoke.specs.RoundRooms.{IsRoomFor}
-use Rattle.jc_invoke.specs.Runs.{CallsRound, RunsEach, RunsOne}
+use Rattle.jc_invoke.specs.Runs.{CallsRound, RunBehavior, RunsEach, RunsOne, in_boxes}
 
 -- 1. One ticket. `room'` is the room after it.
 
@@ -69,19 +68,21 @@ pub record KeepsRunsRoom (room room' : RoundRoom) : Type 0 where
   pub runs_room : vec_capacity room'.runs ≡ vec_capacity room.runs
   pub quiet : room.through ≡ false → (room'.writes ≡ room.writes) × (room'.deletes ≡ room.deletes)
 
+abbrev pub KeepsProcessing : {P : Type 0} {F : P → Type 0} → Processing P F → Processing P F → Type 0
+KeepsProcessing old new = (new.processor.ghost_name ≡ old.processor.ghost_name) × (new.args ≡ old.args)
+
 abbrev pub IsToBeRun : TicketClaim → Type 0
 IsToBeRun ticket = (ticket.asked ≡ false) × (ticket.writer_asked ≡ false) × (asks_processor ticket.reservation.first ≡ true)
 
 pub record IsTicketRun
     {I J P Z : Type 0} {D : I → Type 0} {E : J → Type 0} {F : P → Type 0}
-    (loads : LoadRelation ((i : I) × D i)) (load_state : (i : I) × D i → List ℕ)
-    (processes : ProcessRelation (DynBox P Z F)) (process_state : DynBox P Z F → List ℕ) (args : List Bytes)
+    (behavior : RunBehavior ((i : I) × D i) ((j : J) × E j) (DynBox P Z F)) (args : List Bytes)
     (old : Agent I J D E) (ticket : TicketClaim) (room : RoundRoom) (processor : DynBox P Z F)
     (new : Agent I J D E) (ticket' : TicketClaim) (room' : RoundRoom) (processor' : DynBox P Z F) : Type 0 where
   pub run : RunState
   pub reservation : run.reservation ≡ ticket.reservation
   pub kept : ticket'.reservation ≡ ticket.reservation
-  pub one : RunsOne processes process_state (boxed loads) (boxed load_state) args processor old.hands.outside.loader (key_run run) processor' new.hands.outside.loader
+  pub one : RunsOne (in_boxes behavior) args processor old.hands.outside.loader (key_run run) processor' new.hands.outside.loader
   pub done_is : room'.runs.items ≡ room.runs.items ++ done_of run ∷ []
   pub noted : HasNoted run room room'
   pub loader_type : KeepsType old.hands.outside.loader new.hands.outside.loader
@@ -101,13 +102,12 @@ pub record MayRunEach {I J : Type 0} {D : I → Type 0} {E : J → Type 0} (sess
 
 pub record HasRunEach
     {I J P Z : Type 0} {D : I → Type 0} {E : J → Type 0} {F : P → Type 0}
-    (loads : LoadRelation ((i : I) × D i)) (load_state : (i : I) × D i → List ℕ)
-    (processes : ProcessRelation (DynBox P Z F)) (process_state : DynBox P Z F → List ℕ) (args : List Bytes) (through : Bool)
+    (behavior : RunBehavior ((i : I) × D i) ((j : J) × E j) (DynBox P Z F)) (args : List Bytes) (through : Bool)
     (old : Agent I J D E) (calls : List TicketClaim) (processor : DynBox P Z F)
     (new : Agent I J D E) (room' : RoundRoom) (processor' : DynBox P Z F) : Type 0 where
   pub runs : List RunState
   pub calls_are : reservations_of runs ≡ map reserved_by calls
-  pub each : RunsEach processes process_state (boxed loads) (boxed load_state) args processor old.hands.outside.loader (map key_run runs) processor' new.hands.outside.loader
+  pub each : RunsEach (in_boxes behavior) args processor old.hands.outside.loader (map key_run runs) processor' new.hands.outside.loader
   pub done_are : room'.runs.items ≡ map done_of runs
   pub writes_are : room'.writes.items ≡ claims_after through false runs
   pub deletes_are : room'.deletes.items ≡ claims_after through true runs
@@ -119,9 +119,7 @@ pub record HasRunEach
 
 pub record IsRoundAsked
     {I J P Z : Type 0} {D : I → Type 0} {E : J → Type 0} {F : P → Type 0}
-    (loads : LoadRelation ((i : I) × D i)) (load_state : (i : I) × D i → List ℕ)
-    (writes_all : WriteAllRelation ((j : J) × E j)) (deletes_all : DeleteAllRelation ((j : J) × E j)) (write_state : (j : J) × E j → List ℕ)
-    (processes : ProcessRelation (DynBox P Z F)) (process_state : DynBox P Z F → List ℕ) (args : List Bytes) (through : Bool)
+    (behavior : RunBehavior ((i : I) × D i) ((j : J) × E j) (DynBox P Z F)) (args : List Bytes) (through : Bool)
     (old : Agent I J D E) (calls : List TicketClaim) (processor : DynBox P Z F)
     (new : Agent I J D E) (answers : Answers) (processor' : DynBox P Z F) : Type 0 where
   pub round : ProcessRound
@@ -129,7 +127,7 @@ pub record IsRoundAsked
   pub calls_are : reservations_of runs ≡ map reserved_by calls
   pub runs_are : round.runs ≡ map key_run runs
   pub answered : (config : Config) → config.write_through ≡ through → AreAnswers config (ProcessAll round) answers (map reserved_by calls)
-  pub asked : CallsRound processes process_state (boxed loads) (boxed load_state) (boxed writes_all) (boxed deletes_all) (boxed write_state) args through
+  pub asked : CallsRound (in_boxes behavior) args through
       processor old.hands.outside.loader old.hands.outside.writer round processor' new.hands.outside.loader new.hands.outside.writer
   pub types : KeepsTypes old new
   pub processor_type : processor'.vtable ≡ processor.vtable

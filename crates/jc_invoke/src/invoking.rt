@@ -1,16 +1,17 @@
 //! `invoke` and `invokeAll`: entry processors on a cache.
-ghost use Rattle.std.specs.Prelude.{◌≡◌, ◌≤◌, List, length, Result, IfOk, IfErr};
-ghost use Rattle.jc_types.specs.declared.limits.TheConstants.{BULK_KEYS_MAX};
+ghost use Rattle.std.specs.Prelude.{◌≡◌, List, Result, IfOk};
 ghost use Rattle.jc_types.specs.declared.refusal.Refusal.{Refusal};
 ghost use Rattle.jc_model.specs.declared.event.Op.TheVariants.{Invoke};
 ghost use Rattle.jc_model.specs.declared.event.Reply.{Reply};
 ghost use Rattle.jc_cache.specs.Calls.{Invoked, value_in};
-ghost use Rattle.jc_cache.specs.Sessions.{MayCall};
+ghost use Rattle.jc_cache.specs.Sessions.{Completes, MayCall};
 ghost use Rattle.jc_rounds.specs.Ends.{KeyEnd};
 ghost use Rattle.jc_rounds.specs.Rounds.{ProcessRound};
 ghost use Rattle.jc_rounds.specs.Targets.{ops_of, ops_with};
-ghost use Rattle.jc_invoke.specs.Invoke.{IsInvokedAll, IsRefusedWhole, result_entries};
+ghost use Rattle.jc_invoke.specs.Invoke.{InvokesAll, IsInvokedAll, result_entries};
+ghost use Rattle.jc_invoke.specs.Processing.{KeepsProcessing};
 ghost use Rattle.jc_invoke.specs.RoundRooms.{IsMemoryFor};
+ghost use Rattle.jc_invoke.specs.Runs.{run_behavior};
 
 use crate::results::fill_results;
 use crate::room::RoundRoom;
@@ -42,10 +43,10 @@ pub fn invoke<R: Wait>(
     args: &[Value],
 ) -> Result<Option<Value>, Refusal>
     requires may { MayCall cache.now session.old }
-    ensures may { MayCall cache.now session.new }
-    ensures call { (ended : Result Reply Refusal) × Invoked loads load_state writes write_state processes process_state
+    ensures { Completes cache.now session.new ((ended : Result Reply Refusal)
+        × Invoked loads load_state writes write_state processes process_state
         cache.now session.old key.now args.now processor.old ended session.new processor.new
-        × (result ≡ value_in ended) }
+        × (result ≡ value_in ended)) }
 {
     cache.invoke(rt, session, key, processor, args)
 }
@@ -84,14 +85,9 @@ pub fn invoke_all<R: Wait>(
     args: &[Value],
 ) -> Result<IndexMap<Key, Result<Value, Refusal>>, Refusal>
     requires may { MayCall cache.now session.old }
-    ensures may { MayCall cache.now session.new }
-    ensures ok { IfOk result (λ results. (length keys.now.keys ≤ BULK_KEYS_MAX)
-        × (ends : List KeyEnd) × (rounds : List ProcessRound)
-        × IsInvokedAll loads load_state writes_all deletes_all write_state processes process_state
-        cache.now session.old keys.now.keys args.now processor.old ends rounds session.new processor.new
-        × (results.entries ≡ result_entries ends)) }
-    ensures err { IfErr result (λ refusal. IsRefusedWhole session.old processor.old (length keys.now.keys)
-        refusal session.new processor.new) }
+    ensures { Completes cache.now session.new
+        (InvokesAll (run_behavior loads load_state writes_all deletes_all write_state processes process_state)
+        cache.now session.old keys.now.keys args.now processor.old result session.new processor.new) }
 {
     if keys.len() > BULK_KEYS_MAX {
         return Err(Refusal::TooManyKeys);
@@ -121,13 +117,12 @@ fn carry_out<R: Wait>(
 ) -> IndexMap<Key, Result<Value, Refusal>>
     requires may { MayCall cache.now session.old }
     requires memory { IsMemoryFor (ops_with Invoke keys.now.keys) cache.now.config memory }
-    ensures may { MayCall cache.now session.new }
-    ensures invoked { (ends : List KeyEnd) × (rounds : List ProcessRound)
-        × IsInvokedAll loads load_state writes_all deletes_all write_state processes process_state
+    ensures { Completes cache.now session.new (KeepsProcessing processing.old processing.new
+        × (ends : List KeyEnd) × (rounds : List ProcessRound)
+        × IsInvokedAll (run_behavior loads load_state writes_all deletes_all write_state processes process_state)
         cache.now session.old keys.now.keys processing.old.args.now processing.old.processor.now
         ends rounds session.new processing.new.processor.now
-        × (result.entries ≡ result_entries ends) }
-    ensures same { processing.new.processor.ghost_name ≡ processing.old.processor.ghost_name }
+        × (result.entries ≡ result_entries ends)) }
 {
     let _types: Option<&(Reply, Value)> = None;
     let Memory {

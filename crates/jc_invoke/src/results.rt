@@ -43,10 +43,8 @@ pub(crate) fn fill_results(
     keys: &[Key],
     progress: &[Progress],
 )
-    requires distinct { IsDistinct (pointwise ◌==◌) keys.now }
-    requires none { results.old.entries ≡ [] }
-    requires many { length progress.now ≡ length keys.now }
-    requires room { length keys.now ≤ spare results.old }
+    requires keys { IsDistinct (pointwise ◌==◌) keys.now × (length progress.now ≡ length keys.now) }
+    requires empty { (results.old.entries ≡ []) × (length keys.now ≤ spare results.old) }
     ensures { results.new.entries ≡ result_entries (key_ends (ops_with Invoke keys.now) progress.now) }
 {
     for place in 0..progress.len() {
@@ -60,8 +58,7 @@ fn insert_result(
     key: &Key,
     progress: &Progress,
 )
-    requires new { list_any (pointwise ◌==◌ key.now) (keys_of results.old.entries) ≡ false }
-    requires room { 0 < spare results.old }
+    requires new { (list_any (pointwise ◌==◌ key.now) (keys_of results.old.entries) ≡ false) × (0 < spare results.old) }
     ensures entries { results.new.entries ≡ results.old.entries
         ++ cons_option (option_map (λ r. (key.now, r)) (result_at progress.now)) [] }
     ensures room { spare results.old ≤ spare results.new + 1 }

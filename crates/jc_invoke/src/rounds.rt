@@ -3,7 +3,9 @@ ghost use Rattle.std.specs.Prelude.{◌≡◌, ℕ, Bool, IfErr, IfOk, IfSome, N
 ghost use Rattle.jc_rounds.specs.Underway.{IsOver, Past};
 ghost use Rattle.jc_rounds.specs.Running.{HasRun};
 ghost use Rattle.jc_invoke.specs.InvokeRounds.{IsReady, RunsOn};
+ghost use Rattle.jc_invoke.specs.Processing.{KeepsProcessing};
 ghost use Rattle.jc_invoke.specs.RoundRooms.{IsRoomFor};
+ghost use Rattle.jc_invoke.specs.Runs.{run_behavior};
 
 use crate::room::RoundRoom;
 use crate::run::Processing;
@@ -27,12 +29,11 @@ pub(crate) fn run_rounds<R: Wait>(
 )
     requires ready { IsReady cache.now.config call.old room }
     requires run { (past : Past) × HasRun cache.now past session.old call.old }
-    ensures over { IsOver call.new }
+    ensures over { IsOver call.new × KeepsProcessing processing.old processing.new }
     ensures runs { (past : Past) → HasRun cache.now past session.old call.old
-        → RunsOn loads load_state writes_all deletes_all write_state processes process_state processing.old.args.now cache.now past
-        session.old call.old processing.old.processor.now session.new call.new processing.new.processor.now }
-    ensures same { (processing.new.processor.ghost_name ≡ processing.old.processor.ghost_name)
-        × (processing.new.args ≡ processing.old.args) }
+        → RunsOn (run_behavior loads load_state writes_all deletes_all write_state processes process_state)
+        processing.old.args.now cache.now past session.old call.old processing.old.processor.now
+        session.new call.new processing.new.processor.now }
 {
     let mut next = room;
     for _ in rt.forever() {
@@ -47,12 +48,7 @@ pub(crate) fn run_rounds<R: Wait>(
             end_room(left);
             return;
         }
-        match next_room(
-            processing.alloc,
-            cache.config().write_through,
-            call.most(),
-            left,
-        ) {
+        match next_room(processing.alloc, cache, call.most(), left) {
             Ok(room) => next = room,
             Err(_failed) => {
                 call.refuse_rest();
@@ -67,17 +63,16 @@ pub(crate) fn run_rounds<R: Wait>(
 /// failed.
 fn next_room(
     alloc: Global,
-    through: bool,
+    cache: &Cache,
     keys: usize,
     left: Option<RoundRoom>,
 ) -> Result<RoundRoom, AllocError>
-    requires { IfSome left (λ room. IsRoomFor keys through room) }
-    ensures ok { IfOk result (λ room. IsRoomFor keys through room) }
-    ensures err { IfErr result (λ failed. left ≡ None) }
+    requires { IfSome left (λ room. IsRoomFor keys cache.now.config.write_through room) }
+    ensures { IfOk result (λ room. IsRoomFor keys cache.now.config.write_through room) × IfErr result (λ failed. left ≡ None) }
 {
     match left {
         Some(room) => Ok(room),
-        None => RoundRoom::new(alloc, through, keys),
+        None => RoundRoom::new(alloc, cache.config().write_through, keys),
     }
 }
 

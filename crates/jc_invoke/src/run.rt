@@ -4,7 +4,8 @@ ghost use Rattle.jc_cache.specs.Sessions.{HasAsked, HoldsNothing};
 ghost use Rattle.jc_rounds.specs.Answers.{done_room};
 ghost use Rattle.jc_rounds.specs.Ran.{KeepsTickets};
 ghost use Rattle.jc_invoke.specs.RoundRooms.{LeavesBatches};
-ghost use Rattle.jc_invoke.specs.Processing.{HasNoted, HasRunEach, IsRoundAsked, IsTicketRun, IsToBeRun, KeepsRunsRoom, MayNote, MayRunEach, TakesKey};
+ghost use Rattle.jc_invoke.specs.Runs.{run_behavior};
+ghost use Rattle.jc_invoke.specs.Processing.{HasNoted, HasRunEach, IsRoundAsked, IsTicketRun, IsToBeRun, KeepsProcessing, KeepsRunsRoom, MayNote, MayRunEach, TakesKey};
 
 use crate::room::{Batches, RoundRoom};
 use jc_cache::Session;
@@ -45,14 +46,12 @@ impl RoundRoom {
         processing: &mut Processing<'_>,
     ) -> (Answers, Option<Batches>)
         requires may { MayRunEach session.old tickets.old self }
-        ensures asked { HasAsked session.old session.new (IsRoundAsked loads load_state writes_all deletes_all write_state
-            processes process_state processing.old.args.now self.through session.old.agent tickets.old.items processing.old.processor.now
+        ensures asked { HasAsked session.old session.new
+            (IsRoundAsked (run_behavior loads load_state writes_all deletes_all write_state processes process_state)
+            processing.old.args.now self.through session.old.agent tickets.old.items processing.old.processor.now
             session.new.agent result.0 processing.new.processor.now) }
-        ensures left { LeavesBatches self result.1 }
-        ensures room { done_room result.0 ≡ vec_capacity self.runs }
-        ensures tickets { KeepsTickets tickets.old tickets.new }
-        ensures same { (processing.new.processor.ghost_name ≡ processing.old.processor.ghost_name)
-            × (processing.new.args ≡ processing.old.args) }
+        ensures left { LeavesBatches self result.1 × (done_room result.0 ≡ vec_capacity self.runs) }
+        ensures same { KeepsTickets tickets.old tickets.new × KeepsProcessing processing.old processing.new }
     {
         let mut room = self;
         room.run_each(rt, session, tickets, processing);
@@ -85,13 +84,12 @@ impl RoundRoom {
         processing: &mut Processing<'_>,
     )
         requires may { MayRunEach session.old tickets.old self.old }
-        ensures run { HasAsked session.old session.new (HasRunEach loads load_state processes process_state
+        ensures run { HasAsked session.old session.new
+            (HasRunEach (run_behavior loads load_state writes_all deletes_all write_state processes process_state)
             processing.old.args.now self.old.through session.old.agent tickets.old.items processing.old.processor.now
             session.new.agent self.new processing.new.processor.now) }
         ensures room { KeepsRunsRoom self.old self.new }
-        ensures tickets { KeepsTickets tickets.old tickets.new }
-        ensures same { (processing.new.processor.ghost_name ≡ processing.old.processor.ghost_name)
-            × (processing.new.args ≡ processing.old.args) }
+        ensures same { KeepsTickets tickets.old tickets.new × KeepsProcessing processing.old processing.new }
     {
         for place in 0..tickets.len() {
             self.run_one(rt, session, &mut tickets[place], processing);
@@ -106,16 +104,16 @@ impl RoundRoom {
         ticket: &mut Ticket,
         processing: &mut Processing<'_>,
     )
-        requires nothing { HoldsNothing session.old }
-        requires run { IsToBeRun ticket.old × TakesKey self.old ticket.old.reservation.key }
-        ensures run { HasAsked session.old session.new (IsTicketRun loads load_state processes process_state
+        requires may { HoldsNothing session.old × IsToBeRun ticket.old × TakesKey self.old ticket.old.reservation.key }
+        ensures run { HasAsked session.old session.new
+            (IsTicketRun (run_behavior loads load_state writes_all deletes_all write_state processes process_state)
             processing.old.args.now session.old.agent ticket.old self.old processing.old.processor.now
             session.new.agent ticket.new self.new processing.new.processor.now) }
-        ensures room { KeepsRunsRoom self.old self.new }
-        ensures same { (processing.new.processor.ghost_name ≡ processing.old.processor.ghost_name)
-            × (processing.new.args ≡ processing.old.args) }
+        ensures same { KeepsRunsRoom self.old self.new × KeepsProcessing processing.old processing.new }
     {
-        let done = session.run_processor(rt, ticket.ask(), processing.processor, processing.args);
+        let done = session
+            .agent
+            .run_processor(rt, ticket.ask(), processing.processor, processing.args);
         self.note(ticket, &done);
         self.runs.push_reserved(done);
     }
@@ -125,9 +123,8 @@ impl RoundRoom {
         requires may { MayNote self.old ticket.old done.now }
         ensures noted { HasNoted (record { reservation = ticket.old.reservation; load = done.now.load; process = done.now.process })
             self.old self.new }
-        ensures runs { self.new.runs ≡ self.old.runs }
-        ensures room { KeepsRunsRoom self.old self.new }
-        ensures reservation { ticket.new.reservation ≡ ticket.old.reservation }
+        ensures same { (self.new.runs ≡ self.old.runs) × KeepsRunsRoom self.old self.new
+            × (ticket.new.reservation ≡ ticket.old.reservation) }
     {
         match change_after(self.through, done) {
             None => {}

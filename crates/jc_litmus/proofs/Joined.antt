@@ -3,18 +3,12 @@
 --     spelled_open      the line that opens a cache
 --     put_four          what is behind something after four steps
 --     spelled_process   the line of a processor's run
-use Rattle.std.proofs.Common.{◌≡◌, ◌∙◌, sym, ap, ℕ, List, [], ◌∷◌, ◌++◌, append-nil, append_assoc, refl, map, Option}
-use Rattle.std.specs.Prelude.{codes, decimal}
-use Rattle.std.specs.List.{join_with_byte}
-use Rattle.std.proofs.lemmas.Grind.{flat_map-append}
+use Rattle.jc_litmus.proofs.Common.{◌≡◌, ◌∙◌, sym, ap, ℕ, List, [], ◌∷◌, ◌++◌, append-nil, append_assoc, refl, map, Option, codes, decimal, join_with_byte, flat_map-append, call_text, fail_words, source_words, flag_words, spelling, lone_text, open_text, spaced}
 use Rattle.jc_types.specs.declared.config.Config.{Config}
 use Rattle.jc_model.specs.declared.processor.EntryCall.{EntryCall}
 use Rattle.jc_world.specs.declared.process.LoadSource.{LoadSource}
-use Rattle.jc_script.specs.declared.line.Act.TheVariants.{Process}
-use Rattle.jc_script.specs.declared.line.Line.TheVariants.{OfCall, Open}
-use Rattle.jc_script.specs.ProcessWords.{call_text, fail_words, source_words}
-use Rattle.jc_script.specs.Spelled.{flag_words, spelling}
-use Rattle.jc_litmus.specs.Spaced.{lone_text, open_text, spaced}
+use Rattle.jc_script.specs.declared.read.line.Act.TheVariants.{Process}
+use Rattle.jc_script.specs.declared.read.line.Line.TheVariants.{OfCall, Open}
 
 pub joined_spaced : (w : List ℕ) (ws : List (List ℕ)) → join_with_byte 32 (w ∷ ws) ≡ w ++ spaced ws
 joined_spaced w [] = sym (append-nil w)

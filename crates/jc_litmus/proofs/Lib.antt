@@ -1,3 +1,4 @@
+pub mod Common
 pub mod Joined
 pub mod Meanings
 pub mod ProgramLines

@@ -2,10 +2,7 @@
 --     verdict_means     a verdict
 --     end_means         an end
 --     answers_of        the answer to a program is one
-use Rattle.std.proofs.Common.{Ok, Err, Result, inl, ◌≡◌, refl, ℕ, suc, ◌<◌, ◌≤◌, List, [], ◌∷◌, length, get_or, Bool, true, false, cond, Option, None, Some, subst, arith}
-use Rattle.std.specs.Prelude.{position, IfOk}
-use Rattle.std.specs.List.{Any, list_any, position_or_len}
-use Rattle.std.proofs.lemmas.Grind.{common_steps}
+use Rattle.jc_litmus.proofs.Common.{Ok, Err, Result, inl, ◌≡◌, refl, ℕ, suc, ◌<◌, ◌≤◌, List, [], ◌∷◌, length, get_or, Bool, true, false, cond, Option, None, Some, subst, arith, position, IfOk, Any, list_any, position_or_len, common_steps, decides, end_of, first_deciding, is_failure, verdict_from, verdict_on, program_of, value_of_program}
 use Rattle.std.proofs.lemmas.List.Quantifiers.{position-Some}
 use Rattle.std.proofs.lemmas.List.Sums.{fails_before_first}
 use Rattle.jc_explore.specs.declared.program.Program.{Program}
@@ -21,10 +18,9 @@ use Rattle.jc_litmus.specs.declared.program.Quantifier.{Quantifier}
 use Rattle.jc_litmus.specs.declared.program.Quantifier.TheVariants.{Never, Sometimes, Always}
 use Rattle.jc_litmus.specs.declared.run.LitmusEnd.{LitmusEnd}
 use Rattle.jc_litmus.specs.declared.run.LitmusEnd.TheVariants as end
-use Rattle.jc_litmus.specs.Judging.{decides, end_of, first_deciding, is_failure, verdict_from, verdict_on}
-use Rattle.jc_litmus.specs.Program.{program_of, value_of_program}
 use Rattle.jc_litmus.specs.Meaning.{EndMeans, IsDecided, IsUndecided, Means, MeansBy, FulfilledBy, MissedBy}
-use Rattle.jc_litmus.specs.Running.{Answers, IsAnswer, IsExplored}
+use Rattle.jc_explore.specs.Search.{HasExplored}
+use Rattle.jc_litmus.specs.Running.{Answers, IsAnswer}
 
 decided_by : (p : Program) (e : Expectation) (found : List Finding) (i : ℕ) → AreWitnessed p found → first_deciding e found ≡ Some i → IsDecided p e
 decided_by p e [] i w eq = absurd cc
@@ -44,17 +40,17 @@ undecided_by p e found each eq schedule f whole =
 
 means_by : (p : Program) (e : Expectation) (q : Quantifier) (first : Option ℕ) (whole : Bool)
     → ((i : ℕ) → first ≡ Some i → IsDecided p e) → (first ≡ None → whole ≡ true → IsUndecided p e) → MeansBy p e q (verdict_from q first whole)
-means_by p e Sometimes (Some i) whole decided undecided = decided i refl
-means_by p e Never (Some i) whole decided undecided = decided i refl
-means_by p e Always (Some i) whole decided undecided = decided i refl
 means_by p e Sometimes None true decided undecided = undecided refl refl
 means_by p e Never None true decided undecided = undecided refl refl
 means_by p e Always None true decided undecided = undecided refl refl
 means_by p e Sometimes None false decided undecided = tt
 means_by p e Never None false decided undecided = tt
 means_by p e Always None false decided undecided = tt
+means_by p e Sometimes (Some i) whole decided undecided = decided i refl
+means_by p e Never (Some i) whole decided undecided = decided i refl
+means_by p e Always (Some i) whole decided undecided = decided i refl
 
-pub verdict_means : (p : Program) (budget : ℕ) (r : Explored) (e : Expectation) → IsExplored p budget r → Means p e (verdict_on r e)
+pub verdict_means : (p : Program) (budget : ℕ) (r : Explored) (e : Expectation) → HasExplored p budget r → Means p e (verdict_on r e)
 verdict_means p budget r e found =
     means_by p e e.quantifier (first_deciding e r.found.items) r.is_whole
     (λ i eq. decided_by p e r.found.items i found.witnessed eq)
@@ -88,7 +84,7 @@ some_of : {X : Type 0} (test : X → Bool) (xs : List X) → list_any test xs �
 some_of test [] any = absurd cc
 some_of test (x ∷ xs) any = some_by test x xs (test x) refl (λ more. some_of test xs more) any
 
-end_by : (p : Program) (budget : ℕ) (r : Explored) (es : List Expectation) → IsExplored p budget r → (fails whole : Bool)
+end_by : (p : Program) (budget : ℕ) (r : Explored) (es : List Expectation) → HasExplored p budget r → (fails whole : Bool)
     → list_any (λ e. is_failure (verdict_on r e)) es ≡ fails → r.is_whole ≡ whole
     → EndMeans p es (cond fails end.Fails (cond whole end.Holds end.Open))
 end_by p budget r es found true whole any w =
@@ -102,7 +98,7 @@ end_by p budget r es found false true any w = λ k d inside.
     (subst (λ (b : Bool). MeansBy p e e.quantifier (verdict_from e.quantifier (first_deciding e r.found.items) b)) w (verdict_means p budget r e found))
 end_by p budget r es found false false any w = tt
 
-pub end_means : (p : Program) (budget : ℕ) (r : Explored) (es : List Expectation) → IsExplored p budget r → EndMeans p es (end_of r es)
+pub end_means : (p : Program) (budget : ℕ) (r : Explored) (es : List Expectation) → HasExplored p budget r → EndMeans p es (end_of r es)
 end_means p budget r es found = end_by p budget r es found (list_any (λ e. is_failure (verdict_on r e)) es) r.is_whole refl refl
 
 pub answers_of : {V E : Type 0} (budget : ℕ) (input : List ℕ) (x : Litmus) (out : V → List ℕ) (end : V → LitmusEnd) (r : Result V E)

@@ -1,20 +1,14 @@
 -- A program from its first line on.
 --     onto_the_last     an item more in the last of some threads
 --     pushed            the same, of threads in a vector
---     pieces_some       there is always a piece of a text
 --     next_line         a line that is read
 --     at_fault          a line at fault
 --     last_line         what is behind the last line feed
-use Rattle.std.proofs.Common.{◌≡◌, ◌∙◌, ◌==◌, ap, sym, refl, ℕ, ◌+◌, Bool, true, false, cond, List, [], ◌∷◌, ◌++◌, Result, Ok, Err, map}
+use Rattle.jc_litmus.proofs.Common.{◌≡◌, ◌∙◌, ◌==◌, ap, sym, refl, ℕ, ◌+◌, Bool, true, false, cond, List, [], ◌∷◌, ◌++◌, Result, Ok, Err, map, pieces_some, map-append, pieces_of, LineFault, after_line, ended, fault_at, is_blank, onto_last, program_from, ReadSoFar, ReadsLines, then_on}
 use Rattle.std.specs.Global.{Vec}
-use Rattle.std.specs.List.{onto_first}
-use Rattle.std.proofs.lemmas.List.{map-append}
 use Rattle.jc_explore.specs.declared.program.Item.{Item}
-use Rattle.jc_script.specs.Transcript.{pieces_of}
 use Rattle.jc_litmus.specs.declared.line_error.LineError.{LineError}
 use Rattle.jc_litmus.specs.declared.line_error.LineError.TheVariants as errors
-use Rattle.jc_litmus.specs.declared.program.LineFault.{LineFault}
-use Rattle.jc_litmus.specs.Program.{after_line, ended, fault_at, is_blank, onto_last, program_from, ReadSoFar, ReadsLines, then_on}
 use Rattle.jc_litmus.specs.Reads.{Reads}
 
 pub onto_the_last : (one : Item) (threads : List (List Item)) (last : List Item) → onto_last one (threads ++ last ∷ []) ≡ threads ++ (last ++ one ∷ []) ∷ []
@@ -30,15 +24,6 @@ pushed one old front new last changed cut put back =
     ∙ ap (λ (x : List Item). map (λ t. t.items) front ++ x ∷ []) put
     ∙ sym (onto_the_last one (map (λ t. t.items) front) last.items)
     ∙ ap (λ (x : List (List Item)). onto_last one x) (sym (ap (λ (x : List (Vec Item)). map (λ t. t.items) x) cut ∙ map-append (λ (t : Vec Item). t.items) front (last ∷ [])))
-
-first_of : (t : Bool) (x : ℕ) (parts : List (List ℕ)) → (p : List ℕ) × (ps : List (List ℕ)) × (cond t ([] ∷ parts) (onto_first x parts) ≡ p ∷ ps)
-first_of true x parts = ([], parts, refl)
-first_of false x [] = (x ∷ [], [], refl)
-first_of false x (q ∷ qs) = (x ∷ q, qs, refl)
-
-pub pieces_some : (bs : List ℕ) → (p : List ℕ) × (ps : List (List ℕ)) × (pieces_of bs ≡ p ∷ ps)
-pieces_some [] = ([], [], refl)
-pieces_some (b ∷ bs) = first_of (b == 10) b (pieces_of bs)
 
 -- a line that has more behind it
 at_line : (so_far : ReadSoFar) (n : ℕ) (text after rest : List ℕ) → pieces_of rest ≡ text ∷ pieces_of after

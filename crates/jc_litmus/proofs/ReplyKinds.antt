@@ -1,17 +1,11 @@
 -- The replies that calls of a kind have are those that are read, and those of the operation table.
 --     read_of_kind        an expectation's word is read as such a reply
 --     table_of_kind       each reply that the operation table gives is one
-use Rattle.std.proofs.Common.{◌≡◌, ℕ, Bool, true, false, cond, List, Option, None, Some, Result, Ok, Err, refl, subst}
-use Rattle.std.specs.Prelude.{codes, ◌&&◌, is_none, is_some}
+use Rattle.jc_litmus.proofs.Common.{◌≡◌, ℕ, Bool, true, false, cond, List, Option, None, Some, Result, Ok, Err, refl, subst, codes, ◌&&◌, is_none, is_some, bytes_eq, and_parts, common_steps, HistoryFull, LoaderFailed, WriterFailed, ProcessorFailed, Bytes, Reply, Fault, number_of, value_or_none_of, LineFault, BadReply, ReplyKind, halves_of, failure_with, plain_reply, plain_value, refusal_of, reply_from, reply_kind, HasRefusal, HasReply, RepliesAreOfKind, RepliesOfTable}
 use Rattle.std.specs.Bool.{beq}
-use Rattle.std.specs.Str.{bytes_eq}
-use Rattle.std.proofs.lemmas.Bool.{and_parts}
-use Rattle.std.proofs.lemmas.Grind.{common_steps}
 use Rattle.jc_types.specs.declared.refusal.Refusal.{Refusal}
-use Rattle.jc_types.specs.declared.refusal.Refusal.TheVariants.{HistoryFull, LoaderFailed, WriterFailed, ProcessorFailed}
-use Rattle.jc_model.specs.Cache.{Bytes}
 use Rattle.jc_model.specs.declared.event.Op.{Op}
-use Rattle.jc_model.specs.declared.event.Op.TheVariants.{Get, ContainsKey, Put, GetAndPut, PutIfAbsent, Remove, RemoveIf, GetAndRemove, Replace, ReplaceIf, GetAndReplace, Clear, LoadAll, Invoke}
+use Rattle.jc_model.specs.declared.event.Op.TheVariants.{Get, ContainsKey, Clear, LoadAll, Invoke}
 use Rattle.jc_model.specs.declared.event.Out.{Out}
 use Rattle.jc_model.specs.declared.event.LoadAnswer.{LoadAnswer}
 use Rattle.jc_model.specs.declared.event.LoadAnswer.TheVariants as load
@@ -19,19 +13,10 @@ use Rattle.jc_model.specs.declared.event.WriteAnswer.{WriteAnswer}
 use Rattle.jc_model.specs.declared.event.WriteAnswer.TheVariants as write
 use Rattle.jc_model.specs.declared.event.ProcessAnswer.{ProcessAnswer}
 use Rattle.jc_model.specs.declared.event.ProcessAnswer.TheVariants as process
-use Rattle.jc_model.specs.declared.event.Reply.{Reply}
 use Rattle.jc_model.specs.declared.event.Reply.TheVariants as reply
 use Rattle.jc_model.specs.Table.{early_fault, first_fault, first_of_two, is_invoke, is_load_given, is_process_given, is_write_given, load_fault, load_fits, loader_ask, process_fault, reply_by_fault, reply_without_fault, write_ask, write_fault}
-use Rattle.jc_script.specs.declared.fault.Fault.{Fault}
-use Rattle.jc_script.specs.Words.{number_of, value_or_none_of}
-use Rattle.jc_litmus.specs.declared.program.LineFault.{LineFault}
-use Rattle.jc_litmus.specs.declared.program.LineFault.TheVariants.{BadReply}
 use Rattle.jc_litmus.specs.declared.reply_words.Answer.{Answer}
 use Rattle.jc_litmus.specs.declared.reply_words.Answer.TheVariants as answer
-use Rattle.jc_litmus.specs.declared.reply_words.ReplyKind.{ReplyKind}
-use Rattle.jc_litmus.specs.WordParts.{halves_of}
-use Rattle.jc_litmus.specs.ReplyWords.{failure_with, plain_reply, plain_value, refusal_of, reply_from, reply_kind}
-use Rattle.jc_litmus.specs.ReplyTexts.{HasRefusal, HasReply, RepliesAreOfKind, RepliesOfTable}
 
 -- 1. What is read.
 
@@ -100,74 +85,29 @@ by_fault kind None r may has = has
 
 plain_of_table : (op : Op) (entry : Option Bytes) (out : Out) → HasReply (reply_kind op) (reply_without_fault op entry out)
 plain_of_table Get entry out = refl
-plain_of_table ContainsKey entry out = refl
-plain_of_table (Put value) entry out = refl
-plain_of_table (GetAndPut value) entry out = refl
-plain_of_table (PutIfAbsent value) entry out = refl
-plain_of_table Remove entry out = refl
-plain_of_table (RemoveIf old) entry out = refl
-plain_of_table GetAndRemove entry out = refl
-plain_of_table (Replace value) entry out = refl
-plain_of_table (ReplaceIf old value) entry out = refl
-plain_of_table (GetAndReplace value) entry out = refl
-plain_of_table Clear entry out = refl
-plain_of_table (LoadAll replace) entry out = refl
-plain_of_table Invoke entry out = refl
+plain_of_table op entry out = refl
 
 loader_of_table : (through : Bool) (op : Op) (entry : Option Bytes) → load_fits (loader_ask through op entry) true ≡ true → (reply_kind op).loader ≡ true
 loader_of_table through Get entry e = refl
 loader_of_table through (LoadAll replace) entry e = refl
 loader_of_table through Invoke entry e = refl
-loader_of_table through ContainsKey entry e = e
-loader_of_table through (Put value) entry e = e
-loader_of_table through (GetAndPut value) entry e = e
-loader_of_table through (PutIfAbsent value) entry e = e
-loader_of_table through Remove entry e = e
-loader_of_table through (RemoveIf old) entry e = e
-loader_of_table through GetAndRemove entry e = e
-loader_of_table through (Replace value) entry e = e
-loader_of_table through (ReplaceIf old value) entry e = e
-loader_of_table through (GetAndReplace value) entry e = e
-loader_of_table through Clear entry e = e
+loader_of_table through op entry e = e
 
 processor_of_table : (op : Op) → beq true (is_invoke op) ≡ true → (reply_kind op).processor ≡ true
 processor_of_table Invoke e = refl
-processor_of_table Get e = e
-processor_of_table ContainsKey e = e
-processor_of_table (Put value) e = e
-processor_of_table (GetAndPut value) e = e
-processor_of_table (PutIfAbsent value) e = e
-processor_of_table Remove e = e
-processor_of_table (RemoveIf old) e = e
-processor_of_table GetAndRemove e = e
-processor_of_table (Replace value) e = e
-processor_of_table (ReplaceIf old value) e = e
-processor_of_table (GetAndReplace value) e = e
-processor_of_table Clear e = e
-processor_of_table (LoadAll replace) e = e
+processor_of_table op e = e
 
 writer_of_table : (op : Op) (entry : Option Bytes) (p : ProcessAnswer) → is_some (write_ask op entry p) ≡ true → (reply_kind op).writer ≡ true
-writer_of_table (Put value) entry p e = refl
-writer_of_table (GetAndPut value) entry p e = refl
-writer_of_table (PutIfAbsent value) entry p e = refl
-writer_of_table Remove entry p e = refl
-writer_of_table (RemoveIf old) entry p e = refl
-writer_of_table GetAndRemove entry p e = refl
-writer_of_table (Replace value) entry p e = refl
-writer_of_table (ReplaceIf old value) entry p e = refl
-writer_of_table (GetAndReplace value) entry p e = refl
-writer_of_table Invoke entry p e = refl
 writer_of_table Get entry p e = e
 writer_of_table ContainsKey entry p e = e
 writer_of_table Clear entry p e = e
 writer_of_table (LoadAll replace) entry p e = e
+writer_of_table op entry p e = refl
 
 load_may : (through : Bool) (op : Op) (entry : Option Bytes) (l : LoadAnswer) → load_fits (loader_ask through op entry) (is_load_given l) ≡ true
     → MayFail (reply_kind op) (load_fault l)
 load_may through op entry (load.Failed code) e = loader_of_table through op entry e
-load_may through op entry load.NotAsked e = tt
-load_may through op entry (load.Found value) e = tt
-load_may through op entry load.Nothing e = tt
+load_may through op entry other e = tt
 
 process_may : (op : Op) (p : ProcessAnswer) → beq (is_process_given p) (is_invoke op) ≡ true → MayFail (reply_kind op) (process_fault p)
 process_may op (process.Failed code) e = processor_of_table op e

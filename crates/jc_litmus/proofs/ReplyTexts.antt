@@ -3,31 +3,13 @@
 --     replies_back        what an expectation writes for a reply is read as that reply
 --     replies_told        of two replies the texts differ
 --     silence_told        none of these texts is that of a call that is never answered
-use Rattle.std.proofs.Common.{◌≡◌, ◌∙◌, ◌==◌, ℕ, ◌+◌, ◌%◌, ◌^◌, ◌<◌, Bool, true, false, not, List, [], ◌∷◌, ◌++◌, length, map, None, Some, Result, Ok, Err, inl, inr, refl, ap, arith}
-use Rattle.std.specs.Prelude.{codes, decimal, ◌&&◌, nat_lt, nat_le}
-use Rattle.std.specs.List.{list_all, position_or_len}
-use Rattle.std.specs.Str.{bytes_eq}
-use Rattle.std.proofs.lemmas.Bool.{and_from, and_left, and_parts, cond-true, cond-false, not_from_false}
+use Rattle.jc_litmus.proofs.Common.{◌≡◌, ◌∙◌, ◌==◌, ℕ, ◌+◌, ◌%◌, ◌^◌, ◌<◌, Bool, true, false, not, List, [], ◌∷◌, ◌++◌, length, map, None, Some, Result, Ok, Err, inl, inr, refl, ap, arith, codes, decimal, ◌&&◌, nat_lt, nat_le, list_all, position_or_len, bytes_eq, and_from, and_left, and_parts, cond-true, cond-false, not_from_false, common_steps, take_at, HistoryFull, Busy, TooManyInFlight, TooManyJoiners, LoaderFailed, WriterFailed, ProcessorFailed, OutOfMemory, TooManyKeys, BadConfig, NoLoader, NoWriter, TooManySessions, StillReserved, RepeatedKey, Bytes, Reply, Fault, IsNumber, IsValue, NumbersReadBack, ValuesReadBack, is_letter, number_of, some_value, value_or_none_of, LineFault, BadReply, ReplyKind, halves_of, failure_with, plain_reply, plain_value, reply_from, reply_said, two_words, colon_for_space, RepliesAreTold, RepliesReadBack, reply_word, SilenceIsTold, no_dash, text_shown}
 use Rattle.std.proofs.lemmas.Fmt.{decimal_by_steps}
-use Rattle.std.proofs.lemmas.Grind.{common_steps}
-use Rattle.std.proofs.lemmas.List.{take_at}
 use Rattle.std.proofs.lemmas.List.Folds.{list_all-append}
 use Rattle.std.proofs.Math.Seq.{drop-append-add}
 use Rattle.jc_types.specs.declared.limits.TheConstants.{VALUE_MAX}
-use Rattle.jc_types.specs.declared.refusal.Refusal.TheVariants.{HistoryFull, Busy, TooManyInFlight, TooManyJoiners, LoaderFailed, WriterFailed, ProcessorFailed, OutOfMemory, TooManyKeys, BadConfig, NoLoader, NoWriter, TooManySessions, StillReserved, RepeatedKey}
-use Rattle.jc_model.specs.Cache.{Bytes}
-use Rattle.jc_model.specs.declared.event.Reply.{Reply}
 use Rattle.jc_model.specs.declared.event.Reply.TheVariants as reply
-use Rattle.jc_script.specs.declared.fault.Fault.{Fault}
 use Rattle.jc_script.specs.Printing.{coded_text, value_text}
-use Rattle.jc_script.specs.Spelled.{IsNumber, IsValue, NumbersReadBack, ValuesReadBack}
-use Rattle.jc_script.specs.Words.{is_letter, number_of, some_value, value_or_none_of}
-use Rattle.jc_litmus.specs.declared.program.LineFault.{LineFault}
-use Rattle.jc_litmus.specs.declared.program.LineFault.TheVariants.{BadReply}
-use Rattle.jc_litmus.specs.declared.reply_words.ReplyKind.{ReplyKind}
-use Rattle.jc_litmus.specs.WordParts.{halves_of}
-use Rattle.jc_litmus.specs.ReplyWords.{failure_with, plain_reply, plain_value, reply_from, reply_said, two_words}
-use Rattle.jc_litmus.specs.ReplyTexts.{colon_for_space, RepliesAreTold, RepliesReadBack, reply_word, SilenceIsTold}
 
 -- 1. Words without a space and a colon.
 
@@ -98,25 +80,12 @@ letters_inner (b ∷ bs) e =
     let both = and_parts (is_letter b) (list_all is_letter bs) e in
     and_from _ _ (letter_inner b both.0) (letters_inner bs both.1)
 
-shown : (b : ℕ) (bs : List ℕ) → value_text (b ∷ bs) ≡ b ∷ bs
-shown b bs = cond-false (length (b ∷ bs) == 0) (codes "~") (b ∷ bs) (grind (arith, common_steps))
-
 value_inner : (v : Bytes) → IsValue v → list_all is_inner (value_text v) ≡ true
 value_inner v (inl e) = rw e refl
 value_inner [] (inr t) = refl
 value_inner (b ∷ bs) (inr t) =
     let letters = and_parts (nat_lt 0 (length (b ∷ bs)) && nat_le (length (b ∷ bs)) VALUE_MAX) (list_all is_letter (b ∷ bs)) t in
-    rw (shown b bs) (letters_inner (b ∷ bs) letters.1)
-
-dash_is_no_letter : (b : ℕ) → is_letter b ≡ true → (b == 45) ≡ false
-dash_is_no_letter b e = grind (arith, common_steps)
-
-no_dash : (v : Bytes) → IsValue v → bytes_eq (value_text v) (codes "-") ≡ false
-no_dash v (inl e) = rw e refl
-no_dash [] (inr t) = refl
-no_dash (b ∷ bs) (inr t) =
-    let letters = and_parts (nat_lt 0 (length (b ∷ bs)) && nat_le (length (b ∷ bs)) VALUE_MAX) (list_all is_letter (b ∷ bs)) t in
-    rw (shown b bs) (and_left _ _ (dash_is_no_letter b (and_parts (is_letter b) (list_all is_letter bs) letters.1).0))
+    rw (text_shown b bs) (letters_inner (b ∷ bs) letters.1)
 
 -- 3. Replies are read back.
 
@@ -176,16 +145,7 @@ replies_back numbers values kind (reply.Fault (ProcessorFailed code)) known =
 replies_back numbers values kind (reply.Fault (WriterFailed code)) known =
     coded_back kind (codes "WriterFailed") code _ refl known.1 (writer_back kind code known.0 (numbers code known.1))
 replies_back numbers values kind (reply.Fault Busy) known = absurd known.0
-replies_back numbers values kind (reply.Fault TooManyInFlight) known = absurd known.0
-replies_back numbers values kind (reply.Fault TooManyJoiners) known = absurd known.0
-replies_back numbers values kind (reply.Fault OutOfMemory) known = absurd known.0
-replies_back numbers values kind (reply.Fault TooManyKeys) known = absurd known.0
-replies_back numbers values kind (reply.Fault (BadConfig field)) known = absurd known.0
-replies_back numbers values kind (reply.Fault NoLoader) known = absurd known.0
-replies_back numbers values kind (reply.Fault NoWriter) known = absurd known.0
-replies_back numbers values kind (reply.Fault TooManySessions) known = absurd known.0
-replies_back numbers values kind (reply.Fault StillReserved) known = absurd known.0
-replies_back numbers values kind (reply.Fault RepeatedKey) known = absurd known.0
+replies_back numbers values kind other known = absurd known.0
 
 -- 4. So their texts tell them.
 

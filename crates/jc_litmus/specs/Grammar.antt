@@ -21,11 +21,11 @@ use Rattle.jc_world.specs.declared.process.LoadSource.TheVariants.{Store, Stated
 use Rattle.jc_explore.specs.declared.program.Faults.{Faults}
 use Rattle.jc_script.specs.declared.fault.Fault.{Fault}
 use Rattle.jc_script.specs.declared.fault.Fault.TheVariants.{BadLine}
-use Rattle.jc_script.specs.declared.line.Line.{Line}
-use Rattle.jc_script.specs.declared.line.Line.TheVariants as line
-use Rattle.jc_script.specs.declared.line.Act.{Act}
-use Rattle.jc_script.specs.declared.line.Act.TheVariants as act
-use Rattle.jc_script.specs.declared.line.Operation.{Operation}
+use Rattle.jc_script.specs.declared.read.line.Line.{Line}
+use Rattle.jc_script.specs.declared.read.line.Line.TheVariants as line
+use Rattle.jc_script.specs.declared.read.line.Act.{Act}
+use Rattle.jc_script.specs.declared.read.line.Act.TheVariants as act
+use Rattle.jc_script.specs.declared.read.line.Operation.{Operation}
 use Rattle.jc_script.specs.Words.{number_of}
 use Rattle.jc_script.specs.Lines.{begin_of, read_line}
 use Rattle.jc_litmus.specs.Atoms.{in_script}

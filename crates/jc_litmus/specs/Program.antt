@@ -41,8 +41,8 @@ use Rattle.jc_explore.specs.declared.program.Item.{Item}
 use Rattle.jc_explore.specs.declared.program.Item.TheVariants as item
 use Rattle.jc_script.specs.declared.fault.Fault.{Fault}
 use Rattle.jc_script.specs.declared.fault.Fault.TheVariants.{BadLine, CutLine, NotOpen, OpenTwice, SetTooLate}
-use Rattle.jc_script.specs.declared.line.Line.{Line}
-use Rattle.jc_script.specs.declared.line.Line.TheVariants as line
+use Rattle.jc_script.specs.declared.read.line.Line.{Line}
+use Rattle.jc_script.specs.declared.read.line.Line.TheVariants as line
 use Rattle.jc_script.specs.Words.{key_of, words_of}
 use Rattle.jc_script.specs.Lines.{are_words, read_line}
 use Rattle.jc_script.specs.Transcript.{pieces_of}

@@ -1,6 +1,7 @@
 -- Replies: those that an operation may have, and their words in an expectation. A word is what a transcript prints, with a colon
 -- in place of a space.
 --     silent, loading, writing    the replies of an operation that asks nobody outside, the loader alone, the writer alone
+--     answer_in, answer_of        the kind of answer in a reply, and that of an operation, which is the same at each key
 --     reply_kind                  the replies that an operation may have
 --     plain_value                 a value or none that is a reply
 --     plain_reply                 the reply of a call without a fault, from its only word
@@ -11,14 +12,16 @@
 --     two_words                   the reply of a call that was refused, or that had a fault, from its two words
 --     reply_from, reply_said      the reply that a word names, from the parts before and after its colon, if it has one, and from
 --                                 the word alone
-use Rattle.std.specs.Prelude.{ℕ, List, codes, Bool, true, false, ◌&&◌, Option, None, Some, Result, Ok, Err, if◌then◌else◌}
+use Rattle.std.specs.Prelude.{ℕ, List, codes, true, false, ◌&&◌, Option, None, Some, Result, Ok, Err, if◌then◌else◌}
 use Rattle.std.specs.Str.{bytes_eq}
 use Rattle.jc_types.specs.declared.refusal.Refusal.TheVariants.{HistoryFull, LoaderFailed, WriterFailed, ProcessorFailed}
 use Rattle.jc_model.specs.Cache.{Bytes}
 use Rattle.jc_model.specs.declared.event.Op.{Op}
-use Rattle.jc_model.specs.declared.event.Op.TheVariants as op
+use Rattle.jc_model.specs.declared.event.OpKind.TheVariants as kinds
 use Rattle.jc_model.specs.declared.event.Reply.{Reply}
 use Rattle.jc_model.specs.declared.event.Reply.TheVariants as reply
+use Rattle.jc_model.specs.Table.{op_kind, reply_after}
+use Rattle.jc_model.specs.Group.{nothing_said}
 use Rattle.jc_script.specs.declared.fault.Fault.{Fault}
 use Rattle.jc_script.specs.Words.{number_of, value_or_none_of}
 use Rattle.jc_litmus.specs.declared.program.LineFault.{LineFault}
@@ -39,21 +42,25 @@ loading kind = record { answer = kind; loader = true; processor = false; writer 
 abbrev pub writing : Answer → ReplyKind
 writing kind = record { answer = kind; loader = false; processor = false; writer = true }
 
+-- without an outside answer no reply is a fault
+abbrev pub answer_in : Reply → Answer
+answer_in reply.Unit = answer.Unit
+answer_in (reply.Flag flag) = answer.Flag
+answer_in (reply.Value value) = answer.Value
+answer_in (reply.Fault fault) = answer.Unit
+
+abbrev pub answer_of : Op → Answer
+answer_of op = answer_in (reply_after op None nothing_said)
+
 abbrev pub reply_kind : Op → ReplyKind
-reply_kind op.Get = loading answer.Value
-reply_kind op.ContainsKey = silent answer.Flag
-reply_kind (op.Put value) = writing answer.Unit
-reply_kind (op.GetAndPut value) = writing answer.Value
-reply_kind (op.PutIfAbsent value) = writing answer.Flag
-reply_kind op.Remove = writing answer.Flag
-reply_kind (op.RemoveIf old) = writing answer.Flag
-reply_kind op.GetAndRemove = writing answer.Value
-reply_kind (op.Replace value) = writing answer.Flag
-reply_kind (op.ReplaceIf old value) = writing answer.Flag
-reply_kind (op.GetAndReplace value) = writing answer.Value
-reply_kind op.Clear = silent answer.Unit
-reply_kind (op.LoadAll replace) = loading answer.Unit
-reply_kind op.Invoke = record { answer = answer.Value; loader = true; processor = true; writer = true }
+reply_kind op = elim (op_kind op) [
+  | kinds.Get ↦ loading (answer_of op)
+  | kinds.LoadAll replace ↦ loading (answer_of op)
+  | kinds.ContainsKey ↦ silent (answer_of op)
+  | kinds.Clear ↦ silent (answer_of op)
+  | kinds.Write ↦ writing (answer_of op)
+  | kinds.Invoke ↦ record { answer = answer_of op; loader = true; processor = true; writer = true }
+]
 
 -- 2. One word: there was no fault.
 

@@ -1,19 +1,16 @@
 -- Runs, from the bytes of a reader to the bytes of a writer.
---     IsExplored     the result of an exploration with this budget of states: outcomes with shortest schedules of theirs, no two
---                    the same, and all of them if it is whole, with no more states than the budget; otherwise it has met more
---                    states than the budget, or found more outcomes than the limit
 --     IsAnswer       an output is the answer of an exploration of a program; each verdict in it, and the end, which is that of
 --                    the expectations, has its meaning for all schedules
 --     IsComplaint    an output names the first line of the input that is at fault, with its fault, and the end is `LineFault`
 --     Answers        the answer to the program of the input's text, or the complaint about that text
 --     Ran            the input was read to its end, and its answer written
 --     Broke          the input was read to its end, and a prefix of its answer written, up to a write that failed
-use Rattle.std.specs.Prelude.{◌≡◌, ◌≤◌, ◌⊎◌, ℕ, List, take, length, Option, Ok, Err, true, false}
+use Rattle.std.specs.Prelude.{◌≡◌, ◌≤◌, ◌⊎◌, ℕ, List, take, length, Option, Ok, Err}
 use Rattle.std.specs.List.{All}
 use Rattle.std.specs.Io.KnownBytes.{Appends}
 use Rattle.jc_explore.specs.declared.program.Program.{Program}
 use Rattle.jc_explore.specs.declared.search.Explored.{Explored}
-use Rattle.jc_explore.specs.Explored.{AreDistinct, AreShortest, AreWitnessed, HasEachOutcome, IsCounted, IsTried}
+use Rattle.jc_explore.specs.Search.{HasExplored}
 use Rattle.jc_script.specs.Running.{ReadsAll}
 use Rattle.jc_litmus.specs.declared.run.LitmusEnd.{LitmusEnd}
 use Rattle.jc_litmus.specs.declared.run.LitmusEnd.TheVariants.{LineFault}
@@ -24,18 +21,9 @@ use Rattle.jc_litmus.specs.Meaning.{EndMeans, Means}
 use Rattle.jc_litmus.specs.Outcomes.{answer_text, fault_text}
 use Rattle.jc_litmus.specs.Program.{program_of, value_of_program}
 
-pub record IsExplored (p : Program) (budget : ℕ) (r : Explored) : Type 0 where
-  pub witnessed : AreWitnessed p r.found.items
-  pub distinct : AreDistinct r.found.items
-  pub shortest : AreShortest p r.found.items
-  pub all : r.is_whole ≡ true → HasEachOutcome p r.found.items
-  pub within : r.is_whole ≡ true → r.states ≤ budget
-  pub tried : r.is_whole ≡ false → IsTried budget r
-  pub counted : IsCounted p budget r
-
 pub record IsAnswer (budget : ℕ) (x : Litmus) (out : List ℕ) (end : LitmusEnd) : Type 0 where
   pub explored : Explored
-  pub is_explored : IsExplored x.program budget explored
+  pub is_explored : HasExplored x.program budget explored
   pub out_is : out ≡ answer_text budget x.program explored x.expectations.items
   pub verdicts : All (λ e. Means x.program e (verdict_on explored e)) x.expectations.items
   pub end_is : end ≡ end_of explored x.expectations.items

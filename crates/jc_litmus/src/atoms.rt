@@ -15,7 +15,7 @@ use crate::word_parts::{begins_with, behind, halves_of};
 use jc_explore::Item;
 use jc_model::Reply;
 use jc_script::fault::Fault;
-use jc_script::words::{is, key, number, value_or_none};
+use jc_script::read::words::{is, key, number, value_or_none};
 use jc_types::{Key, Value};
 use std::alloc::AllocError;
 

@@ -1,5 +1,5 @@
 //! The calls of a program, by the numbers with which an expectation names them.
-ghost use Rattle.std.specs.Prelude.{◌≡◌, count_by, map, take, slice_get, option_copied};
+ghost use Rattle.std.specs.Prelude.{◌≡◌, count_by, map, take, slice_get};
 ghost use Rattle.jc_litmus.specs.Calls.{answered, is_call, answered_at, call_in, place_of, call_at, call_named};
 
 use crate::program::LineFault;
@@ -46,18 +46,11 @@ fn front(items: &[Item], count: usize) -> &[Item]
     }
 }
 
-/// The item at a place.
-fn item_at(items: &[Item], at: usize) -> Option<&Item>
-    ensures { option_copied result ≡ slice_get items.now at }
-{
-    items.get(at)
-}
-
 /// The kind of replies of the item at a place, if it is there and is a call.
 fn answered_at(items: &[Item], at: usize) -> Option<ReplyKind>
     ensures { result ≡ answered_at (slice_get items.now at) }
 {
-    match item_at(items, at) {
+    match items.get(at) {
         None => None,
         Some(item) => answered(item),
     }

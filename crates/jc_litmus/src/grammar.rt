@@ -10,10 +10,10 @@ use crate::line_error::LineError;
 use crate::program::{LineFault, Quantifier};
 use jc_explore::Faults;
 use jc_script::fault::Fault;
-use jc_script::grammar::{begin, read};
-use jc_script::line::{Act, Line, Operation};
 use jc_script::put;
-use jc_script::words::{is, number};
+use jc_script::read::grammar::{begin, read};
+use jc_script::read::line::{Act, Line, Operation};
+use jc_script::read::words::{is, number};
 use jc_world::process::{EntryCalls, LoadSource};
 use std::alloc::{AllocError, Global};
 

@@ -70,7 +70,7 @@ pub enum Atom {
 pub struct Expectation {
     /// The number of outcomes that it is about.
     pub quantifier: Quantifier,
-    /// The atoms, all of which such an outcome has.
+    /// The atoms: such an outcome has all of them.
     pub atoms: Vec<Atom>,
     /// The line as it was written.
     pub text: Vec<u8>,

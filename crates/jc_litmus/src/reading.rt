@@ -4,33 +4,21 @@ ghost use Rattle.jc_types.specs.Limits.{check};
 ghost use Rattle.jc_script.specs.Lines.{ok_with};
 ghost use Rattle.jc_litmus.specs.Opened.{shape_fault};
 ghost use Rattle.jc_litmus.specs.Reads.{Reads};
-ghost use Rattle.jc_litmus.specs.Program.{after_call, after_expect, after_failing, after_invoke, after_item, after_line, after_open};
-ghost use Rattle.jc_litmus.specs.Program.{after_other_line, after_own_line, after_script_line, after_set, after_thread, expected};
-ghost use Rattle.jc_litmus.specs.Program.{fault_at, if_open, may_add, invocation, is_blank, is_outside, nothing_read, onto_last, program_from, program_of};
-ghost use Rattle.jc_litmus.specs.Program.{program_read, value_of_program, ReadsLines, ReadsProgram};
-ghost use Rattle.jc_litmus.specs.Grammar.{quantifier_named};
+ghost use Rattle.jc_litmus.specs.Program.{after_item, after_open, after_set, expected, fault_at, if_open, is_blank, may_add, nothing_read, onto_last};
+ghost use Rattle.jc_litmus.specs.Program.{program_from, program_of, program_read, value_of_program, ReadsLines, ReadsProgram};
 ghost use Rattle.jc_script.specs.Transcript.{pieces_of};
 ghost use Rattle.jc_litmus.specs.declared.program.TheConstants.{THREADS_MAX, ITEMS_MAX};
 ghost use Rattle.jc_explore.specs.declared.program.Item.TheVariants as items;
-ghost use Rattle.jc_litmus.specs.declared.line_error.LineError.TheVariants as errors;
-ghost use Rattle.jc_litmus.specs.declared.program.LineFault.TheVariants as faults;
-ghost use Rattle.jc_script.specs.declared.fault.Fault.TheVariants as script_faults;
 
-use crate::atoms::{add_atoms, are_atoms};
-use crate::grammar::{
-    begin_line, entry_calls, may_fail, operation_in, quantifier_named, with_fault,
-};
+mod lines;
+
 use crate::line_error::LineError;
-use crate::program::{
-    Expectation, ITEMS_MAX, LineFault, Litmus, ProgramFault, Quantifier, THREADS_MAX,
-};
+use crate::program::{Expectation, ITEMS_MAX, LineFault, Litmus, ProgramFault, THREADS_MAX};
 use jc_explore::{Faults, Item, Program};
 use jc_model::Op;
-use jc_script::fault::{Fault, ReadError};
-use jc_script::grammar::{none_empty, read};
-use jc_script::line::{Line, Operation};
+use jc_script::fault::Fault;
+use jc_script::read::line::Line;
 use jc_script::run::first_line;
-use jc_script::words::{is, key, split};
 use jc_types::{Config, Key, Refusal, Value};
 use jc_world::EntryCalls;
 use std::alloc::{AllocError, Global};
@@ -72,30 +60,6 @@ impl Model for Reading {
 struct Room<'a> {
     words: Vec<&'a [u8]>,
     line: Line,
-}
-
-fn bad_line() -> LineError
-    ensures { result ≡ errors.Fault (faults.Script script_faults.BadLine) }
-{
-    LineError::Fault(LineFault::Script(Fault::BadLine))
-}
-
-/// An entry processor on a key, with the calls that it makes there. `line` is a buffer for a line.
-#[tactic(auto, unfolding(crate::specs::Program::invocation))]
-fn invocation(alloc: Global, words: &[&[u8]], line: &mut Line) -> Result<Item, LineError>
-    ensures { Reads result (invocation (map (λ w. w.now) words.now)) }
-{
-    match words {
-        [k, colon, rest @ ..] => {
-            if !is(colon, ":") {
-                return Err(bad_line());
-            }
-            let key = key(k)?;
-            let calls = entry_calls(alloc, rest, line)?;
-            Ok(Item::Invoke { key, calls })
-        }
-        _ => Err(bad_line()),
-    }
 }
 
 /// The fault of a line whose shape of a cache is refused.
@@ -147,7 +111,7 @@ fn push_expectation(
 }
 
 impl Reading {
-    /// A program of which nothing was read yet.
+    /// The parts of a program before its first line is read.
     fn new(alloc: Global) -> Reading
         ensures { result ≡ nothing_read }
     {
@@ -240,168 +204,6 @@ impl Reading {
         self.add(Item::Foreign { key, value })
     }
 
-    /// Takes a line that a script may have, too.
-    #[tactic(auto, unfolding(crate::specs::Program::after_script_line))]
-    fn script_line(&mut self, line: &Line) -> Result<(), LineError>
-        ensures { Reads (ok_with self.new result) (after_script_line self.old line.now) }
-    {
-        match line {
-            Line::Open(config) => Ok(self.open(config)?),
-            Line::Set(key, value) => self.set(key, value),
-            Line::Foreign(key, value) => self.foreign(key, value),
-            _ => {
-                self.check_open()?;
-                Err(LineError::Fault(LineFault::NotACall))
-            }
-        }
-    }
-
-    /// Adds a thread.
-    #[tactic(auto, unfolding(crate::specs::Program::after_thread))]
-    fn thread(&mut self, alloc: Global, words: &[&[u8]]) -> Result<(), LineError>
-        ensures { Reads (ok_with self.new result) (after_thread self.old (map (λ w. w.now) words.now)) }
-    {
-        if !words.is_empty() {
-            return Err(bad_line());
-        }
-        self.check_open()?;
-        if self.threads.len() >= THREADS_MAX {
-            return Err(LineError::Fault(LineFault::TooManyThreads));
-        }
-        push_thread(alloc, &mut self.threads)?;
-        Ok(())
-    }
-
-    /// Adds a call of one key.
-    #[tactic(auto, unfolding(crate::specs::Program::after_call))]
-    fn call(
-        &mut self,
-        alloc: Global,
-        first: &[u8],
-        rest: &[&[u8]],
-        line: &mut Line,
-    ) -> Result<(), LineError>
-        ensures { Reads (ok_with self.new result) (after_call self.old first.now (map (λ w. w.now) rest.now)) }
-    {
-        begin_line(alloc, first, rest, line)?;
-        self.check_open()?;
-        let Operation { op, key } = operation_in(line)?;
-        self.add(Item::Call { op, key })
-    }
-
-    /// Adds an entry processor on a key, with the calls that it makes there.
-    #[tactic(auto, unfolding(crate::specs::Program::after_invoke))]
-    fn invoke(&mut self, alloc: Global, words: &[&[u8]], line: &mut Line) -> Result<(), LineError>
-        ensures { Reads (ok_with self.new result) (after_invoke self.old (map (λ w. w.now) words.now)) }
-    {
-        let item = invocation(alloc, words, line)?;
-        self.add(item)
-    }
-
-    /// Adds a fault that may happen.
-    #[tactic(auto, unfolding(crate::specs::Program::after_failing))]
-    fn failing(&mut self, words: &[&[u8]]) -> Result<(), LineError>
-        ensures { Reads (ok_with self.new result) (after_failing self.old (map (λ w. w.now) words.now)) }
-    {
-        let (failing, code) = may_fail(words)?;
-        self.check_open()?;
-        self.faults = with_fault(self.faults, failing, code);
-        Ok(())
-    }
-
-    /// Adds an expectation of the outcomes.
-    #[tactic(auto, unfolding(crate::specs::Program::after_expect))]
-    fn expect(
-        &mut self,
-        alloc: Global,
-        quantifier: Quantifier,
-        text: &[u8],
-        words: &[&[u8]],
-    ) -> Result<(), LineError>
-        ensures { Reads (ok_with self.new result) (after_expect self.old quantifier text.now (map (λ w. w.now) words.now)) }
-    {
-        if !are_atoms(words) {
-            return Err(bad_line());
-        }
-        self.check_open()?;
-        let mut atoms = Vec::new(alloc);
-        add_atoms(&mut atoms, &self.threads, words)?;
-        let text = Vec::from_slice(alloc, text)?;
-        push_expectation(
-            &mut self.expectations,
-            Expectation {
-                quantifier,
-                atoms,
-                text,
-            },
-        )?;
-        Ok(())
-    }
-
-    /// Takes a line that no script has, by its first word and those after it.
-    #[tactic(auto, unfolding(crate::specs::Program::after_own_line))]
-    fn own_line(
-        &mut self,
-        alloc: Global,
-        text: &[u8],
-        first: &[u8],
-        words: &[&[u8]],
-        line: &mut Line,
-    ) -> Result<(), LineError>
-        ensures { Reads (ok_with self.new result) (after_own_line self.old text.now first.now (map (λ w. w.now) words.now) (quantifier_named first.now)) }
-    {
-        match quantifier_named(first) {
-            Some(quantifier) => self.expect(alloc, quantifier, text, words),
-            None => match first {
-                _ if is(first, "thread") => self.thread(alloc, words),
-                _ if is(first, "invoke") => self.invoke(alloc, words, line),
-                _ => self.call(alloc, first, words, line),
-            },
-        }
-    }
-
-    /// Takes a line that no script has, by its words.
-    #[tactic(auto, unfolding(crate::specs::Program::after_other_line))]
-    fn other_line(
-        &mut self,
-        alloc: Global,
-        text: &[u8],
-        words: &[&[u8]],
-        line: &mut Line,
-    ) -> Result<(), LineError>
-        ensures { Reads (ok_with self.new result) (after_other_line self.old text.now (map (λ w. w.now) words.now)) }
-    {
-        if !none_empty(words) {
-            return Err(bad_line());
-        }
-        match words {
-            [] => Err(bad_line()),
-            [first, ..] if is_outside(first) => self.failing(words),
-            [first, rest @ ..] => self.own_line(alloc, text, first, rest, line),
-        }
-    }
-
-    /// Reads one line.
-    #[tactic(auto, unfolding(crate::specs::Program::after_line))]
-    fn read_line<'a>(
-        &mut self,
-        alloc: Global,
-        text: &'a [u8],
-        room: &mut Room<'a>,
-    ) -> Result<(), LineError>
-        ensures { Reads (ok_with self.new result) (after_line self.old text.now) }
-    {
-        match read(alloc, text, &mut room.words, &mut room.line) {
-            Ok(false) => Ok(()),
-            Ok(true) => self.script_line(&room.line),
-            Err(ReadError::Fault(Fault::BadLine)) => {
-                split(text, &mut room.words)?;
-                self.other_line(alloc, text, &room.words, &mut room.line)
-            }
-            Err(error) => Err(LineError::from(error)),
-        }
-    }
-
     /// The program, or none if the cache's shape wasn't read.
     fn finish(self) -> Option<Litmus>
         ensures program { MatchOption result (program_read self ≡ None) (λ x. program_read self ≡ Some (value_of_program x)) }
@@ -429,13 +231,6 @@ impl Reading {
             }),
         }
     }
-}
-
-/// Whether a word names one who is outside the cache.
-fn is_outside(word: &[u8]) -> bool
-    ensures { result ≡ is_outside word.now }
-{
-    is(word, "loader") || is(word, "writer") || is(word, "processor")
 }
 
 /// Whether there are no bytes.
@@ -480,7 +275,7 @@ fn read_lines<'a>(
     Ok((number, is_blank(rest)))
 }
 
-/// As [`read_lines`], with buffers of its own.
+/// Reads lines as [`read_lines`] does, with buffers of its own.
 fn read_all_lines(
     alloc: Global,
     input: &[u8],

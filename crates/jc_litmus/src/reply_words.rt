@@ -1,12 +1,12 @@
 //! Replies, as an expectation writes them.
 ghost use Rattle.std.specs.Prelude.{◌≡◌};
 ghost use Rattle.jc_script.specs.Words.{number_of};
-ghost use Rattle.jc_litmus.specs.ReplyWords.{failure_of, failure_with, loading, plain_reply, refusal_of, reply_kind, reply_said, silent, two_words, writing};
+ghost use Rattle.jc_litmus.specs.ReplyWords.{answer_of, failure_of, failure_with, loading, plain_reply, refusal_of, reply_kind, reply_said, silent, two_words, writing};
 
 use crate::program::LineFault;
 use crate::word_parts::halves_of;
-use jc_model::{Op, Reply};
-use jc_script::words::{is, number, value_or_none};
+use jc_model::{Op, OpKind, Out, Reply};
+use jc_script::read::words::{is, number, value_or_none};
 use jc_types::Refusal;
 
 /// The kind of answer of a call that is neither refused nor fails.
@@ -70,21 +70,28 @@ fn writing(answer: Answer) -> ReplyKind
     }
 }
 
+/// The kind of answer of an operation, which is the same at each key.
+fn answer_of(op: &Op) -> Answer
+    ensures { result ≡ answer_of op.now }
+{
+    match op.reply_after(None, &Out::nothing_said()) {
+        Reply::Unit | Reply::Fault(_) => Answer::Unit,
+        Reply::Flag(_) => Answer::Flag,
+        Reply::Value(_) => Answer::Value,
+    }
+}
+
 /// The replies that an operation may have.
 pub(crate) fn reply_kind(op: &Op) -> ReplyKind
     ensures { result ≡ reply_kind op.now }
 {
-    match op {
-        Op::Get => loading(Answer::Value),
-        Op::ContainsKey => silent(Answer::Flag),
-        Op::Put(_) => writing(Answer::Unit),
-        Op::PutIfAbsent(_) | Op::Remove | Op::RemoveIf(_) | Op::Replace(_) | Op::ReplaceIf { .. } =>
-            writing(Answer::Flag),
-        Op::GetAndPut(_) | Op::GetAndRemove | Op::GetAndReplace(_) => writing(Answer::Value),
-        Op::Clear => silent(Answer::Unit),
-        Op::LoadAll { .. } => loading(Answer::Unit),
-        Op::Invoke => ReplyKind {
-            answer: Answer::Value,
+    let answer = answer_of(op);
+    match op.kind() {
+        OpKind::Get | OpKind::LoadAll { .. } => loading(answer),
+        OpKind::ContainsKey | OpKind::Clear => silent(answer),
+        OpKind::Write => writing(answer),
+        OpKind::Invoke => ReplyKind {
+            answer,
             loader: true,
             processor: true,
             writer: true,

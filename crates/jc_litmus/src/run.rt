@@ -2,7 +2,8 @@
 ghost use Rattle.std.specs.Prelude.{◌≡◌, ◌≢◌, ◌↔◌, true, false, ◌<◌, length, IfOk, IfErr, IfSome};
 ghost use Rattle.jc_litmus.specs.Judging.{end_of};
 ghost use Rattle.jc_litmus.specs.Outcomes.{answer_text};
-ghost use Rattle.jc_litmus.specs.Running.{Answers, Broke, IsAnswer, IsExplored, Ran};
+ghost use Rattle.jc_explore.specs.Search.{HasExplored};
+ghost use Rattle.jc_litmus.specs.Running.{Answers, Broke, IsAnswer, Ran};
 
 use crate::answer::{answer, complaint};
 use crate::judge::end_of;
@@ -74,7 +75,7 @@ fn answer_to(
     litmus: &Litmus,
     explored: &Explored,
 ) -> Result<(Vec<u8>, LitmusEnd), AllocError>
-    requires { IsExplored litmus.now.program states explored.now }
+    requires { HasExplored litmus.now.program states explored.now }
     ensures { IfOk result (λ r. IsAnswer states litmus.now r.0.items r.1) }
 {
     let out = text_of(alloc, states, litmus, explored)?;

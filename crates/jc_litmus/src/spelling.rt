@@ -3,12 +3,13 @@ ghost use Rattle.std.specs.Prelude.{◌≡◌, ◌++◌, ◌∷◌, [], OnOk, ma
 ghost use Rattle.jc_script.specs.ProcessWords.{call_text, fail_words, source_words};
 ghost use Rattle.jc_script.specs.Spelled.{flag_words, operation_words, spelling};
 ghost use Rattle.jc_script.specs.Printing.{value_text};
-ghost use Rattle.jc_script.specs.declared.line.Act.TheVariants as act;
-ghost use Rattle.jc_script.specs.declared.line.Line.TheVariants as line;
+ghost use Rattle.jc_script.specs.declared.read.line.Act.TheVariants as act;
+ghost use Rattle.jc_script.specs.declared.read.line.Line.TheVariants as line;
 ghost use Rattle.jc_litmus.specs.Spaced.{begin_text, coded_text, lone_text, open_text, spaced};
 
-use jc_model::{EntryCall, Op};
-use jc_script::printing::{Piece, put, put_pieces};
+use jc_model::{EntryCall, Op, OpValues};
+use jc_script::op_name;
+use jc_script::print::{Piece, put, put_pieces};
 use jc_types::{Config, Key, Value};
 use jc_world::LoadSource;
 use std::alloc::AllocError;
@@ -174,20 +175,16 @@ pub fn put_begin(
     ensures { OnOk result (out.new.items ≡ out.old.items
         ++ begin_text beginning.call beginning.session (operation_words op.now key.now)) }
 {
-    match op {
-        Op::Get => put_named(out, beginning, "get", key),
-        Op::ContainsKey => put_named(out, beginning, "contains", key),
-        Op::Put(value) => put_valued(out, beginning, "put", key, value),
-        Op::GetAndPut(value) => put_valued(out, beginning, "getput", key, value),
-        Op::PutIfAbsent(value) => put_valued(out, beginning, "putif", key, value),
-        Op::Remove => put_named(out, beginning, "remove", key),
-        Op::RemoveIf(old) => put_valued(out, beginning, "removeif", key, old),
-        Op::GetAndRemove => put_named(out, beginning, "getremove", key),
-        Op::Replace(value) => put_valued(out, beginning, "replace", key, value),
-        Op::ReplaceIf { old, new } => put_two_valued(out, beginning, "replaceif", key, old, new),
-        Op::GetAndReplace(value) => put_valued(out, beginning, "getreplace", key, value),
-        Op::Clear | Op::LoadAll { replace: _ } => put_nameless(out, beginning),
-        Op::Invoke => put_named(out, beginning, "invoke", key),
+    let name = match op_name(op) {
+        Some(name) => name,
+        None => return put_nameless(out, beginning),
+    };
+    match op.values() {
+        OpValues::Nothing => put_named(out, beginning, name, key),
+        OpValues::One(value) => put_valued(out, beginning, name, key, value),
+        OpValues::Two { first, second } => {
+            put_two_valued(out, beginning, name, key, first, second)
+        }
     }
 }
 

@@ -2,9 +2,8 @@
 ghost use Rattle.std.specs.Prelude.{◌≡◌, ◌++◌, ◌+◌, ◌<◌, ◌^◌, nat_lt, codes, true, replicate, OnOk, IfOk, IfSome, option_copied, Some};
 ghost use Rattle.std.specs.List.{flat_map};
 ghost use Rattle.jc_types.specs.declared.limits.TheConstants.{NUMBER_MAX};
-ghost use Rattle.jc_script.specs.declared.line.Line.TheVariants as line;
+ghost use Rattle.jc_script.specs.declared.read.line.Line.TheVariants as line;
 ghost use Rattle.jc_explore.specs.Moves.{is_begin};
-ghost use Rattle.jc_explore.specs.Schedule.{item_at};
 ghost use Rattle.jc_litmus.specs.Spaced.{coded_line_text, lone_text};
 ghost use Rattle.jc_litmus.specs.Witness.{act_line, begin_line, begun_by, begun_item, call_line, last_after, last_at, last_by, line_at, line_of_move};
 ghost use Rattle.jc_litmus.specs.Witness.{has_numbers, no_progress, piped, piped_if, progress_after, progress_at, run_line, set_text, steps_text, witness_text};
@@ -14,7 +13,7 @@ use crate::spelling::{
 };
 use jc_explore::{Act, Faults, Item, Move, Program};
 use jc_model::{EntryCall, Op};
-use jc_script::printing::put;
+use jc_script::print::put;
 use jc_types::{Key, NUMBER_MAX, Value};
 use jc_world::LoadSource;
 use std::alloc::{AllocError, Global};
@@ -26,16 +25,6 @@ pub struct Progress {
     pub begun: usize,
     /// The number of the last call that it began: 0 before the first one.
     pub call: u64,
-}
-
-/// The item of a thread at a place of its list.
-fn item_at(program: &Program, thread: usize, at: usize) -> Option<&Item>
-    ensures { option_copied result ≡ item_at program.now thread at }
-{
-    match program.threads.get(thread) {
-        Some(items) => items.get(at),
-        None => None,
-    }
 }
 
 /// Whether there are numbers for one more item.
@@ -104,38 +93,6 @@ fn put_run_line(
     put(out, "\n")
 }
 
-/// Appends the line of a processor's run whose loader fails, if it may fail.
-fn put_failing_load(
-    out: &mut Vec<u8>,
-    faults: &Faults,
-    call: u64,
-    calls: &[EntryCall],
-) -> Result<(), AllocError>
-    ensures { OnOk result (out.new.items
-        ≡ out.old.items ++ piped_if (act_line faults.now call calls.now Act.ProcessLoadFails)) }
-{
-    match faults.load {
-        None => Ok(()),
-        Some(code) => put_run_line(out, call, &LoadSource::Failing(code), calls, None),
-    }
-}
-
-/// Appends the line of a processor's run that fails, if it may fail.
-fn put_failing_run(
-    out: &mut Vec<u8>,
-    faults: &Faults,
-    call: u64,
-    calls: &[EntryCall],
-) -> Result<(), AllocError>
-    ensures { OnOk result (out.new.items
-        ≡ out.old.items ++ piped_if (act_line faults.now call calls.now Act.ProcessFails)) }
-{
-    match faults.process {
-        None => Ok(()),
-        Some(code) => put_run_line(out, call, &LoadSource::Store, calls, Some(code)),
-    }
-}
-
 /// Appends the line of an act of a call, with the calls of its processor.
 fn put_act_line(
     out: &mut Vec<u8>,
@@ -152,8 +109,14 @@ fn put_act_line(
         Act::Read => put_lone_line(out, "read", call),
         Act::LoadFails => put_coded_line(out, "readfail", call, faults.load),
         Act::Process => put_run_line(out, call, &LoadSource::Store, calls, None),
-        Act::ProcessLoadFails => put_failing_load(out, faults, call, calls),
-        Act::ProcessFails => put_failing_run(out, faults, call, calls),
+        Act::ProcessLoadFails => match faults.load {
+            None => Ok(()),
+            Some(code) => put_run_line(out, call, &LoadSource::Failing(code), calls, None),
+        },
+        Act::ProcessFails => match faults.process {
+            None => Ok(()),
+            Some(code) => put_run_line(out, call, &LoadSource::Store, calls, Some(code)),
+        },
         Act::Write => put_lone_line(out, "apply", call),
         Act::WriteFails => put_coded_line(out, "applyfail", call, faults.write),
         Act::WriteLies => put_coded_line(out, "applylie", call, faults.lie),
@@ -200,7 +163,7 @@ fn put_line_at(
         ≡ out.old.items ++ piped_if (line_at program.now last step (Some progress.now))) }
 {
     if !is_begin(step.act) {
-        return match item_at(program, step.thread, progress.begun.saturating_sub(1)) {
+        return match program.item(step.thread, progress.begun.saturating_sub(1)) {
             Some(item) => put_call_line(out, &program.faults, progress.call, item, step.act),
             None => Ok(()),
         };
@@ -208,7 +171,7 @@ fn put_line_at(
     if !has_numbers(last, progress) {
         return Ok(());
     }
-    match item_at(program, step.thread, progress.begun) {
+    match program.item(step.thread, progress.begun) {
         Some(item) => {
             let beginning = Beginning {
                 call: last + 1,
@@ -259,7 +222,7 @@ fn begun_item<'a>(
     ensures more { IfSome result (λ item. progress.now.begun + 1 < 2 ^ 64) }
 {
     if is_begin(step.act) && has_numbers(last, progress) {
-        item_at(program, step.thread, progress.begun)
+        program.item(step.thread, progress.begun)
     } else {
         None
     }

@@ -10,13 +10,9 @@
 --     fits_at         what is so of all facts is so of that of each number that is there
 --     often, led_each how often each number is there, and the steps with its fact
 --     every           what each step's fact says
-use Rattle.std.proofs.Common.{◌≡◌, ◌<◌, ◌≤◌, ◌+◌, ◌++◌, ⊎_elim, ℕ, zero, suc, List, [], ◌∷◌, Bool, true, false, cond, eqb, length, map, get_or, nat_lt, refl, sym, ap, subst, ◌∙◌, arith, append-nil, append_assoc}
-use Rattle.std.proofs.lemmas.List.{map-append}
-use Rattle.std.proofs.lemmas.Bool.{eq-eqb}
+use Rattle.jc_loadall.proofs.Common.{◌≡◌, ◌<◌, ◌≤◌, ◌+◌, ◌++◌, ⊎_elim, ℕ, zero, suc, List, [], ◌∷◌, Bool, true, false, cond, eqb, length, map, get_or, nat_lt, refl, sym, ap, subst, ◌∙◌, arith, append-nil, append_assoc, map-append, eq-eqb, AllByRecursion, concat, LeadsTo, once_below, times}
 use Rattle.std.proofs.lemmas.Bool.Decides.{eqb_tells}
 use Rattle.std.proofs.lemmas.List.Sums.{sum_by-cons, sum_by-append}
-use Rattle.std.specs.List.{AllByRecursion, concat}
-use Rattle.jc_pool.specs.Shares.{LeadsTo, once_below, times}
 
 abbrev pub fact_at : {X : Type 0} → List (ℕ × X) → X → ℕ → X
 fact_at [] d p = d

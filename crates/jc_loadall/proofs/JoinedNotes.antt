@@ -6,25 +6,8 @@
 --     entries_more              what is noted of one key more
 --     none_told                 without a cause nothing failed
 --     nothing_noted, or_none    of a piece that was loaded nothing is noted to have failed, and it has no cause
-use Rattle.std.proofs.Common.{◌≡◌, ◌==◌, ◌<◌, ◌≤◌, ◌+◌, ◌||◌, ◌++◌, ℕ, zero, suc, List, [], ◌∷◌, Bool, true, false, cond, length, take, drop, get_or, Option, None, Some, IfNone, option_map, refl, sym, ap, subst, ◌∙◌, nat_eq, arith}
-use Rattle.std.proofs.lemmas.Cmp.{nat_list_eq_equiv}
-use Rattle.std.proofs.lemmas.List.Concat.{flat_map-cons}
-use Rattle.std.proofs.lemmas.List.Elements.{filter_map-append}
-use Rattle.std.proofs.Math.Seq.{drop-cons}
-use Rattle.std.specs.Option.{option_or}
-use Rattle.std.specs.List.{IsDistinct, cons_option, flat_map, list_any}
-use Rattle.std.specs.Map.{keys_of}
+use Rattle.jc_loadall.proofs.Common.{◌≡◌, ◌==◌, ◌<◌, ◌≤◌, ◌+◌, ◌||◌, ◌++◌, ℕ, zero, suc, List, [], ◌∷◌, Bool, true, false, cond, length, take, drop, get_or, Option, None, Some, IfNone, option_map, refl, sym, ap, subst, ◌∙◌, nat_eq, arith, nat_list_eq_equiv, flat_map-cons, filter_map-append, drop-cons, option_or, IsDistinct, cons_option, flat_map, list_any, keys_of, pointwise, texts_ties, keys_ordered, new_at, is_among, Bytes, key_cmp, Refusal, Note, PieceResult, Loaded, Failed, Refused, AreWithin, all_noted, cause_noted, entries_noted, find_note, first_noted, refusal_noted, piece_at}
 use Rattle.std.specs.Cmp.{Equal-is}
-use Rattle.std.specs.Cmp.Lexicographic.{pointwise, texts_ties}
-use Rattle.jc_batch.proofs.CallerLemmas.{keys_ordered, new_at}
-use Rattle.jc_model.specs.Batches.{is_among}
-use Rattle.jc_model.specs.Cache.{Bytes, key_cmp}
-use Rattle.jc_types.specs.declared.refusal.Refusal.{Refusal}
-use Rattle.jc_loadall.specs.declared.notes.Note.{Note}
-use Rattle.jc_loadall.specs.declared.notes.PieceResult.{PieceResult}
-use Rattle.jc_loadall.specs.declared.notes.PieceResult.TheVariants.{Loaded, Failed, Refused}
-use Rattle.jc_loadall.specs.Notes.{AreWithin, all_noted, cause_noted, entries_noted, find_note, first_noted, refusal_noted}
-use Rattle.jc_loadall.specs.Pieces.{piece_at}
 
 -- 1. Notes.
 

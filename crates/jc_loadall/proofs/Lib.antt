@@ -1,3 +1,4 @@
+pub mod Common
 pub mod PieceKeys
 pub mod Noting
 pub mod JoinedNotes

@@ -3,22 +3,8 @@
 --     ended       what is known of the results tells how the call ended
 --     on_return   of a call of clients, by what it returns
 --     ended_kept, ended_same    what each call keeps of its tool, all calls keep of all tools
-use Rattle.std.proofs.Common.{◌≡◌, ◌<◌, ◌≤◌, ◌⊎◌, inl, inr, ⊎_elim, ℕ, suc, List, [], ◌∷◌, Bool, Option, length, map, get_or, All, Result, Ok, Err, refl, sym, ap, subst, ◌∙◌, arith}
-use denote.Ref.{Bor, MutBor}
-use denote.Param.Members.{Shared}
-use Rattle.indexmap.specs.IndexSet.{IndexSet}
-use Rattle.jc_types.specs.declared.refusal.Refusal.{Refusal}
-use Rattle.jc_model.specs.Cache.{Bytes}
-use Rattle.jc_model.specs.declared.event.Op.{Op}
-use Rattle.jc_bulk.specs.declared.fault.BulkFault.{BulkFault}
-use Rattle.jc_bulk.specs.Bulk.{OrRefused, TellsDone}
-use Rattle.jc_pool.specs.Shares.{LeadsTo}
-use Rattle.jc_loadall.specs.declared.notes.PieceResult.{PieceResult}
-use Rattle.jc_loadall.specs.Loading.{EndsInPieces, OnReturn, PieceEnd, of_clients}
+use Rattle.jc_loadall.proofs.Common.{◌≡◌, ◌<◌, ◌≤◌, ◌⊎◌, inl, inr, ⊎_elim, ℕ, suc, List, [], ◌∷◌, Bool, Option, length, map, get_or, All, Result, Ok, Err, refl, sym, ap, subst, ◌∙◌, arith, Bor, MutBor, Shared, IndexSet, Refusal, Bytes, Op, BulkFault, OrRefused, TellsDone, LeadsTo, PieceResult, EndsInPieces, OnReturn, PieceEnd, of_clients, LoadsAndNotes, piece_at, piece_count, AreLoadedBy, EndsByTeam, LoadsBy}
 use Rattle.jc_loadall.specs.declared.fault.LoadAllFault.{LoadAllFault}
-use Rattle.jc_loadall.specs.Notes.{LoadsAndNotes}
-use Rattle.jc_loadall.specs.Pieces.{piece_at, piece_count}
-use Rattle.jc_loadall.specs.Working.{AreLoadedBy, EndsByTeam, LoadsBy}
 use Rattle.jc_loadall.proofs.ToolWork.{Told, causes_are, failed_are, tools_loaded}
 
 pointwise_same : {T X : Type 0} (f : T → X) (xs ys : List T) → length ys ≡ length xs → ((k : ℕ) (d : T) → k < length xs → f (get_or ys k d) ≡ f (get_or xs k d)) → map f ys ≡ map f xs

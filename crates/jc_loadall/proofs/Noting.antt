@@ -1,30 +1,13 @@
 -- What is noted of a piece, and how its keys ended.
 --     piece_end    a call that loads the keys of a piece tells how it ended, and what is noted of it tells the same
-use Rattle.std.proofs.Common.{◌≡◌, ◌==◌, ◌<◌, ◌≤◌, ◌++◌, ◌⊎◌, inl, inr, ⊎_elim, ℕ, zero, suc, List, [], ◌∷◌, Bool, false, cond, length, map, Option, None, Some, Result, Ok, Err, option_map, refl, sym, ap, subst, ◌∙◌, arith}
-use Rattle.std.proofs.lemmas.Cmp.{nat_list_eq_equiv}
-use Rattle.std.proofs.lemmas.Map.Keys.{IsDistinct-head, IsDistinct-tail}
-use Rattle.std.specs.List.{AllByRecursion, IsAmong, IsDistinct, cons_option, filter_map}
-use Rattle.std.specs.Cmp.Lexicographic.{pointwise}
-use Rattle.std.specs.Map.{lookup}
+use Rattle.jc_loadall.proofs.Common.{◌≡◌, ◌==◌, ◌<◌, ◌≤◌, ◌++◌, ◌⊎◌, inl, inr, ⊎_elim, ℕ, zero, suc, List, [], ◌∷◌, Bool, false, cond, length, map, Option, None, Some, Result, Ok, Err, option_map, refl, sym, ap, subst, ◌∙◌, arith, nat_list_eq_equiv, IsDistinct-head, IsDistinct-tail, AllByRecursion, IsAmong, IsDistinct, cons_option, filter_map, pointwise, lookup, Refusal, Bytes, Op, BulkFault, DoesAll, IsBulkCall, NamesNoKey, OrRefused, KeyEnd, failed_entries, key_ops, load_ops, PIECE_KEYS, PieceResult, Loaded, Refused, LoadsPiece, PieceEnd, out_of_memory, IsResultOf, LoadsAndNotes, cause_noted, entries_noted}
 use Rattle.jc_types.specs.declared.limits.TheConstants.{BULK_KEYS_MAX}
-use Rattle.jc_types.specs.declared.refusal.Refusal.{Refusal}
 use Rattle.jc_types.specs.declared.refusal.Refusal.TheVariants.{OutOfMemory, WriterFailed}
-use Rattle.jc_model.specs.Cache.{Bytes}
-use Rattle.jc_model.specs.declared.event.Op.{Op}
-use Rattle.jc_outside.specs.CallingAll.{LoadAllRelation, WriteAllRelation, DeleteAllRelation}
 use Rattle.jc_cache.specs.Caches.{CacheState}
-use Rattle.jc_cache.specs.declared.session.Session.{Session}
-use Rattle.jc_bulk.specs.declared.fault.BulkFault.{BulkFault}
-use Rattle.jc_bulk.specs.Bulk.{DoesAll, IsBulkCall, NamesNoKey, OrRefused}
-use Rattle.jc_rounds.specs.Ends.{KeyEnd, failed_entries, key_ops}
+use Rattle.jc_session.specs.declared.session.Session.{Session}
+use Rattle.jc_bulk.specs.Outside.{BulkBehavior}
 use Rattle.jc_rounds.specs.KeyProgress.{IsCauseIn, refusal_in}
 use Rattle.jc_rounds.specs.Rounds.{LoadAll, ProcessAll, Round, WriteAll, fault_of, faults_in, round_fault}
-use Rattle.jc_bulk.specs.Targets.{load_ops}
-use Rattle.jc_loadall.specs.declared.limits.TheConstants.{PIECE_KEYS}
-use Rattle.jc_loadall.specs.declared.notes.PieceResult.{PieceResult}
-use Rattle.jc_loadall.specs.declared.notes.PieceResult.TheVariants.{Loaded, Refused}
-use Rattle.jc_loadall.specs.Loading.{LoadsPiece, PieceEnd, out_of_memory}
-use Rattle.jc_loadall.specs.Notes.{IsResultOf, LoadsAndNotes, cause_noted, entries_noted}
 use Rattle.jc_loadall.proofs.JoinedNotes.{nothing_noted}
 
 -- 1. The keys that failed, looked up one by one.
@@ -112,15 +95,13 @@ no_memory_fault (WriteAll r ∷ rounds) h = ⊎_elim (code_only r.returned) (no_
 -- 3. How a piece ended.
 
 module _ {I J : Type 0} {D : I → Type 0} {E : J → Type 0}
-    (loads_all : LoadAllRelation ((i : I) × D i)) (load_state : (i : I) × D i → List ℕ)
-    (writes_all : WriteAllRelation ((j : J) × E j)) (deletes_all : DeleteAllRelation ((j : J) × E j)) (write_state : (j : J) × E j → List ℕ)
-    (cache : CacheState) (replace : Bool) (keys : List Bytes) (few : length keys ≤ PIECE_KEYS) (distinct : IsDistinct (pointwise ◌==◌) keys)
+    (behavior : BulkBehavior ((i : I) × D i) ((j : J) × E j)) (cache : CacheState) (replace : Bool) (keys : List Bytes) (few : length keys ≤ PIECE_KEYS) (distinct : IsDistinct (pointwise ◌==◌) keys)
     (old new : Session I J D E) where
   abbrev pub Ends : PieceResult → Type 0
-  Ends result = LoadsAndNotes (LoadsPiece loads_all load_state writes_all deletes_all write_state cache) replace keys old result new
+  Ends result = LoadsAndNotes (LoadsPiece behavior cache) replace keys old result new
 
   abbrev Calls : List KeyEnd → Option Refusal → Type 0
-  Calls ends cause = IsBulkCall loads_all load_state writes_all deletes_all write_state cache old (load_ops replace keys) ends cause new
+  Calls ends cause = IsBulkCall behavior cache old (load_ops replace keys) ends cause new
 
   loaded : (ends : List KeyEnd) (cause : Option Refusal) (result : PieceResult) → result ≡ Loaded → Calls ends cause → cause ≡ None → failed_entries ends ≡ [] → Ends result
   loaded ends cause result is call none all = (
@@ -156,7 +137,7 @@ module _ {I J : Type 0} {D : I → Type 0} {E : J → Type 0}
   refused fault result (inr part) none same = absurd (part.0 none.1 none.0)
 
   pub piece_end : (returned : Result (Unit {0}) BulkFault) (result : PieceResult) → IsResultOf returned result
-      → OrRefused (DoesAll loads_all load_state writes_all deletes_all write_state cache old (load_ops replace keys)) (length keys) old returned new → Ends result
+      → OrRefused (DoesAll behavior cache old (load_ops replace keys)) (length keys) old returned new → Ends result
   piece_end (Ok done) result is (inl h) = ⊎_elim (λ e. loaded e.0 e.1 result is e.2 e.3.0 e.3.1) (λ r. absurd r.0) h.1
   piece_end (Err fault) result is (inl h) = ⊎_elim (λ e. failed e.0 e.1 fault result is e.2 e.3.0 e.3.1) (λ r. refused fault result is r.0 r.1) h.1
   piece_end (Ok done) result is (inr h) = absurd h.1

@@ -6,18 +6,7 @@
 --     fresh_key        it isn't among those before it
 --     one_more         a piece's keys, with the key of the next place
 --     whole_piece      a piece's keys, once all places are come to
-use Rattle.std.proofs.Common.{◌≡◌, ◌==◌, ◌<◌, ◌≤◌, ◌+◌, ◌-◌, ◌*◌, ◌++◌, ⊎_elim, ℕ, zero, suc, List, [], ◌∷◌, length, take, drop, get_or, min, false, refl, sym, ap, ◌∙◌, arith, length-drop}
-use Rattle.std.proofs.lemmas.Bool.{cases_lt}
-use Rattle.std.proofs.lemmas.List.{get_or-drop, length-take, take_more}
-use Rattle.std.proofs.lemmas.Map.Keys.{IsDistinct-cons, IsDistinct-head, IsDistinct-tail}
-use Rattle.std.proofs.Math.Seq.{take-length}
-use Rattle.std.specs.List.{AllByRecursion, IsDistinct}
-use Rattle.std.specs.Cmp.Lexicographic.{pointwise}
-use Rattle.jc_batch.proofs.CallerLemmas.{new_at}
-use Rattle.jc_model.specs.Batches.{is_among}
-use Rattle.jc_model.specs.Cache.{Bytes}
-use Rattle.jc_loadall.specs.declared.limits.TheConstants.{PIECE_KEYS}
-use Rattle.jc_loadall.specs.Pieces.{piece_at}
+use Rattle.jc_loadall.proofs.Common.{◌≡◌, ◌==◌, ◌<◌, ◌≤◌, ◌+◌, ◌-◌, ◌*◌, ◌++◌, ⊎_elim, ℕ, zero, suc, List, [], ◌∷◌, length, take, drop, get_or, min, false, refl, sym, ap, ◌∙◌, arith, length-drop, cases_lt, get_or-drop, length-take, take_more, IsDistinct-cons, IsDistinct-head, IsDistinct-tail, take-length, AllByRecursion, IsDistinct, pointwise, new_at, is_among, Bytes, PIECE_KEYS, piece_at}
 
 pub distinct_drop : (n : ℕ) (keys : List Bytes) → IsDistinct (pointwise ◌==◌) keys → IsDistinct (pointwise ◌==◌) (drop n keys)
 distinct_drop zero keys d = d

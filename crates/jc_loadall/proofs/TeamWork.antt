@@ -2,24 +2,9 @@
 --     front          a prefix, taken from its list
 --     able_all       workers who have loaded nothing can load each piece
 --     team_loaded    what the pool says of them, said of the tools, and of what they noted
-use Rattle.std.proofs.Common.{◌≡◌, ◌<◌, ◌≤◌, ◌+◌, ◌++◌, ℕ, zero, suc, List, [], ◌∷◌, true, false, cond, eqb, length, take, map, get_or, zip, All, vec_len, vec_capacity, Some, unwrap_or, refl, sym, ap, subst, ◌∙◌, arith, nat_lt}
-use Rattle.std.proofs.lemmas.List.Concat.{flat_map-cons}
-use Rattle.std.specs.List.{AllByRecursion, IsDistinct, concat, flat_map}
-use Rattle.std.specs.Cmp.Lexicographic.{pointwise}
+use Rattle.jc_loadall.proofs.Common.{◌≡◌, ◌<◌, ◌≤◌, ◌+◌, ◌++◌, ℕ, zero, suc, List, [], ◌∷◌, true, false, cond, eqb, length, take, map, get_or, zip, All, vec_len, vec_capacity, Some, unwrap_or, refl, sym, ap, subst, ◌∙◌, arith, nat_lt, flat_map-cons, AllByRecursion, IsDistinct, concat, flat_map, pointwise, Bor, MutBor, Shared, IndexSet, spare, Bytes, CanDoAll, DoesEachOnce, LeadsTo, once_below, times, Note, PieceResult, Loaded, Worker, find_note, result_in, piece_at, piece_count, AreLoadedBy, CanLoad, CanLoadBy, DoesPiece, IsIdle, Keeps, LoadsBy}
 use Rattle.std.specs.Prelude.{◌==◌}
-use denote.Ref.{Bor, MutBor}
-use denote.Param.Members.{Shared}
-use Rattle.indexmap.specs.IndexSet.{IndexSet, spare}
-use Rattle.jc_model.specs.Cache.{Bytes}
-use Rattle.jc_pool.specs.Shares.{CanDoAll, DoesEachOnce, LeadsTo, once_below, times}
 use Rattle.jc_pool.proofs.CallerLemmas.{length-zip, zip_at}
-use Rattle.jc_loadall.specs.declared.notes.Note.{Note}
-use Rattle.jc_loadall.specs.declared.notes.PieceResult.{PieceResult}
-use Rattle.jc_loadall.specs.declared.notes.PieceResult.TheVariants.{Loaded}
-use Rattle.jc_loadall.specs.declared.worker.Worker.{Worker}
-use Rattle.jc_loadall.specs.Notes.{find_note, result_in}
-use Rattle.jc_loadall.specs.Pieces.{piece_at, piece_count}
-use Rattle.jc_loadall.specs.Working.{AreLoadedBy, CanLoad, CanLoadBy, DoesPiece, IsIdle, Keeps, LoadsBy}
 use Rattle.jc_loadall.proofs.Gathered.{Gathering, SomeStep, fact_at, gathered, joined, kept_all, led_each}
 
 -- what is written back of all of a list is that

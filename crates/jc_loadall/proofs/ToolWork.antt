@@ -1,24 +1,7 @@
 -- Tools with which pieces are loaded, by what is known of each call.
 --     tools_loaded       what is known of the pieces and of their results tells how each ended
 --     causes_are, failed_are    the first cause, and what failed, by the results and by the ends
-use Rattle.std.proofs.Common.{◌≡◌, ◌<◌, ◌≤◌, ◌++◌, ℕ, zero, suc, List, [], ◌∷◌, Bool, length, get_or, None, refl, sym, ap, subst, ◌∙◌, arith, cond, nat_lt, true, false}
-use Rattle.std.proofs.lemmas.Bool.{lt-ltb}
-use Rattle.std.proofs.lemmas.List.Elements.{filter_map-append}
-use Rattle.std.specs.Option.{option_or}
-use Rattle.std.specs.List.{concat}
-use denote.Ref.{Bor, MutBor}
-use denote.Param.Members.{Shared}
-use Rattle.indexmap.specs.IndexSet.{IndexSet}
-use Rattle.jc_model.specs.Cache.{Bytes}
-use Rattle.jc_model.specs.declared.event.Op.{Op}
-use Rattle.jc_rounds.specs.Ends.{failed_entries}
-use Rattle.jc_bulk.specs.Targets.{load_ops}
-use Rattle.jc_pool.specs.Shares.{LeadsTo, once_below, times}
-use Rattle.jc_loadall.specs.declared.notes.PieceResult.{PieceResult}
-use Rattle.jc_loadall.specs.Loading.{LoadsInPieces, PieceEnd, all_ends, first_cause}
-use Rattle.jc_loadall.specs.Notes.{IsNoteOf, all_noted, first_noted}
-use Rattle.jc_loadall.specs.Pieces.{piece_at, piece_count}
-use Rattle.jc_loadall.specs.Working.{AreLoadedBy, LoadsBy}
+use Rattle.jc_loadall.proofs.Common.{◌≡◌, ◌<◌, ◌≤◌, ◌++◌, ℕ, zero, suc, List, [], ◌∷◌, Bool, length, get_or, None, refl, sym, ap, subst, ◌∙◌, arith, cond, nat_lt, true, false, lt-ltb, filter_map-append, option_or, concat, Bor, MutBor, Shared, IndexSet, Bytes, Op, failed_entries, load_ops, LeadsTo, once_below, times, PieceResult, LoadsInPieces, PieceEnd, all_ends, first_cause, IsNoteOf, all_noted, first_noted, piece_at, piece_count, AreLoadedBy, LoadsBy}
 use Rattle.jc_loadall.proofs.Gathered.{Gathering, SomeStep, counted, every, fact_at, fits_at, gathered, joined, led_each, often, seen}
 
 -- 1. What the results say.

@@ -21,13 +21,13 @@ use Rattle.jc_types.specs.declared.refusal.Refusal.{Refusal}
 use Rattle.jc_types.specs.declared.refusal.Refusal.TheVariants.{OutOfMemory}
 use Rattle.jc_model.specs.Cache.{Bytes}
 use Rattle.jc_model.specs.declared.event.Op.{Op}
-use Rattle.jc_outside.specs.CallingAll.{LoadAllRelation, WriteAllRelation, DeleteAllRelation}
 use Rattle.jc_cache.specs.Caches.{CacheState}
-use Rattle.jc_cache.specs.Clients.{OnSameCache}
-use Rattle.jc_cache.specs.declared.client.Client.{Client}
-use Rattle.jc_cache.specs.declared.session.Session.{Session}
+use Rattle.jc_client.specs.Clients.{OnSameCache}
+use Rattle.jc_client.specs.declared.client.Client.{Client}
+use Rattle.jc_session.specs.declared.session.Session.{Session}
 use Rattle.jc_bulk.specs.declared.fault.BulkFault.{BulkFault}
 use Rattle.jc_bulk.specs.Bulk.{IsBulkCall, TellsDone}
+use Rattle.jc_bulk.specs.Outside.{BulkBehavior}
 use Rattle.jc_rounds.specs.Ends.{KeyEnd, failed_entries}
 use Rattle.jc_bulk.specs.Targets.{load_ops}
 use Rattle.jc_pool.specs.Shares.{LeadsTo, once_below, times}
@@ -44,13 +44,11 @@ pub record PieceEnd : Type 0 where
 abbrev pub out_of_memory : List (Bytes × Op) → List KeyEnd
 out_of_memory targets = map (λ (t : Bytes × Op). record { key = t.0; op = t.1; ended = Err OutOfMemory }) targets
 
-module _ {I J : Type 0} {D : I → Type 0} {E : J → Type 0}
-    (loads_all : LoadAllRelation ((i : I) × D i)) (load_state : (i : I) × D i → List ℕ)
-    (writes_all : WriteAllRelation ((j : J) × E j)) (deletes_all : DeleteAllRelation ((j : J) × E j)) (write_state : (j : J) × E j → List ℕ) where
+module _ {I J : Type 0} {D : I → Type 0} {E : J → Type 0} (behavior : BulkBehavior ((i : I) × D i) ((j : J) × E j)) where
   -- `old` and `new` are the session before and after
   abbrev pub LoadsPiece : CacheState → List (Bytes × Op) → PieceEnd → Session I J D E → Session I J D E → Type 0
   LoadsPiece cache targets end old new =
-      IsBulkCall loads_all load_state writes_all deletes_all write_state cache old targets end.ends end.cause new
+      IsBulkCall behavior cache old targets end.ends end.cause new
       ⊎ ((end.cause ≡ Some OutOfMemory) × (end.ends ≡ out_of_memory targets) × (new ≡ old))
 
   -- `old` and `new` are the client before and after

@@ -2,6 +2,7 @@
 --     CanLoadBy    the function may be called with the keys of a piece and this tool
 --     LoadsBy      a call of the function with these keys: what it returns, and the tool before and after
 --     Keeps        each call of the function leaves a tool with which it may be called again
+--     CanLoadByAll   there is a tool, and the function may be called with each, and can be called again
 --     CanLoad      a worker can load the piece with this number: there is such a piece; there is room for its keys, and to note how it
 --                  ended; and the function may be called with the tool
 --     DoesPiece    a piece was loaded with the tool, and the worker noted how it ended
@@ -11,7 +12,7 @@
 --                  a refusal is noted
 --     IsIdle       a worker has loaded nothing, and has room for so many notes
 use Rattle.std.specs.Prelude.{◌≡◌, ◌==◌, ◌<◌, ◌≤◌, ◌+◌, ◌++◌, ℕ, List, [], ◌∷◌, length, slice_index_or, vec_capacity, Result}
-use Rattle.std.specs.List.{IsDistinct, concat}
+use Rattle.std.specs.List.{All, IsDistinct, concat}
 use Rattle.std.specs.Cmp.Lexicographic.{pointwise}
 use denote.Ref.{Bor, MutBor}
 use denote.Param.Members.{Shared}
@@ -44,6 +45,11 @@ module _ {F S T : Type 0} (g : Shared F (Bor (IndexSet Bytes S) × (MutBor T × 
 
   abbrev pub Keeps : Type 0
   Keeps = (keys : List Bytes) (old : T) (result : PieceResult) (new : T) → LoadsBy keys old result new → CanLoadBy new
+
+  pub record CanLoadByAll (tools : List T) : Type 0 where
+    pub some : 0 < length tools
+    pub able : All CanLoadBy tools
+    pub keeps : Keeps
 
   -- `noted` pieces are noted, there is room for `notes` notes, and for `room` keys
   pub record CanLoad (keys : List Bytes) (tool : T) (room noted notes piece : ℕ) : Type 0 where

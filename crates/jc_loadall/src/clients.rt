@@ -3,6 +3,7 @@ ghost use Rattle.std.specs.Prelude.{◌≡◌, ◌==◌, ◌≤◌, ◌<◌, [],
 ghost use Rattle.std.specs.List.{IsDistinct};
 ghost use Rattle.std.specs.Cmp.Lexicographic.{pointwise};
 ghost use Rattle.jc_bulk.specs.Bulk.{OrRefused};
+ghost use Rattle.jc_bulk.specs.Outside.{bulk_behavior};
 ghost use Rattle.jc_loadall.specs.Loading.{ClientLoadsPiece, EndsInPieces, OnReturn, completion_of, of_clients};
 ghost use Rattle.jc_loadall.specs.Notes.{LoadsAndNotes};
 ghost use Rattle.jc_loadall.specs.declared.limits.TheConstants.{PIECE_KEYS};
@@ -13,7 +14,7 @@ use crate::notes::PieceResult;
 use crate::team::load_or_refuse;
 use indexmap::IndexSet;
 use jc_bulk::BulkFault;
-use jc_cache::Client;
+use jc_client::Client;
 use jc_outside::CompletionListener;
 use jc_types::Key;
 use std::alloc::Global;
@@ -42,7 +43,7 @@ pub fn load_all_by_clients<'a, R: Wait + Threads + Sync, L: CompletionListener>(
 ) -> Result<(), LoadAllFault>
     ensures caches { map (λ c. c.cache) clients.new ≡ map (λ c. c.cache) clients.old }
     ensures ended { OnReturn result ((clients.old ≡ []) × (listener.new ≡ listener.old)) (λ ended. (0 < length clients.old)
-        × OrRefused (EndsInPieces (ClientLoadsPiece loads_all load_state writes_all deletes_all write_state)
+        × OrRefused (EndsInPieces (ClientLoadsPiece (bulk_behavior loads_all load_state writes_all deletes_all write_state))
         keys.now.keys replace clients.old) (length keys.now.keys) clients.old ended clients.new
         × L.hears listener.old (completion_of ended) (L.listener_state listener.new)) }
 {
@@ -51,7 +52,7 @@ pub fn load_all_by_clients<'a, R: Wait + Threads + Sync, L: CompletionListener>(
     }
     let load = |piece_keys: &IndexSet<Key>, client: &mut Client<'_>| -> PieceResult
         requires { (length piece_keys.now.keys ≤ PIECE_KEYS) × IsDistinct (pointwise ◌==◌) piece_keys.now.keys }
-        ensures { LoadsAndNotes (ClientLoadsPiece loads_all load_state writes_all deletes_all write_state)
+        ensures { LoadsAndNotes (ClientLoadsPiece (bulk_behavior loads_all load_state writes_all deletes_all write_state))
             replace piece_keys.now.keys client.entry.now result client.exit.now }
     { load_client_piece(alloc, rt, client, piece_keys, replace) };
     let ended = load_or_refuse(alloc, rt, &load, clients, keys);
@@ -89,9 +90,8 @@ fn load_client_piece<R: Wait>(
     keys: &IndexSet<Key>,
     replace: bool,
 ) -> PieceResult
-    requires few { length keys.now.keys ≤ PIECE_KEYS }
-    requires distinct { IsDistinct (pointwise ◌==◌) keys.now.keys }
-    ensures loads { LoadsAndNotes (ClientLoadsPiece loads_all load_state writes_all deletes_all write_state)
+    requires { (length keys.now.keys ≤ PIECE_KEYS) × IsDistinct (pointwise ◌==◌) keys.now.keys }
+    ensures { LoadsAndNotes (ClientLoadsPiece (bulk_behavior loads_all load_state writes_all deletes_all write_state))
         replace keys.now.keys client.old result client.new }
 {
     load_piece(alloc, rt, client.cache, &mut client.session, keys, replace)

@@ -24,8 +24,7 @@ pub(crate) fn join_notes<F>(
     pieces: usize,
     failed: &mut IndexMap<Key, Refusal>,
 ) -> Option<Refusal>
-    requires pieces { pieces ≡ piece_count (length keys.now) }
-    requires distinct { IsDistinct (pointwise ◌==◌) keys.now }
+    requires keys { (pieces ≡ piece_count (length keys.now)) × IsDistinct (pointwise ◌==◌) keys.now }
     requires empty { (failed.old.entries ≡ []) × (length keys.now ≤ spare failed.old) }
     ensures cause { result ≡ first_noted (result_in (flat_map (λ w. w.notes.items) workers.now)) pieces }
     ensures failed { failed.new.entries ≡ all_noted (result_in (flat_map (λ w. w.notes.items) workers.now)) keys.now pieces }
@@ -46,9 +45,9 @@ fn join_piece<F>(
 ) -> Option<Refusal>
     requires piece { (piece < piece_count (length keys.now)) × IsDistinct (pointwise ◌==◌) keys.now }
     requires may { MayAdd keys.now (PIECE_KEYS * piece) failed.old }
-    ensures cause { result ≡ cause_noted (result_in (flat_map (λ w. w.notes.items) workers.now) piece) }
-    ensures entries { failed.new.entries
-        ≡ failed.old.entries ++ entries_noted (result_in (flat_map (λ w. w.notes.items) workers.now) piece) (piece_at keys.now piece) }
+    ensures noted { (result ≡ cause_noted (result_in (flat_map (λ w. w.notes.items) workers.now) piece))
+        × (failed.new.entries ≡ failed.old.entries
+        ++ entries_noted (result_in (flat_map (λ w. w.notes.items) workers.now) piece) (piece_at keys.now piece)) }
     ensures may { MayAdd keys.now (PIECE_KEYS * piece + PIECE_KEYS) failed.new }
 {
     match result_of(workers, piece) {

@@ -2,8 +2,9 @@
 ghost use Rattle.std.specs.Prelude.{◌≡◌, ◌==◌, ◌≤◌, ◌<◌, All, length};
 ghost use Rattle.std.specs.List.{IsDistinct};
 ghost use Rattle.std.specs.Cmp.Lexicographic.{pointwise};
-ghost use Rattle.jc_cache.specs.Sessions.{MayCall};
+ghost use Rattle.jc_cache.specs.Sessions.{Completes, MayCall};
 ghost use Rattle.jc_bulk.specs.Bulk.{OrRefused};
+ghost use Rattle.jc_bulk.specs.Outside.{bulk_behavior};
 ghost use Rattle.jc_loadall.specs.Loading.{EndsInPieces, LoadsPiece, completion_of};
 ghost use Rattle.jc_loadall.specs.Notes.{LoadsAndNotes};
 ghost use Rattle.jc_loadall.specs.declared.limits.TheConstants.{PIECE_KEYS};
@@ -46,17 +47,17 @@ pub fn load_all<R: Wait + Threads + Sync>(
 ) -> Result<(), BulkFault>
     requires some { 0 < length sessions.old }
     requires may { All (λ s. MayCall cache.now s) sessions.old }
-    ensures may { All (λ s. MayCall cache.now s) sessions.new }
-    ensures ended { OrRefused (EndsInPieces (LoadsPiece loads_all load_state writes_all deletes_all write_state cache.now)
+    ensures ended { All (λ s. MayCall cache.now s) sessions.new
+        × OrRefused (EndsInPieces (LoadsPiece (bulk_behavior loads_all load_state writes_all deletes_all write_state) cache.now)
         keys.now.keys replace sessions.old) (length keys.now.keys) sessions.old result sessions.new }
-    ensures told { hears listener.old (completion_of result) (listener_state listener.new) }
-    ensures listener_type { listener.new.vtable ≡ listener.old.vtable }
+    ensures told { hears listener.old (completion_of result) (listener_state listener.new)
+        × (listener.new.vtable ≡ listener.old.vtable) }
 {
     let load = |piece_keys: &IndexSet<Key>, session: &mut Session| -> PieceResult
         requires { MayCall cache.now session.now × (length piece_keys.now.keys ≤ PIECE_KEYS) × IsDistinct (pointwise ◌==◌) piece_keys.now.keys }
-        ensures { MayCall cache.entry.now session.exit.now
-            × LoadsAndNotes (LoadsPiece loads_all load_state writes_all deletes_all write_state cache.entry.now)
-            replace piece_keys.now.keys session.entry.now result session.exit.now }
+        ensures { Completes cache.entry.now session.exit.now
+            (LoadsAndNotes (LoadsPiece (bulk_behavior loads_all load_state writes_all deletes_all write_state) cache.entry.now)
+            replace piece_keys.now.keys session.entry.now result session.exit.now) }
     { load_piece(alloc, rt, cache, session, piece_keys, replace) };
     let ended = load_or_refuse(alloc, rt, &load, sessions, keys);
     tell(listener, &ended);
@@ -65,8 +66,8 @@ pub fn load_all<R: Wait + Threads + Sync>(
 
 /// Tells the listener, once, how a call ended.
 fn tell(listener: &mut Box<dyn CompletionListener + Send + Drop>, ended: &Result<(), BulkFault>)
-    ensures told { hears listener.old (completion_of ended.now) (listener_state listener.new) }
-    ensures listener_type { listener.new.vtable ≡ listener.old.vtable }
+    ensures { hears listener.old (completion_of ended.now) (listener_state listener.new)
+        × (listener.new.vtable ≡ listener.old.vtable) }
 {
     match ended {
         Ok(()) => listener.on_completion(),
@@ -86,11 +87,10 @@ pub(crate) fn load_piece<R: Wait>(
     replace: bool,
 ) -> PieceResult
     requires may { MayCall cache.now session.old }
-    requires few { length keys.now.keys ≤ PIECE_KEYS }
-    requires distinct { IsDistinct (pointwise ◌==◌) keys.now.keys }
-    ensures may { MayCall cache.now session.new }
-    ensures loads { LoadsAndNotes (LoadsPiece loads_all load_state writes_all deletes_all write_state cache.now)
-        replace keys.now.keys session.old result session.new }
+    requires keys { (length keys.now.keys ≤ PIECE_KEYS) × IsDistinct (pointwise ◌==◌) keys.now.keys }
+    ensures { Completes cache.now session.new
+        (LoadsAndNotes (LoadsPiece (bulk_behavior loads_all load_state writes_all deletes_all write_state) cache.now)
+        replace keys.now.keys session.old result session.new) }
 {
     PieceResult::of(load_keys(alloc, rt, cache, session, keys, replace))
 }

@@ -22,8 +22,7 @@ pub(crate) fn piece_count(keys: usize) -> usize
 
 /// The places of a piece's keys, among `keys` keys.
 pub(crate) fn places_of(keys: usize, piece: usize) -> Range<usize>
-    requires few { keys < 2 ^ 63 }
-    requires there { piece < piece_count keys }
+    requires { (keys < 2 ^ 63) × (piece < piece_count keys) }
     ensures start { result.start ≡ PIECE_KEYS * piece }
     ensures end { result.end ≡ min keys (PIECE_KEYS * piece + PIECE_KEYS) }
 {
@@ -38,8 +37,8 @@ pub(crate) fn fill(set: &mut IndexSet<Key>, keys: &[Key], piece: usize)
     requires piece { (piece < piece_count (length keys.now)) × IsDistinct (pointwise ◌==◌) keys.now }
     requires room { PIECE_KEYS ≤ length set.old.keys + spare set.old }
     ensures keys { set.new.keys ≡ piece_at keys.now piece }
-    ensures few { (length set.new.keys ≤ PIECE_KEYS) × IsDistinct (pointwise ◌==◌) set.new.keys }
-    ensures room { PIECE_KEYS ≤ length set.new.keys + spare set.new }
+    ensures few { (length set.new.keys ≤ PIECE_KEYS) × (PIECE_KEYS ≤ length set.new.keys + spare set.new)
+        × IsDistinct (pointwise ◌==◌) set.new.keys }
 {
     set.clear();
     let places = places_of(keys.len(), piece);

@@ -1,9 +1,9 @@
 //! Workers side by side.
-ghost use Rattle.std.specs.Prelude.{◌≡◌, ◌<◌, All, IfOk, OnErr, length, vec_len};
+ghost use Rattle.std.specs.Prelude.{◌≡◌, All, IfOk, OnErr, length, vec_len};
 ghost use Rattle.std.specs.List.{IsDistinct};
 ghost use Rattle.jc_bulk.specs.Bulk.{OrRefused};
 ghost use Rattle.jc_loadall.specs.Pieces.{piece_count};
-ghost use Rattle.jc_loadall.specs.Working.{CanLoadBy, EndsByTeam, IsIdle, Keeps};
+ghost use Rattle.jc_loadall.specs.Working.{CanLoadByAll, EndsByTeam, IsIdle};
 
 use crate::joining::join_notes;
 use crate::notes::PieceResult;
@@ -27,9 +27,7 @@ pub(crate) fn load_or_refuse<
     F: Fn(&IndexSet<Key>, &mut T) -> PieceResult + Sync,
     R: Threads + Sync,
 >(alloc: Global, rt: &R, load: &F, tools: &mut [T], keys: &IndexSet<Key>) -> Result<(), BulkFault>
-    requires some { 0 < length tools.old }
-    requires able { All (CanLoadBy F.Fn load.now) tools.old }
-    requires keeps { Keeps F.Fn load.now }
+    requires { CanLoadByAll F.Fn load.now tools.old }
     ensures { OrRefused (EndsByTeam F.Fn load.now keys.now.keys tools.old) (length keys.now.keys) tools.old result tools.new }
 {
     if keys.len() > BULK_KEYS_MAX {
@@ -53,9 +51,7 @@ fn load_by_team<T: Send, F: Fn(&IndexSet<Key>, &mut T) -> PieceResult + Sync, R:
     tools: &mut [T],
     keys: &IndexSet<Key>,
 ) -> Result<Result<(), BulkFault>, AllocError>
-    requires some { 0 < length tools.old }
-    requires able { All (CanLoadBy F.Fn load.now) tools.old }
-    requires keeps { Keeps F.Fn load.now }
+    requires { CanLoadByAll F.Fn load.now tools.old }
     ensures err { OnErr result (tools.new ≡ tools.old) }
     ensures ended { IfOk result (λ ended. EndsByTeam F.Fn load.now keys.now.keys tools.old ended tools.new) }
 {
@@ -75,8 +71,7 @@ fn hire<'a, F>(
     workers: usize,
     pieces: usize,
 ) -> Result<Vec<Worker<'a, F>>, AllocError>
-    ensures len { IfOk result (λ team. vec_len team ≡ workers) }
-    ensures idle { IfOk result (λ team. All (IsIdle load.now keys.now pieces) team.items) }
+    ensures { IfOk result (λ team. (vec_len team ≡ workers) × All (IsIdle load.now keys.now pieces) team.items) }
 {
     let mut team = Vec::with_capacity(alloc, workers)?;
     'hiring: while team.len() < workers {

@@ -75,8 +75,7 @@ fn load_by<T, F: Fn(&IndexSet<Key>, &mut T) -> PieceResult>(
     tool: &mut T,
 ) -> PieceResult
     requires may { CanLoadBy F.Fn load.now tool.old }
-    requires few { length keys.now.keys ≤ PIECE_KEYS }
-    requires distinct { IsDistinct (pointwise ◌==◌) keys.now.keys }
+    requires keys { (length keys.now.keys ≤ PIECE_KEYS) × IsDistinct (pointwise ◌==◌) keys.now.keys }
     ensures { LoadsBy F.Fn load.now keys.now.keys tool.old result tool.new }
 {
     load(keys, tool)

@@ -1,4 +1,5 @@
--- Lemmas for the crates above: entries in a list and the map that they make; openings; the callers' order with one event more.
+-- Lemmas for the crates above: entries in a list and the map that they make; openings; the callers' order with one event more;
+-- operations by their numbers.
 -- 1. Entries in a list, and the map that they make.
 use Rattle.std.proofs.Common.{◌≡◌, ℕ, ◌+◌, suc, ◌<◌, ◌==◌, List, [], ◌∷◌, Bool, true, false, cond, not, length, drop, get_or, Option, Some, None, is_some, is_none, ◌&&◌, ◌≤◌, ◌++◌, ap, refl, sym, ◌∙◌, add-one, drop-cons, arith}
 use Rattle.std.specs.Ordering.{eq_by_cmp, is_eq}
@@ -16,8 +17,11 @@ use Rattle.std.specs.FinMap.Entries.{find-where_key}
 use Rattle.jc_types.specs.declared.config.Config.{Config}
 use Rattle.jc_types.specs.Stripes.{stripe_of}
 use Rattle.jc_model.specs.declared.event.Event.{Event}
+use Rattle.jc_model.specs.declared.event.Op.{Op}
+use Rattle.jc_model.specs.declared.event.Op.TheVariants.{LoadAll}
 use Rattle.jc_model.specs.Cache.{Bytes, Cache, key_cmp, entry_at, with_entry}
 use Rattle.jc_model.specs.Listed.{others, with_entry_first, has_distinct_keys}
+use Rattle.jc_model.specs.Table.{op_number, op_values, value_count, numbered_op}
 use Rattle.jc_model.specs.Legal.{IsOpening, may_follow, in_order}
 
 -- a search from place i on looks at the entry there, and then continues
@@ -159,3 +163,25 @@ order-last (x ∷ xs) event =
     ap (λ b. b && in_order (xs ++ event ∷ [])) (list_all-append (may_follow x) xs (event ∷ []))
     ∙ ap (λ b. (list_all (may_follow x) xs && (may_follow x event && true)) && b) (order-last xs event)
     ∙ swapped (list_all (may_follow x) xs) (in_order xs) (may_follow x event) (follows_all xs event)
+
+-- 4. An operation is the one that has its number and its values.
+
+-- these are the first two of the values, as far as there are any
+abbrev pub AreFirst : List Bytes → Bytes → Bytes → Type 0
+AreFirst [] first second = Unit {0}
+AreFirst (value ∷ []) first second = first ≡ value
+AreFirst (value ∷ next ∷ values) first second = (first ≡ value) × (second ≡ next)
+
+pub numbered : (op : Op) (first second : Bytes) → AreFirst (op_values op) first second → numbered_op (op_number op) first second ≡ op
+numbered (LoadAll false) first second h = refl
+numbered (LoadAll true) first second h = refl
+numbered op first second h = cc
+
+pub record IsNumbered (op : Op) : Type 0 where
+  pub count : value_count (op_number op) ≡ length (op_values op)
+  pub few : length (op_values op) ≤ 2
+
+pub is_numbered : (op : Op) → IsNumbered op
+is_numbered (LoadAll false) = record { count = refl; few = omega arith }
+is_numbered (LoadAll true) = record { count = refl; few = omega arith }
+is_numbered op = record { count = refl; few = omega arith }

@@ -17,11 +17,11 @@ use Rattle.std.specs.FinMap.{len}
 use Rattle.jc_types.specs.declared.caller.Caller.{Caller}
 use Rattle.jc_types.specs.declared.config.Config.{Config}
 use Rattle.jc_model.specs.declared.event.Op.{Op}
-use Rattle.jc_model.specs.declared.event.Op.TheVariants.{Get, ContainsKey, Put, GetAndPut, PutIfAbsent, Remove, RemoveIf, GetAndRemove, Replace, ReplaceIf, GetAndReplace, Clear, LoadAll, Invoke}
+use Rattle.jc_model.specs.declared.event.OpKind.TheVariants as kind
 use Rattle.jc_model.specs.declared.event.Cause.{Cause}
 use Rattle.jc_model.specs.declared.event.Cause.TheVariants.{Full, Memory}
 use Rattle.jc_model.specs.Cache.{Bytes, Cache, entry_at}
-use Rattle.jc_model.specs.Table.{Seq, seq_entry, is_load_given}
+use Rattle.jc_model.specs.Table.{Seq, seq_entry, is_load_given, op_kind}
 use Rattle.jc_model.specs.Group.{Group, cache_before_step, cache_after_step, cache_after_group}
 
 abbrev pub inserts : Cache → Group → Bool
@@ -39,20 +39,14 @@ evicted_fits config cache group (Some Full) = inserts cache group && (len cache 
 
 -- the operations that load a key whole, so that a `Get` may join them
 abbrev pub loads_whole : Op → Bool
-loads_whole Get = true
-loads_whole (LoadAll replace) = true
-loads_whole ContainsKey = false
-loads_whole (Put value) = false
-loads_whole (GetAndPut value) = false
-loads_whole (PutIfAbsent value) = false
-loads_whole Remove = false
-loads_whole (RemoveIf old) = false
-loads_whole GetAndRemove = false
-loads_whole (Replace value) = false
-loads_whole (ReplaceIf old new) = false
-loads_whole (GetAndReplace value) = false
-loads_whole Clear = false
-loads_whole Invoke = false
+loads_whole op = elim (op_kind op) [
+  | kind.Get ↦ true
+  | kind.LoadAll replace ↦ true
+  | kind.ContainsKey ↦ false
+  | kind.Write ↦ false
+  | kind.Clear ↦ false
+  | kind.Invoke ↦ false
+]
 
 abbrev pub is_joinable : Config → Cache → Group → Bool
 is_joinable config cache group =

@@ -2,6 +2,12 @@
 -- two integration tables of JSR 107 are its first two columns. The rows of `Invoke`, and of `LoadAll` at an entry that is there,
 -- are this provider's own.
 --     holds                               whether an entry has this value
+--     op_kind                             the kind of an operation: each put, replace and remove is a write
+--     op_number                           the number of an operation, by which it is stored: no other operation has it
+--     op_values                           the values of an operation, in their order
+--     lent_values                         the same of lent ones
+--     value_count                         how many values the operation with a number has
+--     numbered_op                         the operation with a number, and with these values as far as it has any
 --     is_load_given                       whether the loader answered
 --     always_if, wanted_if                under a condition: the loader is asked; it is asked if the processor wants it
 --     loader_ask                          the loader table: whether an operation asks the loader, never, always or if the
@@ -29,7 +35,7 @@
 --     NewStep                             one operation on one key with the outside answers and its reply
 --     seq_entry, seq_cache                the entry that it leaves at its key, and the whole cache
 --     Seq                                 the sequential step: one operation made on a whole cache
-use Rattle.std.specs.Prelude.{◌≡◌, ◌==◌, Bool, true, false, not, ◌&&◌, ◌||◌, IsTrue, Option, None, Some, is_some, is_none, if◌then◌else◌, unwrap_or}
+use Rattle.std.specs.Prelude.{◌≡◌, ◌==◌, ℕ, List, [], ◌∷◌, Bool, true, false, not, ◌&&◌, ◌||◌, IsTrue, Option, None, Some, is_some, is_none, if◌then◌else◌, unwrap_or}
 use Rattle.std.specs.Bool.{beq}
 use Rattle.std.specs.Cmp.Lexicographic.{pointwise}
 use Rattle.jc_types.specs.declared.config.Config.{Config}
@@ -37,6 +43,8 @@ use Rattle.jc_types.specs.declared.refusal.Refusal.{Refusal}
 use Rattle.jc_types.specs.declared.refusal.Refusal.TheVariants as refusal
 use Rattle.jc_model.specs.declared.event.Op.{Op}
 use Rattle.jc_model.specs.declared.event.Op.TheVariants.{Get, ContainsKey, Put, GetAndPut, PutIfAbsent, Remove, RemoveIf, GetAndRemove, Replace, ReplaceIf, GetAndReplace, Clear, LoadAll, Invoke}
+use Rattle.jc_model.specs.declared.event.OpKind.{OpKind}
+use Rattle.jc_model.specs.declared.event.OpKind.TheVariants as kind
 use Rattle.jc_model.specs.declared.event.Out.{Out}
 use Rattle.jc_model.specs.declared.event.LoadAnswer.{LoadAnswer}
 use Rattle.jc_model.specs.declared.event.LoadAnswer.TheVariants as load
@@ -50,6 +58,8 @@ use Rattle.jc_model.specs.declared.event.Change.{Change}
 use Rattle.jc_model.specs.declared.event.Change.TheVariants.{Write, Delete}
 use Rattle.jc_model.specs.declared.event.Reply.{Reply}
 use Rattle.jc_model.specs.declared.event.Reply.TheVariants as reply
+use Rattle.jc_model.specs.declared.table.OpValues.{OpValues}
+use Rattle.jc_model.specs.declared.table.OpValues.TheVariants as values
 use Rattle.jc_model.specs.declared.table.LentChange.{LentChange}
 use Rattle.jc_model.specs.declared.table.LentChange.TheVariants as lent
 use Rattle.jc_model.specs.declared.table.LoaderAsk.{LoaderAsk}
@@ -60,6 +70,94 @@ use Rattle.jc_model.specs.Cache.{Bytes, Cache, entry_at, with_entry}
 abbrev pub holds : Option Bytes → Bytes → Bool
 holds None value = false
 holds (Some held) value = pointwise ◌==◌ held value
+
+-- the kind of an operation
+abbrev pub op_kind : Op → OpKind
+op_kind Get = kind.Get
+op_kind ContainsKey = kind.ContainsKey
+op_kind (Put value) = kind.Write
+op_kind (GetAndPut value) = kind.Write
+op_kind (PutIfAbsent value) = kind.Write
+op_kind Remove = kind.Write
+op_kind (RemoveIf old) = kind.Write
+op_kind GetAndRemove = kind.Write
+op_kind (Replace value) = kind.Write
+op_kind (ReplaceIf old new) = kind.Write
+op_kind (GetAndReplace value) = kind.Write
+op_kind Clear = kind.Clear
+op_kind (LoadAll replace) = kind.LoadAll replace
+op_kind Invoke = kind.Invoke
+
+-- its number
+abbrev pub op_number : Op → ℕ
+op_number Get = 0
+op_number ContainsKey = 1
+op_number (Put value) = 2
+op_number (GetAndPut value) = 3
+op_number (PutIfAbsent value) = 4
+op_number Remove = 5
+op_number (RemoveIf old) = 6
+op_number GetAndRemove = 7
+op_number (Replace value) = 8
+op_number (ReplaceIf old new) = 9
+op_number (GetAndReplace value) = 10
+op_number Clear = 11
+op_number (LoadAll false) = 12
+op_number (LoadAll true) = 13
+op_number Invoke = 14
+
+-- its values
+abbrev pub op_values : Op → List Bytes
+op_values Get = []
+op_values ContainsKey = []
+op_values (Put value) = value ∷ []
+op_values (GetAndPut value) = value ∷ []
+op_values (PutIfAbsent value) = value ∷ []
+op_values Remove = []
+op_values (RemoveIf old) = old ∷ []
+op_values GetAndRemove = []
+op_values (Replace value) = value ∷ []
+op_values (ReplaceIf old new) = old ∷ new ∷ []
+op_values (GetAndReplace value) = value ∷ []
+op_values Clear = []
+op_values (LoadAll replace) = []
+op_values Invoke = []
+
+abbrev pub lent_values : OpValues → List Bytes
+lent_values values.Nothing = []
+lent_values (values.One value) = value.now ∷ []
+lent_values (values.Two first second) = first.now ∷ second.now ∷ []
+
+-- how many values the operation with a number has
+abbrev pub value_count : ℕ → ℕ
+value_count n =
+    if n == 2 then 1
+    else if n == 3 then 1
+    else if n == 4 then 1
+    else if n == 6 then 1
+    else if n == 8 then 1
+    else if n == 9 then 2
+    else if n == 10 then 1
+    else 0
+
+-- the operation with a number. It has as many of the values as its number says
+abbrev pub numbered_op : ℕ → Bytes → Bytes → Op
+numbered_op n first second =
+    if n == 0 then Get
+    else if n == 1 then ContainsKey
+    else if n == 2 then Put first
+    else if n == 3 then GetAndPut first
+    else if n == 4 then PutIfAbsent first
+    else if n == 5 then Remove
+    else if n == 6 then RemoveIf first
+    else if n == 7 then GetAndRemove
+    else if n == 8 then Replace first
+    else if n == 9 then ReplaceIf first second
+    else if n == 10 then GetAndReplace first
+    else if n == 11 then Clear
+    else if n == 12 then LoadAll false
+    else if n == 13 then LoadAll true
+    else Invoke
 
 -- 1. The loader.
 
@@ -80,20 +178,14 @@ wanted_if false = Never
 
 -- the loader table: whether an operation that finds an entry asks the loader
 abbrev pub loader_ask : Bool → Op → Option Bytes → LoaderAsk
-loader_ask read_through Get entry = always_if (read_through && is_none entry)
-loader_ask read_through (LoadAll replace) entry = always_if (replace || is_none entry)
-loader_ask read_through Invoke entry = wanted_if (read_through && is_none entry)
-loader_ask read_through ContainsKey entry = Never
-loader_ask read_through (Put value) entry = Never
-loader_ask read_through (GetAndPut value) entry = Never
-loader_ask read_through (PutIfAbsent value) entry = Never
-loader_ask read_through Remove entry = Never
-loader_ask read_through (RemoveIf old) entry = Never
-loader_ask read_through GetAndRemove entry = Never
-loader_ask read_through (Replace value) entry = Never
-loader_ask read_through (ReplaceIf old new) entry = Never
-loader_ask read_through (GetAndReplace value) entry = Never
-loader_ask read_through Clear entry = Never
+loader_ask read_through op entry = elim (op_kind op) [
+  | kind.Get ↦ always_if (read_through && is_none entry)
+  | kind.LoadAll replace ↦ always_if (replace || is_none entry)
+  | kind.Invoke ↦ wanted_if (read_through && is_none entry)
+  | kind.ContainsKey ↦ Never
+  | kind.Write ↦ Never
+  | kind.Clear ↦ Never
+]
 
 -- whether the loader answered as the table has it asked
 abbrev pub load_fits : LoaderAsk → Bool → Bool
@@ -159,20 +251,14 @@ is_process_given (process.Ended net outcome) = true
 is_process_given (process.Failed code) = true
 
 abbrev pub is_invoke : Op → Bool
-is_invoke Invoke = true
-is_invoke Get = false
-is_invoke ContainsKey = false
-is_invoke (Put value) = false
-is_invoke (GetAndPut value) = false
-is_invoke (PutIfAbsent value) = false
-is_invoke Remove = false
-is_invoke (RemoveIf old) = false
-is_invoke GetAndRemove = false
-is_invoke (Replace value) = false
-is_invoke (ReplaceIf old new) = false
-is_invoke (GetAndReplace value) = false
-is_invoke Clear = false
-is_invoke (LoadAll replace) = false
+is_invoke op = elim (op_kind op) [
+  | kind.Invoke ↦ true
+  | kind.Get ↦ false
+  | kind.ContainsKey ↦ false
+  | kind.Write ↦ false
+  | kind.Clear ↦ false
+  | kind.LoadAll replace ↦ false
+]
 
 -- 4. A fault: the loader's before the processor's before the writer's.
 

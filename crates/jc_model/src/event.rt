@@ -47,8 +47,47 @@ pub enum Op {
     Invoke,
 }
 
+/// The kind of an operation. The operations of one kind are alike to everybody but the tables that tell what a write leaves, replies,
+/// asks the writer for and counts as.
+#[derive(Clone, Copy, Debug, PartialEq, Eq)]
+pub enum OpKind {
+    /// `get`.
+    Get,
+    /// `containsKey`.
+    ContainsKey,
+    /// A put, a replace or a remove: it may change the entry, and has the writer asked for the change.
+    Write,
+    /// Each key of `clear`.
+    Clear,
+    /// Each key of `loadAll`.
+    LoadAll {
+        /// Whether a key that has an entry is loaded, too.
+        replace: bool,
+    },
+    /// `invoke`.
+    Invoke,
+}
+
 impl Op {
     ghost use Rattle.std.specs.Prelude.{◌≡◌};
+    ghost use Rattle.jc_model.specs.Table.{op_kind};
+
+    /// The kind of the operation. It copies no value.
+    #[inline(always)]
+    pub fn kind(&self) -> OpKind
+        ensures { result ≡ op_kind self.now }
+    {
+        match self {
+            Op::Get => OpKind::Get,
+            Op::ContainsKey => OpKind::ContainsKey,
+            Op::Put(_) | Op::GetAndPut(_) | Op::PutIfAbsent(_) => OpKind::Write,
+            Op::Remove | Op::RemoveIf(_) | Op::GetAndRemove => OpKind::Write,
+            Op::Replace(_) | Op::ReplaceIf { .. } | Op::GetAndReplace(_) => OpKind::Write,
+            Op::Clear => OpKind::Clear,
+            Op::LoadAll { replace } => OpKind::LoadAll { replace: *replace },
+            Op::Invoke => OpKind::Invoke,
+        }
+    }
 
     /// Copies the other operation into this one. If both are a `get`, a `put`, a `remove(key)` or an `invoke`, it copies only the
     /// bytes that count.

@@ -37,8 +37,8 @@ pub use batches::{batch_answer, is_among};
 pub use checker::{is_apart, legal};
 pub use contents::Contents;
 pub use event::{
-    Cause, Change, Effect, Event, LoadAnswer, Op, Out, ProcessAnswer, Reply, WriteAnswer,
+    Cause, Change, Effect, Event, LoadAnswer, Op, OpKind, Out, ProcessAnswer, Reply, WriteAnswer,
 };
 pub use processor::{EntryAnswer, EntryCall};
 pub use statistics::Statistics;
-pub use table::{LentChange, LoaderAsk};
+pub use table::{LentChange, LoaderAsk, OpValues};

@@ -8,10 +8,12 @@ ghost use Rattle.jc_model.specs.Table.{holds, entry_after_replace, value_after_l
 ghost use Rattle.jc_model.specs.Table.{is_invoke, early_fault, first_fault, write_ask, answers_fit, after_effect, outcome_of};
 ghost use Rattle.jc_model.specs.Table.{entry_without_fault, reply_without_fault, entry_after, reply_after};
 ghost use Rattle.jc_model.specs.declared.event.Reply.TheVariants as replies;
-ghost use Rattle.jc_model.specs.Table.{to_change, ask_if, process_ask};
+ghost use Rattle.jc_model.specs.Table.{to_change, ask_if, process_ask, op_number, op_values, lent_values, value_count, numbered_op};
 ghost use Rattle.jc_model.specs.Lawful.{loads_whole};
 
-use crate::event::{Change, Effect, LoadAnswer, Op, Out, ProcessAnswer, Reply, WriteAnswer};
+use crate::event::{
+    Change, Effect, LoadAnswer, Op, OpKind, Out, ProcessAnswer, Reply, WriteAnswer,
+};
 use jc_types::{Config, Refusal, Value};
 
 /// Whether the entry has this value.
@@ -200,6 +202,104 @@ impl Op {
     }
 }
 
+/// The values of an operation, lent.
+#[derive(Clone, Copy, Debug)]
+pub enum OpValues<'a> {
+    /// It has none.
+    Nothing,
+    /// It has this one.
+    One(&'a Value),
+    /// It has two.
+    Two {
+        /// The first of them.
+        first: &'a Value,
+        /// The second of them.
+        second: &'a Value,
+    },
+}
+
+impl Op {
+    /// The operation's number, by which it is stored. No other operation has it.
+    #[inline(always)]
+    pub fn number(&self) -> u8
+        ensures { result ≡ op_number self.now }
+    {
+        match self {
+            Op::Get => 0,
+            Op::ContainsKey => 1,
+            Op::Put(_) => 2,
+            Op::GetAndPut(_) => 3,
+            Op::PutIfAbsent(_) => 4,
+            Op::Remove => 5,
+            Op::RemoveIf(_) => 6,
+            Op::GetAndRemove => 7,
+            Op::Replace(_) => 8,
+            Op::ReplaceIf { .. } => 9,
+            Op::GetAndReplace(_) => 10,
+            Op::Clear => 11,
+            Op::LoadAll { replace: false } => 12,
+            Op::LoadAll { replace: true } => 13,
+            Op::Invoke => 14,
+        }
+    }
+
+    /// The operation's values, in their order.
+    #[inline(always)]
+    pub fn values(&self) -> OpValues<'_>
+        ensures { lent_values result ≡ op_values self.now }
+    {
+        match self {
+            Op::Put(value) | Op::GetAndPut(value) | Op::PutIfAbsent(value) => OpValues::One(value),
+            Op::RemoveIf(old) => OpValues::One(old),
+            Op::Replace(value) | Op::GetAndReplace(value) => OpValues::One(value),
+            Op::ReplaceIf { old, new } => OpValues::Two {
+                first: old,
+                second: new,
+            },
+            Op::Get | Op::ContainsKey | Op::Remove | Op::GetAndRemove => OpValues::Nothing,
+            Op::Clear | Op::LoadAll { .. } | Op::Invoke => OpValues::Nothing,
+        }
+    }
+
+    /// The operation with this number, and with these values as far as it has any. A number that no operation has stands for
+    /// `Invoke`.
+    pub fn of_number(number: u8, first: &Value, second: &Value) -> Op
+        ensures { result ≡ numbered_op number first.now second.now }
+    {
+        match number {
+            0 => Op::Get,
+            1 => Op::ContainsKey,
+            2 => Op::Put(*first),
+            3 => Op::GetAndPut(*first),
+            4 => Op::PutIfAbsent(*first),
+            5 => Op::Remove,
+            6 => Op::RemoveIf(*first),
+            7 => Op::GetAndRemove,
+            8 => Op::Replace(*first),
+            9 => Op::ReplaceIf {
+                old: *first,
+                new: *second,
+            },
+            10 => Op::GetAndReplace(*first),
+            11 => Op::Clear,
+            12 => Op::LoadAll { replace: false },
+            13 => Op::LoadAll { replace: true },
+            _ => Op::Invoke,
+        }
+    }
+
+    /// How many values the operation with this number has.
+    pub fn value_count(number: u8) -> usize
+        ensures { result ≡ value_count number }
+    {
+        match number {
+            2 | 3 | 4 | 6 | 8 | 10 => 1,
+            9 => 2,
+            _ => 0,
+        }
+    }
+}
+
 /// Whether an operation asks the loader: an answer of the loader table.
 #[derive(Clone, Copy, Debug, PartialEq, Eq)]
 pub enum LoaderAsk {
@@ -309,21 +409,11 @@ impl Op {
     pub fn loader_ask(&self, read_through: bool, entry: &Option<Value>) -> LoaderAsk
         ensures { result ≡ loader_ask read_through self.now entry.now }
     {
-        match self {
-            Op::Get => always_if(read_through && entry.is_none()),
-            Op::LoadAll { replace } => always_if(*replace || entry.is_none()),
-            Op::Invoke => wanted_if(read_through && entry.is_none()),
-            Op::ContainsKey
-            | Op::Put(_)
-            | Op::GetAndPut(_)
-            | Op::PutIfAbsent(_)
-            | Op::Remove
-            | Op::RemoveIf(_)
-            | Op::GetAndRemove
-            | Op::Replace(_)
-            | Op::ReplaceIf { .. }
-            | Op::GetAndReplace(_)
-            | Op::Clear => LoaderAsk::Never,
+        match self.kind() {
+            OpKind::Get => always_if(read_through && entry.is_none()),
+            OpKind::LoadAll { replace } => always_if(replace || entry.is_none()),
+            OpKind::Invoke => wanted_if(read_through && entry.is_none()),
+            OpKind::ContainsKey | OpKind::Write | OpKind::Clear => LoaderAsk::Never,
         }
     }
 
@@ -331,21 +421,10 @@ impl Op {
     pub fn is_invoke(&self) -> bool
         ensures { result ≡ is_invoke self.now }
     {
-        match self {
-            Op::Invoke => true,
-            Op::Put(_)
-            | Op::Get
-            | Op::ContainsKey
-            | Op::GetAndPut(_)
-            | Op::PutIfAbsent(_)
-            | Op::Remove
-            | Op::RemoveIf(_)
-            | Op::GetAndRemove
-            | Op::Replace(_)
-            | Op::ReplaceIf { .. }
-            | Op::GetAndReplace(_)
-            | Op::Clear
-            | Op::LoadAll { .. } => false,
+        match self.kind() {
+            OpKind::Invoke => true,
+            OpKind::Get | OpKind::ContainsKey | OpKind::Write => false,
+            OpKind::Clear | OpKind::LoadAll { .. } => false,
         }
     }
 
@@ -353,20 +432,9 @@ impl Op {
     pub fn loads_whole(&self) -> bool
         ensures { result ≡ loads_whole self.now }
     {
-        match self {
-            Op::Get | Op::LoadAll { .. } => true,
-            Op::Put(_)
-            | Op::ContainsKey
-            | Op::GetAndPut(_)
-            | Op::PutIfAbsent(_)
-            | Op::Remove
-            | Op::RemoveIf(_)
-            | Op::GetAndRemove
-            | Op::Replace(_)
-            | Op::ReplaceIf { .. }
-            | Op::GetAndReplace(_)
-            | Op::Clear
-            | Op::Invoke => false,
+        match self.kind() {
+            OpKind::Get | OpKind::LoadAll { .. } => true,
+            OpKind::ContainsKey | OpKind::Write | OpKind::Clear | OpKind::Invoke => false,
         }
     }
 

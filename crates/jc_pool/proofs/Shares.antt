@@ -5,11 +5,12 @@
 --     leads-snoc                    one piece more leads further
 --     zip_at, length-zip            each worker with its tool
 --     first_of_all, rest_of_all     what all can do, the first ones can, and the others
+--     begin_first, begin_rest       of two halves of the workers, either can begin
 --     alone_can, one_ended          one worker by itself
 --     both_ended                    the first workers, and then the others
 --     all_with_tools                what workers can do without tools they can do with them
 --     without_units                 workers whose tool is nothing
-use Rattle.std.proofs.Common.{◌≡◌, ℕ, zero, suc, ◌+◌, ◌-◌, ◌<◌, ◌≤◌, List, [], ◌∷◌, ◌++◌, All, length, get_or, set, sym, refl, ap, subst, ◌∙◌, ⊎_elim, arith, append-nil, length-append, zip}
+use Rattle.std.proofs.Common.{◌≡◌, ℕ, zero, suc, ◌+◌, ◌-◌, ◌/◌, ◌<◌, ◌≤◌, List, [], ◌∷◌, ◌++◌, All, length, get_or, set, sym, refl, ap, subst, ◌∙◌, ⊎_elim, arith, append-nil, length-append, zip}
 use Rattle.std.proofs.lemmas.List.{get_or_append_left, get_or-append_right}
 use Rattle.std.proofs.lemmas.Bool.{cases_lt}
 use Rattle.std.proofs.lemmas.List.Folds.{concat-append}
@@ -18,8 +19,8 @@ use Rattle.atomic_table.specs.Seated.{TableId}
 use Rattle.jc_pool.specs.declared.view.Plan.{Plan}
 use Rattle.jc_pool.specs.declared.view.Claims.{Claims}
 use Rattle.jc_pool.specs.Shares.{CanDoAll, LeadsTo, DoesShare, DoShares, DoesEachOnce}
-use Rattle.jc_pool.specs.Views.{next_after, ended_claims, after_join}
-use Rattle.jc_pool.specs.Teams.{HasEnded, HaveEnded}
+use Rattle.jc_pool.specs.Views.{next_after, fresh_claims, ended_claims, after_join, after_split, split_off}
+use Rattle.jc_pool.specs.Teams.{CanBegin, CanBeginHalves, HasEnded, HaveEnded}
 use Rattle.jc_pool.proofs.Steps.{next_after-append}
 
 below_next : (xs : List ℕ) (k : ℕ) → k < length xs → get_or xs k 0 < next_after xs
@@ -129,6 +130,32 @@ module _ {W T J : Type 0} (did : W × T → List ℕ) (job : W × T → J) (can_
           → DoesShare did job can_do does counter.1.pieces (get_or ((x, r) ∷ []) k d) (get_or ((v, u) ∷ []) k d) (get_or (claimer.1.claimed ∷ []) k [])
       alone zero l d = ended.share
       alone (suc k) l d = absurd (omega arith)
+
+  pub begin_first : (claimer left : TableId × Claims) (first rest : List W) (first_tools rest_tools : List T) → CanBeginHalves can_do counter claimer first first_tools rest rest_tools
+      → left.0 ≡ counter.0 → left.1 ≡ after_split claimer.1 → CanBegin can_do counter left first first_tools
+  begin_first claimer left first rest first_tools rest_tools begin counter_is is =
+      let many = length-append first rest in
+      let fewer : length (first ++ rest) - length (first ++ rest) / 2 ≡ length first = omega (arith, many, begin.half) in
+      record {
+        counter_is = counter_is;
+        claims = is ∙ ap after_split begin.can.claims ∙ ap (fresh_claims counter.1) fewer;
+        some = begin.some;
+        tool_each = begin.tool_each;
+        able = first_of_all (CanDoAll can_do counter.1.pieces) (first ++ rest) first rest (first_tools ++ rest_tools) first_tools rest_tools refl refl begin.tool_each begin.can.able;
+      }
+
+  pub begin_rest : (claimer off : TableId × Claims) (first rest : List W) (first_tools rest_tools : List T) → CanBeginHalves can_do counter claimer first first_tools rest rest_tools
+      → off.0 ≡ counter.0 → off.1 ≡ split_off claimer.1 → CanBegin can_do counter off rest rest_tools
+  begin_rest claimer off first rest first_tools rest_tools begin counter_is is =
+      let many = length-append first rest in let tools = length-append first_tools rest_tools in
+      let half : length (first ++ rest) / 2 ≡ length rest = omega (arith, many, begin.half) in
+      record {
+        counter_is = counter_is;
+        claims = is ∙ ap split_off begin.can.claims ∙ ap (fresh_claims counter.1) half;
+        some = begin.others;
+        tool_each = omega (arith, begin.can.tool_each, begin.tool_each, many, tools);
+        able = rest_of_all (CanDoAll can_do counter.1.pieces) (first ++ rest) first rest (first_tools ++ rest_tools) first_tools rest_tools refl refl begin.tool_each begin.can.able;
+      }
 
   pub both_ended : (a b joined : TableId × Claims) (xs xs' ys ys' : List W) (us us' vs vs' : List T) → length us ≡ length xs
       → HaveEnded did job can_do does counter a xs us xs' us' → HaveEnded did job can_do does counter b ys vs ys' vs'

@@ -1,9 +1,10 @@
 -- Workers, each with its tool, who claim with one claimer.
 --     CanBegin     a claimer is of this counter and for these workers, of whom there is at least one, and has claimed nothing;
 --                  there are as many tools, and each worker can do every piece
+--     CanBeginHalves    the same of the workers of two halves, the second of which is half of all, rounded down
 --     HasEnded     one worker has ended, after just the pieces that its claimer claimed
 --     HaveEnded    the workers have ended, after just the pieces that their claimer claimed, each of them after its share
-use Rattle.std.specs.Prelude.{◌≡◌, ℕ, ◌<◌, List, All, length}
+use Rattle.std.specs.Prelude.{◌≡◌, ℕ, ◌<◌, ◌+◌, ◌/◌, ◌++◌, List, All, length}
 use Rattle.std.specs.List.{concat, zip}
 use Rattle.atomic_table.specs.Seated.{TableId}
 use Rattle.jc_pool.specs.declared.view.Plan.{Plan}
@@ -17,6 +18,13 @@ pub record CanBegin {W T : Type 0} (can_do : W × T → ℕ → Type 0) (counter
   pub some : 0 < length workers
   pub tool_each : length tools ≡ length workers
   pub able : All (CanDoAll can_do counter.1.pieces) (zip workers tools)
+
+pub record CanBeginHalves {W T : Type 0} (can_do : W × T → ℕ → Type 0) (counter : TableId × Plan) (claimer : TableId × Claims) (first : List W) (first_tools : List T) (rest : List W) (rest_tools : List T) : Type 0 where
+  pub can : CanBegin can_do counter claimer (first ++ rest) (first_tools ++ rest_tools)
+  pub some : 0 < length first
+  pub others : 0 < length rest
+  pub half : length rest ≡ (length first + length rest) / 2
+  pub tool_each : length first_tools ≡ length first
 
 module _ {W T J : Type 0} (did : W × T → List ℕ) (job : W × T → J) (can_do : W × T → ℕ → Type 0) (does : W × T → ℕ → W × T → Type 0)
     (counter : TableId × Plan) (claimer : TableId × Claims) where

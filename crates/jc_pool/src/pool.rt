@@ -1,10 +1,10 @@
 //! Workers side by side.
-ghost use Rattle.std.specs.Prelude.{◌≡◌, ℕ, ◌+◌, ◌^◌, ◌<◌, All, length, OnOk, OnErr};
+ghost use Rattle.std.specs.Prelude.{◌≡◌, ℕ, ◌+◌, ◌^◌, ◌<◌, ◌++◌, All, length, OnOk, OnErr};
 ghost use Rattle.std.specs.List.{zip};
 ghost use denote.Param.Send.{IsSync, IsSend};
 ghost use Rattle.jc_pool.specs.Shares.{CanDoAll, DoesEachOnce};
 ghost use Rattle.jc_pool.specs.Views.{fresh_claims};
-ghost use Rattle.jc_pool.specs.Teams.{CanBegin, HasEnded, HaveEnded};
+ghost use Rattle.jc_pool.specs.Teams.{CanBegin, CanBeginHalves, HasEnded, HaveEnded};
 
 use crate::counter::{Claimer, Counter};
 use crate::view::Plan;
@@ -91,49 +91,49 @@ fn work_side_by_side<T: Send, W: WorkWith<T> + Send, R: Threads + Sync>(
         return;
     }
     let half = workers.len() / 2;
-    let mut other = counter.split(claimer);
     let (first, rest) = workers.split_at_mut(workers.len() - half);
     let (first_tools, rest_tools) = tools.split_at_mut(tools.len() - half);
-    work_in_halves(
-        rt,
-        counter,
-        claimer,
-        first,
-        first_tools,
-        &mut other,
-        rest,
-        rest_tools,
-    );
-    counter.join(claimer, other);
+    let desk = Desk { rt, counter };
+    work_in_halves(desk, claimer, first, first_tools, rest, rest_tools);
+}
+
+/// What all workers share.
+struct Desk<'a, R> {
+    /// What starts threads.
+    rt: &'a R,
+    /// The counter that they claim from.
+    counter: &'a Counter,
 }
 
 /// The first half of the workers works on this thread, and the others on a new one. If no thread can be started, the others work
 /// afterwards on this one.
+///
+/// Conditions: as for all of them together; the second half is half of them, rounded down, and there are as many tools for each.
 #[cycle(halves)]
 fn work_in_halves<T: Send, W: WorkWith<T> + Send, R: Threads + Sync>(
-    rt: &R,
-    counter: &Counter,
+    desk: Desk<'_, R>,
     claimer: &mut Claimer,
     first: &mut [W],
     first_tools: &mut [T],
-    other: &mut Claimer,
     rest: &mut [W],
     rest_tools: &mut [T],
 )
-    requires first { CanBegin W.can_do counter.now claimer.old first.old first_tools.old }
-    requires rest { CanBegin W.can_do counter.now other.old rest.old rest_tools.old }
-    ensures first { HaveEnded W.did W.job W.can_do W.does counter.now claimer.new first.old first_tools.old first.new first_tools.new }
-    ensures rest { HaveEnded W.did W.job W.can_do W.does counter.now other.new rest.old rest_tools.old rest.new rest_tools.new }
+    requires { CanBeginHalves W.can_do desk.counter.now claimer.old first.old first_tools.old rest.old rest_tools.old }
+    ensures { HaveEnded W.did W.job W.can_do W.does desk.entry.counter.now claimer.new
+        (first.old ++ rest.old) (first_tools.old ++ rest_tools.old) (first.new ++ rest.new) (first_tools.new ++ rest_tools.new) }
 {
+    let Desk { rt, counter } = desk;
+    let mut other = counter.split(claimer);
     let mut here = ||
         requires { IsSync R.row × IsSend W.row × IsSend T.row × CanBegin W.can_do counter.now claimer.now first.now first_tools.now }
         ensures { HaveEnded W.did W.job W.can_do W.does counter.entry.now claimer.exit.now first.entry.now first_tools.entry.now first.exit.now first_tools.exit.now }
     { work_side_by_side(rt, counter, claimer, first, first_tools) };
     let mut there = ||
-        requires { IsSync R.row × IsSend W.row × IsSend T.row × CanBegin W.can_do counter.now other.now rest.now rest_tools.now }
-        ensures { HaveEnded W.did W.job W.can_do W.does counter.entry.now other.exit.now rest.entry.now rest_tools.entry.now rest.exit.now rest_tools.exit.now }
-    { work_side_by_side(rt, counter, other, rest, rest_tools) };
+        requires { IsSync R.row × IsSend W.row × IsSend T.row × CanBegin W.can_do counter.now other rest.now rest_tools.now }
+        ensures { HaveEnded W.did W.job W.can_do W.does counter.entry.now other.exit rest.entry.now rest_tools.entry.now rest.exit.now rest_tools.exit.now }
+    { work_side_by_side(rt, counter, &mut other, rest, rest_tools) };
     join_mut(rt, &mut there, &mut here);
+    counter.join(claimer, other);
 }
 
 /// One worker claims and does pieces until none is left.

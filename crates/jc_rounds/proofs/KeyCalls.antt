@@ -15,10 +15,9 @@ use Rattle.jc_stripe.specs.State.{State}
 use Rattle.jc_stripe.specs.OnePhase.{OnePhase}
 use Rattle.jc_stripe.specs.OwnSteps.{OwnSteps, StepsBehind, may_come_all}
 use Rattle.jc_stripe.specs.Tickets.{JoinClaim}
-use Rattle.jc_stripe.specs.declared.begun.Begun.{Begun}
-use Rattle.jc_stripe.specs.declared.begun.Picked.{Picked}
-use Rattle.jc_stripe.specs.declared.begun.Picked.TheVariants as picked
-use Rattle.jc_stripe.specs.declared.begun.StepDone.{StepDone}
+use Rattle.jc_stripe.specs.Outcomes.{Begun, StepDone}
+use Rattle.jc_stripe.specs.Polled.{Polled}
+use Rattle.jc_stripe.specs.Polled as polled
 use Rattle.jc_stripe.specs.declared.ticket.Reservation.{Reservation}
 use Rattle.jc_lock.specs.declared.view.View.{View}
 use Rattle.jc_session.specs.declared.counts.Counted.{Counted}
@@ -29,7 +28,7 @@ use Rattle.jc_cache.specs.Turns.{picking_late, starting_now}
 use Rattle.jc_cache.specs.Caches.{CacheState}
 use Rattle.jc_cache.specs.PhaseCalls.{MayStart, PhaseAt}
 use Rattle.jc_cache.specs.Sessions.{IsOf}
-use Rattle.jc_cache.specs.declared.session.Session.{Session}
+use Rattle.jc_session.specs.declared.session.Session.{Session}
 use Rattle.jc_rounds.specs.Keys.{HasBegun, HasPicked, IsCommitted, IsEarly, IsJoinFor, IsPickedUp}
 use Rattle.jc_rounds.specs.Recorded.{steps_of}
 use Rattle.jc_rounds.specs.Seats.{AreBefore, HasGrown, Moves, view_at, view_of}
@@ -37,10 +36,10 @@ use Rattle.jc_rounds.proofs.KeyPhases.{key_begun, key_committed, key_picked}
 use Rattle.jc_rounds.proofs.CallSteps.{may-come-all}
 use Rattle.jc_rounds.proofs.SeatPhases.{Seated, moves_all, view_here, view_there}
 
-pub pick_over : (join : JoinClaim) (p : Picked) (a b : State) → PicksUpLate a join p b → IsPickedUp p
-pick_over join (picked.Answer reply place shared_with) a b picks = tt
-pick_over join picked.Again a b picks = tt
-pick_over join (picked.NotYet back) a b picks = picks
+pub pick_over : (join : JoinClaim) (p : Polled) (a b : State) → PicksUpLate a join p b → IsPickedUp p
+pick_over join (polled.Answer reply place shared_with) a b picks = tt
+pick_over join polled.Again a b picks = tt
+pick_over join (polled.NotYet back) a b picks = picks
 
 module _ {I J : Type 0} {D : I → Type 0} {E : J → Type 0} where
   pub may_start : (cache : CacheState) (session : Session I J D E) (key : Bytes) → AreBefore session.agent.caller session.seats.items
@@ -82,7 +81,7 @@ module _ {I J : Type 0} {D : I → Type 0} {E : J → Type 0} where
               (subst (λ (v : View). IsCommitted cache.config r.caller r out v (view_of n new.seats.items r.key) done.reply) (sym (view_was x)) (subst (λ (w : View). IsCommitted cache.config r.caller r out x.before w done.reply) (sym (view_now x)) k.1)),
         )
 
-    pub pick_told : StepsBehind → (join : JoinClaim) (p : Picked) (counted : Counted) → PhaseAt (stripe_of join.key cache.config.stripes) old (picking_late join p) counted new → join.caller ≡ old.agent.caller → IsEarly old.agent.caller
+    pub pick_told : StepsBehind → (join : JoinClaim) (p : Polled) (counted : Counted) → PhaseAt (stripe_of join.key cache.config.stripes) old (picking_late join p) counted new → join.caller ≡ old.agent.caller → IsEarly old.agent.caller
         → steps_of old.agent.caller join.key (view_of cache.config.stripes old.seats.items join.key).own ≡ []
         → Moves old.agent.caller cache.config.stripes join.key old.seats.items new.seats.items
         × ((first : View) → HasGrown first (view_of cache.config.stripes old.seats.items join.key) → IsJoinFor old.agent.caller first join.key Get join

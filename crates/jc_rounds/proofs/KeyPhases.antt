@@ -29,11 +29,10 @@ use Rattle.jc_stripe.specs.OwnSteps.{AddsOwn, OwnSteps, StepsBehind, may_come_al
 use Rattle.jc_stripe.specs.Phases.{after_commit, with_joiner}
 use Rattle.jc_stripe.specs.Refusals.{first_asked, first_refusal, may_join}
 use Rattle.jc_stripe.specs.Tickets.{TicketClaim, JoinClaim}
-use Rattle.jc_stripe.specs.declared.begun.Begun.{Begun}
-use Rattle.jc_stripe.specs.declared.begun.Begun.TheVariants as begun
-use Rattle.jc_stripe.specs.declared.begun.Picked.{Picked}
-use Rattle.jc_stripe.specs.declared.begun.Picked.TheVariants as picked
-use Rattle.jc_stripe.specs.declared.begun.StepDone.{StepDone}
+use Rattle.jc_stripe.specs.Outcomes.{Begun, StepDone}
+use Rattle.jc_stripe.specs.Polled.{Polled}
+use Rattle.jc_stripe.specs.Outcomes as begun
+use Rattle.jc_stripe.specs.Polled as polled
 use Rattle.jc_stripe.specs.declared.ticket.Reservation.{Reservation}
 use Rattle.jc_lock.specs.declared.view.View.{View}
 use Rattle.jc_lock.proofs.CallerLemmas.{prefix-trans}
@@ -42,7 +41,7 @@ use Rattle.jc_engine.specs.Rows.{Turn}
 use Rattle.jc_engine.specs.Turns.{committing}
 use Rattle.jc_cache.specs.Turns.{picking_late, starting_now}
 use Rattle.jc_engine.proofs.CallerLemmas.{next_place}
-use Rattle.jc_stripe.proofs.Beside.{ask_found}
+use Rattle.jc_stripe.proofs.CallerLemmas.{ask_found}
 use Rattle.jc_stripe.proofs.CallerLemmas.{adds_whole, call_below, gains_whole, may_in_all, of_same, put_off_or_full}
 use Rattle.jc_cache.specs.PhaseCalls.{SeatPhase}
 use Rattle.jc_rounds.specs.Keys.{HasBegun, HasPicked, IsCommitted, IsEarly, IsJoinFor}
@@ -80,7 +79,7 @@ start_turn caller key op b = (λ found left waits. waits.renewed, λ found left 
 commit_turn : (r : Reservation) (out : Out) (done : StepDone) → IsTurnOfCall (committing r out done) r.caller r.key
 commit_turn r out done = (λ found left waits. waits.renewed, λ found left made. inr (inl (r, out, done, refl, refl, made)))
 
-pick_turn : (join : JoinClaim) (p : Picked) → IsTurnOfCall (picking_late join p) join.caller join.key
+pick_turn : (join : JoinClaim) (p : Polled) → IsTurnOfCall (picking_late join p) join.caller join.key
 pick_turn join p = (λ found left waits. waits.renewed, λ found left made. inr (inr (join, p, refl, refl, made)))
 
 module _ (law : OnePhase) (steps : OwnSteps) where
@@ -221,9 +220,9 @@ module _ (law : OnePhase) (steps : OwnSteps) where
         },
       )
 
-  pub key_picked : (config : Config) → StepsBehind → (session : ℕ) (join : JoinClaim) (p : Picked) (v w : View) (x : SeatPhase session v (picking_late join p) w) → session ≡ join.caller.session → IsEarly join.caller → steps_of join.caller join.key v.own ≡ []
+  pub key_picked : (config : Config) → StepsBehind → (session : ℕ) (join : JoinClaim) (p : Polled) (v w : View) (x : SeatPhase session v (picking_late join p) w) → session ≡ join.caller.session → IsEarly join.caller → steps_of join.caller join.key v.own ≡ []
       → MovesSeat join.caller join.key v w × ((first : View) → HasGrown first v → IsJoinFor join.caller first join.key Get join → HasPicked config join.caller first w join.key Get p)
-  key_picked config places session join (picked.Answer reply place shared_with) v w x mine early none =
+  key_picked config places session join (polled.Answer reply place shared_with) v w x mine early none =
       let gains = steps.picks_up x.found w.noted join reply place shared_with x.reached x.made in
       let at : ℕ = whole_place w.noted place in
       let whole = gains_whole join.caller.session x.found w.noted (Step join.caller Get join.key gains.0 (Some shared_with) reply) place (uniform law session _ v w x).grows.same.ended gains.1 in
@@ -232,7 +231,7 @@ module _ (law : OnePhase) (steps : OwnSteps) where
       let is : w.own ≡ g.before ++ Step join.caller Get join.key gains.0 (Some shared_with) reply ∷ g.after = x.own_is ∙ ap (λ (n : ℕ). all_own_steps n w.noted) mine ∙ g.is in
       let there : slice_get w.front at ≡ Some (Step join.caller Get join.key gains.0 (Some shared_with) reply) = ap (λ (es : List Event). slice_get es at) x.front_is ∙ whole.0 in
       let grown = grown_phase law session _ v w x in (
-        gained_phase law session _ v w x join.caller join.key (pick_turn join (picked.Answer reply place shared_with)) Get gains.0 (Some shared_with) reply g.before g.after was is early,
+        gained_phase law session _ v w x join.caller join.key (pick_turn join (polled.Answer reply place shared_with)) Get gains.0 (Some shared_with) reply g.before g.after was is early,
         λ first older for. (
             let front = prefix-trans first.front v.front w.front older.front grown.front in
             record {
@@ -248,8 +247,8 @@ module _ (law : OnePhase) (steps : OwnSteps) where
             }
             ),
       )
-  key_picked config places session join picked.Again v w x mine early none =
+  key_picked config places session join polled.Again v w x mine early none =
       let same : own_steps session w.noted ≡ own_steps session x.found =
       ap (λ (n : ℕ). own_steps n w.noted) mine ∙ steps.again x.found w.noted join x.reached x.made ∙ ap (λ (n : ℕ). own_steps n x.found) (sym mine) in
-      (seen_phase law session _ v w x join.caller join.key (pick_turn join picked.Again) same, λ first older for. ap (steps_of join.caller join.key) (seen_own law session _ v w x same) ∙ none)
-  key_picked config places session join (picked.NotYet back) v w x mine early none = absurd x.made
+      (seen_phase law session _ v w x join.caller join.key (pick_turn join polled.Again) same, λ first older for. ap (steps_of join.caller join.key) (seen_own law session _ v w x same) ∙ none)
+  key_picked config places session join (polled.NotYet back) v w x mine early none = absurd x.made

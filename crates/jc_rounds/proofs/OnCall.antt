@@ -24,18 +24,18 @@ use Rattle.jc_model.specs.declared.event.Op.{Op}
 use Rattle.jc_model.specs.declared.event.Op.TheVariants.{Get}
 use Rattle.jc_model.specs.declared.event.Out.{Out}
 use Rattle.jc_model.specs.declared.event.Reply.{Reply}
-use Rattle.jc_stripe.specs.declared.begun.Begun.{Begun}
-use Rattle.jc_stripe.specs.declared.begun.Begun.TheVariants as begun
-use Rattle.jc_stripe.specs.declared.begun.Picked.{Picked}
+use Rattle.jc_stripe.specs.Outcomes.{Begun}
+use Rattle.jc_stripe.specs.Polled.{Polled}
+use Rattle.jc_stripe.specs.Outcomes as begun
 use Rattle.jc_stripe.specs.declared.ticket.Reservation.{Reservation}
 use Rattle.jc_stripe.specs.Tickets.{JoinClaim, TicketClaim}
 use Rattle.jc_lock.specs.declared.view.View.{View}
-use Rattle.jc_session.specs.Counting.{counted_begun, counted_picked}
+use Rattle.jc_session.specs.Counting.{counted_begun, counted_polled}
 use Rattle.jc_session.specs.declared.agent.Agent.{Agent}
 use Rattle.jc_session.specs.declared.counts.Counted.{Counted}
 use Rattle.jc_session.specs.declared.counts.Counted.TheVariants.{Committed}
 use Rattle.jc_cache.specs.Caches.{CacheState}
-use Rattle.jc_cache.specs.declared.session.Session.{Session}
+use Rattle.jc_session.specs.declared.session.Session.{Session}
 use Rattle.jc_rounds.specs.declared.answers.Answers.{Answers}
 use Rattle.jc_rounds.specs.declared.answers.Answers.TheVariants as answers
 use Rattle.jc_rounds.specs.declared.bulk_call.BulkCall.{BulkCall}
@@ -278,9 +278,9 @@ module _ {I J : Type 0} {D : I → Type 0} {E : J → Type 0} (cache : CacheStat
 
   -- 5. Pick-ups.
 
-  pub picking_on : (place : ℕ) (join : JoinClaim) (p : Picked) (q : Progress) → later.progress.items ≡ set call.progress.items place q → later.tickets.items ≡ call.tickets.items → later.joins.items ≡ call.joins.items
+  pub picking_on : (place : ℕ) (join : JoinClaim) (p : Polled) (q : Progress) → later.progress.items ≡ set call.progress.items place q → later.tickets.items ≡ call.tickets.items → later.joins.items ≡ call.joins.items
       → slice_get call.progress.items place ≡ Some Joined → IsPicked p q
-      → IsKeyPhase cache old join.key (counted_picked p) new
+      → IsKeyPhase cache old join.key (counted_polled p) new
       ((before : View) → HasGrown before (view_of cache.config.stripes old.seats.items join.key) → IsJoinFor old.agent.caller before join.key Get join
       → HasPicked cache.config old.agent.caller before (view_of cache.config.stripes new.seats.items join.key) join.key Get p)
       → IsPickingNext cache past old call join place → IsPicking cache past new later (place + 1)

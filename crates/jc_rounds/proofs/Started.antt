@@ -21,7 +21,7 @@ use Rattle.jc_rounds.specs.Recorded.{steps_of}
 use Rattle.jc_rounds.specs.Seats.{view_of}
 use Rattle.jc_rounds.proofs.SeatPhases.{Seated}
 use Rattle.jc_cache.specs.Caches.{CacheState}
-use Rattle.jc_cache.specs.declared.session.Session.{Session}
+use Rattle.jc_session.specs.declared.session.Session.{Session}
 use Rattle.jc_rounds.specs.declared.bulk_call.BulkCall.{BulkCall}
 use Rattle.jc_rounds.specs.Rounds.{Round, asked_in, keys_asked}
 use Rattle.jc_rounds.specs.Causes.{IsFirst}

@@ -32,18 +32,18 @@ use Rattle.jc_rounds.specs.Underway.{reserved_by}
 use Rattle.std.proofs.lemmas.List.{map-append}
 use Rattle.std.specs.List.{IsAmong}
 use Rattle.std.proofs.Common.{map}
-use Rattle.jc_stripe.specs.declared.begun.Begun.{Begun}
-use Rattle.jc_stripe.specs.declared.begun.Begun.TheVariants as begun
-use Rattle.jc_stripe.specs.declared.begun.Picked.{Picked}
-use Rattle.jc_stripe.specs.declared.begun.Picked.TheVariants as picked
+use Rattle.jc_stripe.specs.Outcomes.{Begun}
+use Rattle.jc_stripe.specs.Polled.{Polled}
+use Rattle.jc_stripe.specs.Outcomes as begun
+use Rattle.jc_stripe.specs.Polled as polled
 use Rattle.jc_stripe.specs.declared.ticket.Reservation.{Reservation}
 use Rattle.jc_lock.specs.declared.view.View.{View}
-use Rattle.jc_session.specs.Counting.{one_more, counts_after, counted_begun, counted_picked}
+use Rattle.jc_session.specs.Counting.{one_more, counts_after, counted_begun, counted_polled}
 use Rattle.jc_session.specs.declared.agent.Agent.{Agent}
 use Rattle.jc_session.specs.declared.counts.Counted.TheVariants.{Committed}
 use Rattle.jc_session.specs.declared.counts.Counts.{Counts}
 use Rattle.jc_cache.specs.Caches.{CacheState}
-use Rattle.jc_cache.specs.declared.session.Session.{Session}
+use Rattle.jc_session.specs.declared.session.Session.{Session}
 use Rattle.jc_rounds.specs.declared.progress.Progress.{Progress}
 use Rattle.jc_rounds.specs.declared.progress.Progress.TheVariants.{Waiting, Reserved, Joined, Ended}
 use Rattle.jc_rounds.specs.KeyProgress.{StayEnded, is_joined, is_reserved, is_settled, is_waiting}
@@ -254,25 +254,25 @@ module _ {I J : Type 0} {D : I → Type 0} {E : J → Type 0} where
 
 -- 3. Pick-ups.
 
-picked_at : (config : Config) (caller : Caller) (first w : View) (key : Bytes) (p : Picked) (q : Progress) → HasPicked config caller first w key Get p → IsPicked p q → IsAt config caller [] first w key Get q
-picked_at config caller first w key (picked.Answer reply place shared_with) q has is = subst (IsAt config caller [] first w key Get) (sym is) has
-picked_at config caller first w key picked.Again q has is = subst (IsAt config caller [] first w key Get) (sym is) has
-picked_at config caller first w key (picked.NotYet join) q has is = absurd is
+picked_at : (config : Config) (caller : Caller) (first w : View) (key : Bytes) (p : Polled) (q : Progress) → HasPicked config caller first w key Get p → IsPicked p q → IsAt config caller [] first w key Get q
+picked_at config caller first w key (polled.Answer reply place shared_with) q has is = subst (IsAt config caller [] first w key Get) (sym is) has
+picked_at config caller first w key polled.Again q has is = subst (IsAt config caller [] first w key Get) (sym is) has
+picked_at config caller first w key (polled.NotYet join) q has is = absurd is
 
-picked_settled : (p : Picked) (q : Progress) → IsPicked p q → is_settled q ≡ true
-picked_settled (picked.Answer reply place shared_with) q is = ap is_settled is
-picked_settled picked.Again q is = ap is_settled is
-picked_settled (picked.NotYet join) q is = absurd is
+picked_settled : (p : Polled) (q : Progress) → IsPicked p q → is_settled q ≡ true
+picked_settled (polled.Answer reply place shared_with) q is = ap is_settled is
+picked_settled polled.Again q is = ap is_settled is
+picked_settled (polled.NotYet join) q is = absurd is
 
-picked_joins : (p : Picked) (q : Progress) (counts : Counts) → IsPicked p q → (counts_after counts (counted_picked p)).joins ≡ counts.joins - 1
-picked_joins (picked.Answer reply place shared_with) q counts is = refl
-picked_joins picked.Again q counts is = refl
-picked_joins (picked.NotYet join) q counts is = absurd is
+picked_joins : (p : Polled) (q : Progress) (counts : Counts) → IsPicked p q → (counts_after counts (counted_polled p)).joins ≡ counts.joins - 1
+picked_joins (polled.Answer reply place shared_with) q counts is = refl
+picked_joins polled.Again q counts is = refl
+picked_joins (polled.NotYet join) q counts is = absurd is
 
-picked_reservations : (p : Picked) (counts : Counts) → (counts_after counts (counted_picked p)).reservations ≡ counts.reservations
-picked_reservations (picked.Answer reply place shared_with) counts = refl
-picked_reservations picked.Again counts = refl
-picked_reservations (picked.NotYet join) counts = refl
+picked_reservations : (p : Polled) (counts : Counts) → (counts_after counts (counted_polled p)).reservations ≡ counts.reservations
+picked_reservations (polled.Answer reply place shared_with) counts = refl
+picked_reservations polled.Again counts = refl
+picked_reservations (polled.NotYet join) counts = refl
 
 module _ {I J : Type 0} {D : I → Type 0} {E : J → Type 0} where
   -- the join of the first key that has joined a load
@@ -296,8 +296,8 @@ module _ {I J : Type 0} {D : I → Type 0} {E : J → Type 0} where
       )
 
   pub picked_on : (cache : CacheState) (caller : Caller) (targets : List (Bytes × Op)) (rounds : List Round) (first : List Seated) (old new : Session I J D E) (ps : List Progress) (calls : List Reservation) (join : JoinClaim) (rest : List JoinClaim)
-      (place : ℕ) (p : Picked) (q : Progress) → IsDistinct (pointwise ◌==◌) (keys_of targets) → slice_get ps place ≡ Some Joined → AreUnder is_joined place ps → is_among (asked_in rounds) join.key ≡ false
-      → IsKeyPhase cache old join.key (counted_picked p) new
+      (place : ℕ) (p : Polled) (q : Progress) → IsDistinct (pointwise ◌==◌) (keys_of targets) → slice_get ps place ≡ Some Joined → AreUnder is_joined place ps → is_among (asked_in rounds) join.key ≡ false
+      → IsKeyPhase cache old join.key (counted_polled p) new
       ((before : View) → HasGrown before (view_of cache.config.stripes old.seats.items join.key) → IsJoinFor old.agent.caller before join.key Get join
       → HasPicked cache.config old.agent.caller before (view_of cache.config.stripes new.seats.items join.key) join.key Get p)
       → IsPicked p q → IsUnderway cache caller targets rounds first old ps calls (join ∷ rest) → IsUnderway cache caller targets rounds first new (set ps place q) calls rest
@@ -368,7 +368,7 @@ settled_set ps i p from j r le at = ⊎_elim (λ t. absurd (let same = t.0 in om
 pub settled_next : (ps : List Progress) (i : ℕ) → AreSettledFrom i ps → AreSettledFrom (i + 1) ps
 settled_next ps i from j r le at = from j r (omega arith) at
 
-pub picked_not_joined : (p : Picked) (q : Progress) → IsPicked p q → is_joined q ≡ false
+pub picked_not_joined : (p : Polled) (q : Progress) → IsPicked p q → is_joined q ≡ false
 picked_not_joined p q is = settled_not_joined q (picked_settled p q is)
 
 -- 5. The ends of the loops.

@@ -29,9 +29,9 @@ use Rattle.jc_lock.specs.declared.view.View.{View}
 use Rattle.jc_lock.specs.Views.{spent_view}
 use Rattle.jc_session.specs.Counting.{one_more}
 use Rattle.jc_cache.specs.Caches.{CacheState}
-use Rattle.jc_cache.specs.Calls.{next_call}
+use Rattle.jc_session.specs.Sessions.{next_call}
 use Rattle.jc_cache.specs.Sessions.{MayCall}
-use Rattle.jc_cache.specs.declared.session.Session.{Session}
+use Rattle.jc_session.specs.declared.session.Session.{Session}
 use Rattle.jc_rounds.specs.declared.progress.Progress.{Progress}
 use Rattle.jc_rounds.specs.declared.progress.Progress.TheVariants.{Waiting, Reserved, Joined, Ended}
 use Rattle.jc_rounds.specs.Recorded.{are_before}

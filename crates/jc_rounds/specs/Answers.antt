@@ -14,12 +14,16 @@
 --     TakesReport       the report on it, if one is due, and the reports that are left
 --     done_room         for how many done values of whom a round asks first there is memory
 --     AreAnswers        these answer each of these reservations, with what a round said of its key
+--     CommitsNext       a last phase at the key of a reservation, by the first of the answers: it is the step of a phase at that key alone,
+--                       with what the round said of the key, and the other answers are left
 use Rattle.std.specs.Prelude.{◌≡◌, ◌∷◌, ℕ, vec_capacity, List, map, reverse, Bool, true, false, not, Option, None, Some, if◌then◌else◌}
 use Rattle.std.specs.List.{AllByRecursion, IsAmong, filter_map}
 use Rattle.jc_types.specs.declared.config.Config.{Config}
 use Rattle.jc_model.specs.Batches.{is_among}
 use Rattle.jc_model.specs.Cache.{Bytes}
 use Rattle.jc_model.specs.declared.event.Change.{Change}
+use Rattle.jc_model.specs.declared.event.Out.{Out}
+use Rattle.jc_model.specs.declared.event.Reply.{Reply}
 use Rattle.jc_model.specs.declared.event.Change.TheVariants.{Write, Delete}
 use Rattle.jc_model.specs.declared.event.LoadAnswer.{LoadAnswer}
 use Rattle.jc_model.specs.declared.event.ProcessAnswer.{ProcessAnswer}
@@ -32,9 +36,15 @@ use Rattle.jc_stripe.specs.Effects.{HasReport, report_answer}
 use Rattle.jc_stripe.specs.declared.ticket.First.{First}
 use Rattle.jc_stripe.specs.declared.ticket.Reservation.{Reservation}
 use Rattle.jc_stripe.specs.Tickets.{Claim, asks_loader, asks_processor, asks_writer, claim_of, entry_seen, id_of, is_loadable}
+use Rattle.jc_session.specs.declared.counts.Counted.TheVariants.{Committed}
+use Rattle.jc_session.specs.declared.session.Session.{Session}
+use Rattle.jc_cache.specs.Caches.{CacheState}
 use Rattle.jc_rounds.specs.declared.answers.Answers.{Answers}
 use Rattle.jc_rounds.specs.declared.answers.Answers.TheVariants as answers
-use Rattle.jc_rounds.specs.Rounds.{KeyRun, LoadAll, ProcessAll, ProcessRound, Round, WriteAll, answer_by, change_of, keys_asked}
+use Rattle.jc_rounds.specs.KeyPhases.{IsKeyPhase}
+use Rattle.jc_rounds.specs.Keys.{IsCommitted}
+use Rattle.jc_rounds.specs.Rounds.{IsAnswer, KeyRun, LoadAll, ProcessAll, ProcessRound, Round, WriteAll, answer_by, change_of, keys_asked}
+use Rattle.jc_rounds.specs.Seats.{view_of}
 
 abbrev pub key_of : Claim → Bytes
 key_of ask = ask.reservation.key
@@ -119,3 +129,13 @@ AreAnswers config (WriteAll r) (answers.Loads done) calls = ⊥
 AreAnswers config (WriteAll r) (answers.Processes done written deleted) calls = ⊥
 AreAnswers config (ProcessAll r) (answers.Loads done) calls = ⊥
 AreAnswers config (ProcessAll r) (answers.Writes done) calls = ⊥
+
+-- 3. The next of them.
+
+module _ {I J : Type 0} {D : I → Type 0} {E : J → Type 0} (cache : CacheState) (old : Session I J D E) (r : Reservation) where
+  abbrev pub CommitsNext : Answers → Session I J D E → Answers → Reply → Type 0
+  CommitsNext answers new left reply = (round : Round) (rest : List Reservation) → AreAnswers cache.config round answers (r ∷ rest)
+      → AreAnswers cache.config round left rest
+      × IsKeyPhase cache old r.key Committed new ((out : Out) × IsAnswer cache.config round r.key r.first out
+      × IsCommitted cache.config old.agent.caller r out (view_of cache.config.stripes old.seats.items r.key)
+      (view_of cache.config.stripes new.seats.items r.key) reply)

@@ -8,7 +8,7 @@ use Rattle.jc_session.specs.Counting.{counts_after}
 use Rattle.jc_session.specs.declared.counts.Counted.{Counted}
 use Rattle.jc_cache.specs.Caches.{CacheState}
 use Rattle.jc_cache.specs.Sessions.{IsOf}
-use Rattle.jc_cache.specs.declared.session.Session.{Session}
+use Rattle.jc_session.specs.declared.session.Session.{Session}
 use Rattle.jc_rounds.specs.Recorded.{steps_of}
 use Rattle.jc_rounds.specs.Seats.{Moves, view_of}
 

@@ -46,10 +46,10 @@ use Rattle.jc_stripe.specs.Phases.{MayBegin, with_joiner}
 use Rattle.jc_stripe.specs.Tickets.{JoinClaim}
 use Rattle.jc_stripe.specs.declared.ticket.First.TheVariants.{Nobody}
 use Rattle.jc_stripe.specs.declared.ticket.Reservation.{Reservation}
-use Rattle.jc_stripe.specs.declared.begun.Begun.{Begun}
-use Rattle.jc_stripe.specs.declared.begun.Begun.TheVariants as begun
-use Rattle.jc_stripe.specs.declared.begun.Picked.{Picked}
-use Rattle.jc_stripe.specs.declared.begun.Picked.TheVariants as picked
+use Rattle.jc_stripe.specs.Outcomes.{Begun}
+use Rattle.jc_stripe.specs.Polled.{Polled}
+use Rattle.jc_stripe.specs.Outcomes as begun
+use Rattle.jc_stripe.specs.Polled as polled
 use Rattle.jc_lock.specs.declared.view.View.{View}
 use Rattle.jc_engine.specs.MadeIn.{IsNext}
 use Rattle.jc_cache.specs.Fronts.{HasAllSeen}
@@ -170,12 +170,12 @@ pub record IsCommitted (config : Config) (caller : Caller) (r : Reservation) (ou
   pub made : MadeOn after r.key place (λ entry. first_asked config r.op entry ≡ r.first)
 
 -- `first` is the view from before the call
-abbrev pub HasPicked : Config → Caller → View → View → Bytes → Op → Picked → Type 0
-HasPicked config caller first after key op (picked.Answer reply place shared_with) = HasStep config caller [] first after key op reply
-HasPicked config caller first after key op picked.Again = steps_of caller key after.own ≡ []
-HasPicked config caller first after key op (picked.NotYet join) = ⊥
+abbrev pub HasPicked : Config → Caller → View → View → Bytes → Op → Polled → Type 0
+HasPicked config caller first after key op (polled.Answer reply place shared_with) = HasStep config caller [] first after key op reply
+HasPicked config caller first after key op polled.Again = steps_of caller key after.own ≡ []
+HasPicked config caller first after key op (polled.NotYet join) = ⊥
 
-abbrev pub IsPickedUp : Picked → Type 0
-IsPickedUp (picked.Answer reply place shared_with) = Unit {0}
-IsPickedUp picked.Again = Unit {0}
-IsPickedUp (picked.NotYet join) = ⊥
+abbrev pub IsPickedUp : Polled → Type 0
+IsPickedUp (polled.Answer reply place shared_with) = Unit {0}
+IsPickedUp polled.Again = Unit {0}
+IsPickedUp (polled.NotYet join) = ⊥

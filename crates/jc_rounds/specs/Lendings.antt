@@ -12,9 +12,8 @@ use Rattle.jc_stripe.specs.State.{State}
 use Rattle.jc_stripe.specs.Phases.{Commits}
 use Rattle.jc_stripe.specs.Renewal.{RenewsIfFull}
 use Rattle.jc_stripe.specs.Tickets.{JoinClaim}
-use Rattle.jc_stripe.specs.declared.begun.Begun.{Begun}
-use Rattle.jc_stripe.specs.declared.begun.Picked.{Picked}
-use Rattle.jc_stripe.specs.declared.begun.StepDone.{StepDone}
+use Rattle.jc_stripe.specs.Outcomes.{Begun, StepDone}
+use Rattle.jc_stripe.specs.Polled.{Polled}
 use Rattle.jc_stripe.specs.declared.ticket.Reservation.{Reservation}
 use Rattle.jc_lock.specs.declared.view.View.{View}
 use Rattle.jc_engine.specs.Needs.{PicksUpLate, StartsAt}
@@ -24,7 +23,7 @@ abbrev pub IsPhaseAt : Caller → Bytes → State → State → Type 0
 IsPhaseAt caller key found left =
     ((op : Op) × (begun : Begun) × StartsAt caller key op begun found left)
     ⊎ ((r : Reservation) × (out : Out) × (done : StepDone) × (r.caller ≡ caller) × (r.key ≡ key) × Commits found r out done left)
-    ⊎ ((join : JoinClaim) × (picked : Picked) × (join.caller ≡ caller) × (join.key ≡ key) × PicksUpLate found join picked left)
+    ⊎ ((join : JoinClaim) × (picked : Polled) × (join.caller ≡ caller) × (join.key ≡ key) × PicksUpLate found join picked left)
 
 pub record OnlyPhases (caller : Caller) (at : Bytes → Type 0) (before after : View) : Type 0 where
   pub row : List (State × State)

@@ -26,7 +26,7 @@ use Rattle.jc_outside.specs.CallingAll.{LoadAllRelation, DeleteAllRelation, Load
 use Rattle.jc_outside.specs.Done.{LoadResult, WriteResult}
 use Rattle.jc_session.specs.Boxed.{boxed}
 use Rattle.jc_stripe.specs.Tickets.{Claim}
-use Rattle.jc_cache.specs.declared.session.Session.{Session}
+use Rattle.jc_session.specs.declared.session.Session.{Session}
 use Rattle.jc_rounds.specs.declared.load_call.SpentLoads.{SpentLoads}
 use Rattle.jc_rounds.specs.Answers.{key_of}
 

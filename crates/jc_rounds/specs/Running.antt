@@ -27,8 +27,8 @@ use Rattle.jc_stripe.specs.Refusals.{last_number}
 use Rattle.jc_stripe.specs.State.{State}
 use Rattle.jc_lock.specs.declared.view.View.{View}
 use Rattle.jc_cache.specs.Caches.{CacheState}
-use Rattle.jc_cache.specs.Calls.{next_call}
-use Rattle.jc_cache.specs.declared.session.Session.{Session}
+use Rattle.jc_session.specs.Sessions.{next_call}
+use Rattle.jc_session.specs.declared.session.Session.{Session}
 use Rattle.jc_rounds.specs.declared.bulk_call.BulkCall.{BulkCall}
 use Rattle.jc_rounds.specs.declared.progress.Progress.{Progress}
 use Rattle.jc_rounds.specs.declared.progress.Progress.TheVariants.{Waiting}

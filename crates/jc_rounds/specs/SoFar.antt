@@ -24,14 +24,14 @@ use Rattle.jc_model.specs.Cache.{Bytes}
 use Rattle.jc_model.specs.declared.event.Op.{Op}
 use Rattle.jc_stripe.specs.Tickets.{JoinClaim, TicketClaim}
 use Rattle.jc_stripe.specs.declared.ticket.Reservation.{Reservation}
-use Rattle.jc_stripe.specs.declared.begun.Begun.{Begun}
-use Rattle.jc_stripe.specs.declared.begun.Begun.TheVariants as begun
-use Rattle.jc_stripe.specs.declared.begun.Picked.{Picked}
-use Rattle.jc_stripe.specs.declared.begun.Picked.TheVariants as picked
+use Rattle.jc_stripe.specs.Outcomes.{Begun}
+use Rattle.jc_stripe.specs.Polled.{Polled}
+use Rattle.jc_stripe.specs.Outcomes as begun
+use Rattle.jc_stripe.specs.Polled as polled
 use Rattle.jc_lock.specs.declared.view.View.{View}
 use Rattle.jc_cache.specs.Caches.{CacheState}
 use Rattle.jc_cache.specs.Sessions.{IsOf}
-use Rattle.jc_cache.specs.declared.session.Session.{Session}
+use Rattle.jc_session.specs.declared.session.Session.{Session}
 use Rattle.jc_rounds.specs.declared.progress.Progress.{Progress}
 use Rattle.jc_rounds.specs.declared.progress.Progress.TheVariants.{Waiting, Reserved, Joined, Ended}
 use Rattle.jc_rounds.specs.KeyProgress.{StayEnded, is_held_back, is_joined, is_reserved, is_settled}
@@ -81,10 +81,10 @@ IsKept (begun.Refused refusal) p tickets tickets' joins joins' = (p ≡ (if is_p
 IsKept (begun.Asks ticket) p tickets tickets' joins joins' = (p ≡ Reserved) × (tickets' ≡ tickets ++ ticket ∷ []) × (joins' ≡ joins)
 IsKept (begun.Joined join) p tickets tickets' joins joins' = (p ≡ Joined) × (tickets' ≡ tickets) × (joins' ≡ joins ++ join ∷ [])
 
-abbrev pub IsPicked : Picked → Progress → Type 0
-IsPicked (picked.Answer reply place shared_with) p = p ≡ Ended (Ok reply)
-IsPicked picked.Again p = p ≡ Waiting
-IsPicked (picked.NotYet join) p = ⊥
+abbrev pub IsPicked : Polled → Progress → Type 0
+IsPicked (polled.Answer reply place shared_with) p = p ≡ Ended (Ok reply)
+IsPicked polled.Again p = p ≡ Waiting
+IsPicked (polled.NotYet join) p = ⊥
 
 abbrev pub AreSettledFrom : ℕ → List Progress → Type 0
 AreSettledFrom from progress = (place : ℕ) (p : Progress) → from ≤ place → slice_get progress place ≡ Some p → is_settled p ≡ true

@@ -1,15 +1,12 @@
 //! What was answered outside for the keys that a round has reserved, and the last phases that it leads to.
 ghost use Rattle.std.specs.Prelude.{◌≡◌, ◌∷◌, [], List, None, vec_capacity, if◌then◌else◌};
 ghost use Rattle.jc_types.specs.declared.config.Config.{Config};
-ghost use Rattle.jc_model.specs.declared.event.Out.{Out};
 ghost use Rattle.jc_mutentry.specs.Done.{effect_change};
 ghost use Rattle.jc_stripe.specs.declared.ticket.Reservation.{Reservation};
-ghost use Rattle.jc_session.specs.declared.counts.Counted.TheVariants.{Committed};
-ghost use Rattle.jc_rounds.specs.Answers.{AreAnswers, IsReportedOn, RunState, TakesReport, done_room};
-ghost use Rattle.jc_rounds.specs.KeyPhases.{IsKeyPhase, MayStep};
-ghost use Rattle.jc_rounds.specs.Keys.{IsCommitted, IsEarly};
-ghost use Rattle.jc_rounds.specs.Rounds.{IsAnswer, ProcessAll, ProcessRound, Round};
-ghost use Rattle.jc_rounds.specs.Seats.{view_of};
+ghost use Rattle.jc_rounds.specs.Answers.{AreAnswers, CommitsNext, IsReportedOn, RunState, TakesReport, done_room};
+ghost use Rattle.jc_rounds.specs.KeyPhases.{MayStep};
+ghost use Rattle.jc_rounds.specs.Keys.{IsEarly};
+ghost use Rattle.jc_rounds.specs.Rounds.{ProcessAll, ProcessRound, Round};
 
 use jc_cache::{Cache, Session};
 use jc_model::{Change, Reply};
@@ -45,14 +42,7 @@ impl Answers {
         requires caller { (ticket.reservation.caller ≡ session.old.agent.caller) × IsEarly session.old.agent.caller }
         requires answers { (round : Round) × (rest : List Reservation)
             × AreAnswers cache.now.config round self.old (ticket.reservation ∷ rest) }
-        ensures told { (round : Round) (rest : List Reservation)
-            → AreAnswers cache.now.config round self.old (ticket.reservation ∷ rest)
-            → AreAnswers cache.now.config round self.new rest
-            × IsKeyPhase cache.now session.old ticket.reservation.key Committed session.new
-            ((out : Out) × IsAnswer cache.now.config round ticket.reservation.key ticket.reservation.first out
-            × IsCommitted cache.now.config session.old.agent.caller ticket.reservation out
-            (view_of cache.now.config.stripes session.old.seats.items ticket.reservation.key)
-            (view_of cache.now.config.stripes session.new.seats.items ticket.reservation.key) reply.new) }
+        ensures told { CommitsNext cache.now session.old ticket.reservation self.old session.new self.new reply.new }
         ensures room { done_room self.new ≡ done_room self.old }
     {
         is_uniform();

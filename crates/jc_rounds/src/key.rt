@@ -2,8 +2,8 @@
 ghost use Rattle.std.specs.Prelude.{◌≡◌, [], true};
 ghost use Rattle.jc_model.specs.declared.event.Op.TheVariants.{Get};
 ghost use Rattle.jc_lock.specs.declared.view.View.{View};
-ghost use Rattle.jc_stripe.specs.Phases.{begun_with};
-ghost use Rattle.jc_session.specs.Counting.{counted_begun, counted_picked};
+ghost use Rattle.jc_stripe.specs.Phases.{begun_with, polled_with};
+ghost use Rattle.jc_session.specs.Counting.{counted_begun, counted_polled};
 ghost use Rattle.jc_cache.specs.Sessions.{IsOf};
 ghost use Rattle.jc_rounds.specs.KeyPhases.{IsKeyPhase, MayStep};
 ghost use Rattle.jc_rounds.specs.Keys.{HasBegun, HasPicked, IsEarly, IsJoinFor, IsPickedUp};
@@ -41,25 +41,31 @@ pub(crate) fn start_key<R: Wait>(
     cache.start(rt, session, key, op, reply)
 }
 
-/// Waits for the answer of a load that the session's current call has joined at a key. `Again` says that the load was given back
-/// unanswered; `NotYet` isn't answered.
+/// Waits for the answer of a load that the session's current call has joined at a key, and writes it to `reply`. `Again` says that
+/// the load was given back unanswered; `NotYet` isn't answered.
 ///
 /// Conditions: the session is of this cache, and has no reservation out; the join is of its current call, which isn't its last and
 /// has made no step at the key.
-pub(crate) fn pick_key<R: Wait>(rt: &R, cache: &Cache, session: &mut Session, join: Join) -> Picked
+pub(crate) fn pick_key<R: Wait>(
+    rt: &R,
+    cache: &Cache,
+    session: &mut Session,
+    join: Join,
+    reply: &mut Reply,
+) -> Picked
     requires reservations { session.old.agent.counts.reservations ≡ 0 }
     requires may { MayStep cache.now session.old join.key }
     requires caller { (join.caller ≡ session.old.agent.caller) × IsEarly session.old.agent.caller }
-    ensures over { IsPickedUp result }
-    ensures phase { IsKeyPhase cache.now session.old join.key (counted_picked result) session.new
+    ensures over { IsPickedUp (polled_with result reply.new) }
+    ensures phase { IsKeyPhase cache.now session.old join.key (counted_polled (polled_with result reply.new)) session.new
         ((first : View)
         → HasGrown first (view_of cache.now.config.stripes session.old.seats.items join.key)
         → IsJoinFor session.old.agent.caller first join.key Get join
         → HasPicked cache.now.config session.old.agent.caller first
-        (view_of cache.now.config.stripes session.new.seats.items join.key) join.key Get result) }
+        (view_of cache.now.config.stripes session.new.seats.items join.key) join.key Get (polled_with result reply.new)) }
 {
     is_uniform();
     own_steps();
     steps_behind();
-    cache.wait_for_load(rt, session, join)
+    cache.wait_for_load(rt, session, join, reply)
 }

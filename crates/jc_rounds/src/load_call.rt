@@ -77,7 +77,9 @@ impl LoadCall {
         let LoadCall { asks, batch, done } = self;
         let mut asks = asks;
         let mut done = done;
-        let batch = session.ask_loader_all(rt, &mut asks, batch, &mut done);
+        let batch = session
+            .agent
+            .ask_loader_all(rt, &mut asks, batch, &mut done);
         done.reverse();
         (done, SpentLoads { asks, batch })
     }

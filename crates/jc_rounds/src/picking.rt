@@ -1,6 +1,7 @@
 //! The pick-ups of a round of a call with many keys: the answers of the loads that it has joined.
 ghost use Rattle.std.specs.Prelude.{◌≡◌, ◌<◌, ◌+◌, length, slice_get, Some, []};
 ghost use Rattle.jc_rounds.specs.declared.progress.Progress.TheVariants.{Joined};
+ghost use Rattle.jc_stripe.specs.Phases.{polled_with};
 ghost use Rattle.jc_rounds.specs.Keys.{IsPickedUp};
 ghost use Rattle.jc_rounds.specs.SoFar.{IsPicked};
 ghost use Rattle.jc_rounds.specs.KeyProgress.{IsNoted, failures};
@@ -66,22 +67,22 @@ impl<'a> BulkCall<'a> {
             → IsPicking cache.now past session.new self.new (place + 1) }
     {
         let _types: Option<&(Reply, Value)> = None;
-        let picked = pick_key(rt, cache, session, join);
-        self.progress[place] = after_pick_up(picked);
+        let mut reply = Reply::Unit;
+        let picked = pick_key(rt, cache, session, join, &mut reply);
+        self.progress[place] = after_pick_up(picked, &reply);
     }
 }
 
-/// The state of a key after a pick-up that wasn't too early.
-fn after_pick_up(picked: Picked) -> Progress
-    requires { IsPickedUp picked }
-    ensures { IsPicked picked result }
+/// The state of a key after a pick-up that wasn't too early, and wrote this reply if it answered.
+fn after_pick_up(picked: Picked, reply: &Reply) -> Progress
+    requires { IsPickedUp (polled_with picked reply.now) }
+    ensures { IsPicked (polled_with picked reply.now) result }
 {
     match picked {
         Picked::Answer {
-            reply,
             place: _,
             shared_with: _,
-        } => Progress::Ended(Ok(reply)),
+        } => Progress::Ended(Ok(*reply)),
         Picked::Again => Progress::Waiting,
         Picked::NotYet(_join) => unreachable!(),
     }

@@ -114,7 +114,7 @@ impl WriteCall {
             asks.destroy_empty();
             return (done, Ok(()));
         }
-        let returned = session.ask_writer_all(rt, asks, batch, &mut done);
+        let returned = session.agent.ask_writer_all(rt, asks, batch, &mut done);
         done.reverse();
         (done, returned)
     }

@@ -1,12 +1,7 @@
 -- Pairs with a key each, once: those that are spelled read back, and those that are read are spelled so.
-use Rattle.std.proofs.Common.{◌≡◌, ◌∙◌, ℕ, ◌+◌, true, false, cond, List, [], ◌∷◌, ◌++◌, map, take, drop, Option, None, Some, Ok, Err, refl, sym, ap, append_assoc, append-nil, IfOk}
+use Rattle.jc_script.proofs.Common.{◌≡◌, ◌∙◌, ℕ, ◌+◌, true, false, cond, List, [], ◌∷◌, ◌++◌, map, take, drop, Option, None, Some, Ok, Err, refl, sym, ap, append_assoc, append-nil, IfOk, map-append, All-nil, All-cons, All-head, All-tail, All-same, Bytes, RepeatedKey, IsPair, AreDistinctPairs, pair_text}
 use Rattle.std.specs.List.{All, IsDistinct}
-use Rattle.std.proofs.lemmas.List.{map-append}
-use Rattle.std.proofs.lemmas.List.Elements.{All-nil, All-cons, All-head, All-tail, All-same}
-use Rattle.jc_model.specs.Cache.{Bytes}
-use Rattle.jc_script.specs.declared.fault.Fault.TheVariants.{RepeatedKey}
 use Rattle.jc_script.specs.Words.{◌>>=◌, key_of, value_of, Pairs, equals_at, key_part, value_part, names_key, distinct_pair_onto, distinct_pairs_from, distinct_pairs_of}
-use Rattle.jc_script.specs.Spelled.{IsPair, AreDistinctPairs, pair_text}
 use Rattle.jc_script.proofs.AreKeyWords.{same, fresh, one_more}
 use Rattle.jc_script.proofs.Given.{ok_bind, ok_then, ok_since, ok_weaker}
 use Rattle.jc_script.proofs.ReadWords.{SaysKey, key_read, SaysValue, value_read, SaysPair, pair_spelled}

@@ -1,17 +1,8 @@
 -- Keys, each once: those that are spelled read back, and those that are read are spelled so.
-use Rattle.std.proofs.Common.{◌≡◌, ◌∙◌, ◌==◌, ◌||◌, ℕ, Bool, true, false, List, [], ◌∷◌, ◌++◌, Ok, Err, refl, sym, ap, append_assoc, IfOk}
+use Rattle.jc_script.proofs.Common.{◌≡◌, ◌∙◌, ◌==◌, ◌||◌, ℕ, Bool, true, false, List, [], ◌∷◌, ◌++◌, Ok, Err, refl, sym, ap, append_assoc, IfOk, pointwise, and_from, cond-true, or_parts, nat_list_eq_equiv, All-nil, All-cons, All-head, All-tail, KEY_MAX, Bytes, is_among, BadKey, RepeatedKey, IsKey, AreKeyWords}
 use Rattle.std.specs.List.{All, AllByRecursion, IsDistinct, list_any}
-use Rattle.std.specs.Cmp.Lexicographic.{pointwise}
-use Rattle.std.proofs.lemmas.Bool.{and_from, cond-true}
-use Rattle.std.proofs.lemmas.Cmp.{nat_list_eq_equiv}
 use Rattle.std.proofs.lemmas.List.{append-nil}
-use Rattle.std.proofs.lemmas.List.Elements.{All-nil, All-cons, All-head, All-tail}
-use Rattle.jc_types.specs.declared.limits.TheConstants.{KEY_MAX}
-use Rattle.jc_model.specs.Cache.{Bytes}
-use Rattle.jc_model.specs.Batches.{is_among}
-use Rattle.jc_script.specs.declared.fault.Fault.TheVariants.{BadKey, RepeatedKey}
 use Rattle.jc_script.specs.Words.{is_text, key_of, key_onto, keys_from, distinct_keys_of}
-use Rattle.jc_script.specs.Spelled.{IsKey, AreKeyWords}
 use Rattle.jc_script.proofs.Given.{ok_then, ok_since, ok_weaker}
 use Rattle.jc_script.proofs.ReadWords.{SaysKey, key_read}
 use Rattle.jc_script.proofs.SpelledWords.{AreWords, text_word}
@@ -32,10 +23,6 @@ fresh [] rest key d = refl
 fresh (b ∷ before) rest key d =
     ap (λ t. t || list_any (same key) before) (nat_list_eq_equiv.symm key b ∙ apart before rest key b d.0) ∙ fresh before rest key d.1
 
-neither : (a b : Bool) → (a || b) ≡ false → (a ≡ false) × (b ≡ false)
-neither true b e = absurd cc
-neither false b e = (refl, e)
-
 at_end : (P : Bytes → Type 0) (before : List Bytes) (key : Bytes) → AllByRecursion P before → P key → AllByRecursion P (before ++ (key ∷ []))
 at_end P [] key all p = (p, tt)
 at_end P (b ∷ before) key all p = (all.0, at_end P before key all.1 p)
@@ -45,7 +32,7 @@ pub one_more : (before : List Bytes) (key : Bytes) → IsDistinct same before �
 unfolding IsDistinct
 one_more [] key d e = (tt, tt)
 one_more (b ∷ before) key d e =
-    let both = neither (same key b) (list_any (same key) before) e in
+    let both = or_parts (same key b) (list_any (same key) before) e in
     (at_end (λ y. same b y ≡ false) before key d.0 (nat_list_eq_equiv.symm b key ∙ both.0), one_more before key d.1 both.1)
 
 -- 2. Keys that are spelled.

@@ -1,13 +1,6 @@
 -- What is read may be begun: a call's operation is a call by itself, and its session is one of the 32.
-use Rattle.std.proofs.Common.{◌≡◌, ℕ, List, true, Option, None, Some, refl, IfOk, IfSome}
-use Rattle.std.proofs.lemmas.Bool.{and_from}
-use Rattle.jc_model.specs.declared.event.Op.{Op}
+use Rattle.jc_script.proofs.Common.{◌≡◌, ℕ, List, true, Option, None, Some, refl, IfOk, IfSome, and_from, Op, is_single, Line, Begin, BeginBulk, read_line, is_callable, IsOperation, SaysWords}
 use Rattle.jc_model.specs.declared.event.Op.TheVariants as op
-use Rattle.jc_world.specs.Fits.{is_single}
-use Rattle.jc_script.specs.declared.line.Line.{Line}
-use Rattle.jc_script.specs.declared.line.Line.TheVariants.{Begin, BeginBulk}
-use Rattle.jc_script.specs.Lines.{read_line, is_callable}
-use Rattle.jc_script.specs.Spelled.{IsOperation, SaysWords}
 use Rattle.jc_script.proofs.Given.{ok_weaker}
 use Rattle.jc_script.proofs.ReadLines.{SaysText, text_read}
 

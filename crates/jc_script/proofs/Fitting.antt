@@ -1,30 +1,10 @@
 -- The events of a line about a call under way fit, if it is the time for it.
-use Rattle.std.proofs.Common.{◌≡◌, ◌==◌, ◌∙◌, ◌&&◌, ◌||◌, ◌++◌, ◌+◌, ◌<◌, ℕ, Bool, true, false, not, List, [], ◌∷◌, Option, None, Some, find, is_none, is_some, length, filter, get_or, map, option_to_list, take, cond, refl, sym, ap, subst, append-nil, arith, zero, suc, inl, inr}
+use Rattle.jc_script.proofs.Common.{◌≡◌, ◌==◌, ◌∙◌, ◌&&◌, ◌||◌, ◌++◌, ◌+◌, ◌<◌, ℕ, Bool, true, false, not, List, [], ◌∷◌, Option, None, Some, find, is_none, is_some, length, filter, get_or, map, option_to_list, take, cond, refl, sym, ap, subst, append-nil, arith, zero, suc, inl, inr, pointwise, and_from, and_parts, or_parts, nat_eq_equiv, nat_list_eq_equiv, map-append, take_more, filter-append, is_among, Bytes, is_load_given, Part, CallState, op_at, open_keys, WorldState, is_joined, open_call, part_of, fits, is_asked, is_free, may_change, may_report, may_start, AllFit, is_fit, Shown, Config, at_call, key_at, looks, FitTogether, Act, Read, ReadFail, Say, Apply, ApplyFail, ApplyLie, End, Drop, More, Take, Process, said_after, event_at, events_of_act, is_meant, is_started, is_time, key_events, keys_of_act, leaves, left_keys}
 use Rattle.std.specs.List.{AllByRecursion, IsDistinct, list_all, list_any}
-use Rattle.std.specs.Cmp.Lexicographic.{pointwise}
-use Rattle.std.proofs.lemmas.Bool.{and_from, and_parts}
-use Rattle.std.proofs.lemmas.Cmp.{nat_eq_equiv, nat_list_eq_equiv}
-use Rattle.std.proofs.lemmas.List.{map-append, take_more}
-use Rattle.std.proofs.lemmas.List.Elements.{filter-append}
 use Rattle.std.proofs.lemmas.Map.Keys.{apart_from_distinct, IsDistinct-cons, IsDistinct-head, IsDistinct-tail}
 use Rattle.jc_model.specs.declared.event.LoadAnswer.{LoadAnswer}
 use Rattle.jc_model.specs.declared.event.LoadAnswer.TheVariants.{Found, Nothing}
-use Rattle.jc_model.specs.Batches.{is_among}
-use Rattle.jc_model.specs.Cache.{Bytes}
-use Rattle.jc_model.specs.Table.{is_load_given}
-use Rattle.jc_world.specs.declared.event.Part.{Part}
-use Rattle.jc_world.specs.Calls.{CallState, op_at, open_keys}
 use Rattle.jc_world.specs.declared.event.WorldEvent.TheVariants as event
-use Rattle.jc_world.specs.World.{WorldState, is_joined, open_call, part_of}
-use Rattle.jc_world.specs.Fits.{fits, is_asked, is_free, may_change, may_report, may_start}
-use Rattle.jc_world.specs.Events.{AllFit, is_fit}
-use Rattle.jc_world.specs.declared.event.Shown.{Shown}
-use Rattle.jc_types.specs.declared.config.Config.{Config}
-use Rattle.jc_world.specs.Together.{at_call, key_at, looks, FitTogether}
-use Rattle.jc_script.specs.declared.line.Act.{Act}
-use Rattle.jc_script.specs.declared.line.Act.TheVariants.{Read, ReadFail, Say, Apply, ApplyFail, ApplyLie, End, Drop, More, Take, Process}
-use Rattle.jc_script.specs.Words.{said_after}
-use Rattle.jc_script.specs.LineEvents.{event_at, events_of_act, is_meant, is_started, is_time, key_events, keys_of_act, leaves, left_keys}
 
 -- ---- a call under way
 
@@ -97,15 +77,11 @@ all_from_more : (q : Bytes → Bool) (r : Bytes → Bool) (keys : List Bytes) �
 all_from_more q r [] h all = refl
 all_from_more q r (key ∷ keys) h all = let parts = and_parts (q key) (list_all q keys) all in and_from _ _ (h key parts.0) (all_from_more q r keys h parts.1)
 
-or_false : (a b : Bool) → (a || b) ≡ false → (a ≡ false) × (b ≡ false)
-or_false true b e = cc
-or_false false b e = (refl, e)
-
 -- of a call without a join each open key is reserved, or free
 reserved_or_free : (w : WorldState) (call : ℕ) (keys : List Bytes) → list_any (is_joined w call) keys ≡ false → list_all (λ key. is_among (filter (is_started w call) keys) key || is_free w call key) keys ≡ true
 reserved_or_free w call [] free = refl
 reserved_or_free w call (key ∷ keys) free =
-    let alone = or_false (is_joined w call key) (list_any (is_joined w call) keys) free in
+    let alone = or_parts (is_joined w call key) (list_any (is_joined w call) keys) free in
     let rest = reserved_or_free w call keys alone.1 in
     elim (is_started w call key) as (λ b. is_started w call key ≡ b → list_all (λ k. is_among (cond b (key ∷ filter (is_started w call) keys) (filter (is_started w call) keys)) k || is_free w call k) (key ∷ keys) ≡ true) [
       | true ↦ λ e. and_from _ _ (ap (λ b. (b || is_among (filter (is_started w call) keys) key) || is_free w call key) (nat_list_eq_equiv.refl key))
@@ -152,7 +128,7 @@ left_before p keys i key differ lt is = kept (take i keys) (not_before keys i ke
     kept : (ks : List Bytes) → is_among ks key ≡ false → is_among (filter p ks) key ≡ false
     kept [] h = h
     kept (k ∷ ks) h =
-        let parts = or_false (pointwise ◌==◌ key k) (is_among ks key) h in
+        let parts = or_parts (pointwise ◌==◌ key k) (is_among ks key) h in
         elim (p k) as (λ b. is_among (cond b (k ∷ filter p ks) (filter p ks)) key ≡ false) [
           | true ↦ ap (λ b. b || is_among (filter p ks) key) parts.0 ∙ kept ks parts.1
           | false ↦ kept ks parts.1

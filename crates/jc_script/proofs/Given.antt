@@ -1,9 +1,5 @@
 -- What holds of a value that steps which may fail give at all.
-use Rattle.std.proofs.Common.{◌≡◌, ℕ, List, Bool, true, false, cond, Result, Ok, Err, refl, IfOk}
-use Rattle.std.specs.Str.{bytes_eq}
-use Rattle.std.proofs.lemmas.Slice.Eq.{bytes_eq-Decides}
-use Rattle.jc_script.specs.declared.fault.Fault.{Fault}
-use Rattle.jc_script.specs.Words.{◌>>=◌}
+use Rattle.jc_script.proofs.Common.{◌≡◌, ℕ, List, Bool, true, false, cond, Result, Ok, Err, refl, IfOk, bytes_eq, bytes_eq-Decides, Fault, ◌>>=◌}
 
 -- continues through a step that may fail
 pub ok_bind : {A B : Type 0} (r : Result A Fault) (f : A → Result B Fault) (P : B → Type 0) → ((x : A) → IfOk (f x) P) → IfOk (r >>= f) P

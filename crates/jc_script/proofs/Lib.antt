@@ -1,3 +1,4 @@
+pub mod Common
 pub mod Texts
 pub mod Pieces
 pub mod Spelling
@@ -18,3 +19,4 @@ pub mod SingleCalls
 pub mod ReachedWorlds
 pub mod PrintedMemory
 pub mod OneTranscript
+pub mod CallerLemmas

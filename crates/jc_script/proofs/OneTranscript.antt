@@ -5,42 +5,17 @@
 --                        two ways to play the line have printed the same and leave the same world
 --     transcript_same    and so have two ways to play a script
 --     printed_same, runs_same     so have two transcripts, and two runs, if what they print tells nothing of memory
-use Rattle.std.proofs.Common.{◌≡◌, ◌∙◌, ◌+◌, ◌++◌, ◌&&◌, ℕ, Bool, true, false, not, if◌then◌else◌, List, [], ◌∷◌, Option, None, Some, Result, Ok, Err, is_some, refl, sym, ap, subst, inl, inr, append-nil, true≢false}
-use Rattle.std.specs.FinMap.{entries}
-use Rattle.std.proofs.lemmas.Bool.{and_parts}
-use Rattle.std.proofs.lemmas.List.Folds.{list_all-append}
+use Rattle.jc_script.proofs.Common.{◌≡◌, ◌∙◌, ◌+◌, ◌++◌, ◌&&◌, ℕ, Bool, true, false, not, if◌then◌else◌, List, [], ◌∷◌, Option, None, Some, Result, Ok, Err, is_some, refl, sym, ap, subst, inl, inr, append-nil, true≢false, entries, and_parts, list_all-append, Bytes, Cache, CallState, SweepState, Task, at_each, put_each_of, new_call, Command, Shown, WorldEvent, RunsAreDetermined, has_memory, have_memory, Run, Step, with_call, shown_begun, fits, is_new, is_playable, is_session, looks, looks_of, opening_events, WorldState, is_busy, open_call, Fault, Act, BulkLine, Line, Open, Set, Begin, BeginBulk, OfCall, Foreign, Reopen, Audit, RunEnd, PrintedMemoryDetermines, RunsWriteTheSame, shown_at_begin, shown_by_act, shown_by_one, shown_by_line, shown_by_read, shown_in, bulk_call, events_of_act, keys_of_act, load_code, single, start_events, read_line, audit_text, event_text, fails_text, fault_line, texts, IsTranscript, pieces_of, Audited, EndsScript, OpenedWorld, Plays, PlaysAct, PlaysBegin, PlaysOne, PlaysRead, Transcript, fault_read}
 use Rattle.jc_model.specs.declared.event.Op.TheVariants as op
-use Rattle.jc_model.specs.Cache.{Bytes, Cache}
 use Rattle.jc_model.proofs.CallerLemmas.{same_cache}
 use Rattle.jc_world.specs.Audit.{differing}
-use Rattle.jc_world.specs.Calls.{CallState, SweepState, Task, at_each, put_each_of, new_call}
 use Rattle.jc_world.specs.declared.command.CallKind.{CallKind}
 use Rattle.jc_world.specs.declared.command.CallKind.TheVariants as kind
-use Rattle.jc_world.specs.declared.command.Command.{Command}
 use Rattle.jc_world.specs.declared.command.Command.TheVariants as command
-use Rattle.jc_world.specs.declared.event.Shown.{Shown}
-use Rattle.jc_world.specs.declared.event.WorldEvent.{WorldEvent}
 use Rattle.jc_world.specs.declared.event.WorldEvent.TheVariants as event
-use Rattle.jc_world.specs.Determinism.{RunsAreDetermined, has_memory, have_memory}
-use Rattle.jc_world.specs.Events.{Run, Step, with_call, shown_begun}
-use Rattle.jc_world.specs.Fits.{fits, is_new, is_playable}
-use Rattle.jc_types.specs.Limits.{is_session}
-use Rattle.jc_world.specs.Together.{looks, looks_of, opening_events}
-use Rattle.jc_world.specs.World.{WorldState, is_busy, open_call}
-use Rattle.jc_script.specs.declared.fault.Fault.{Fault}
-use Rattle.jc_script.specs.declared.line.Act.{Act}
-use Rattle.jc_script.specs.declared.line.BulkCall.{BulkCall}
-use Rattle.jc_script.specs.declared.line.BulkCall.TheVariants as bulk
-use Rattle.jc_script.specs.declared.line.Line.{Line}
-use Rattle.jc_script.specs.declared.line.Line.TheVariants.{Open, Set, Begin, BeginBulk, OfCall, Foreign, Reopen, Audit}
-use Rattle.jc_script.specs.declared.run.RunEnd.{RunEnd}
-use Rattle.jc_script.specs.Determinism.{PrintedMemoryDetermines, RunsWriteTheSame, shown_at_begin, shown_by_act, shown_by_one, shown_by_line, shown_by_read, shown_in}
-use Rattle.jc_script.specs.LineEvents.{bulk_call, events_of_act, keys_of_act, load_code, single, start_events}
-use Rattle.jc_script.specs.Lines.{read_line}
-use Rattle.jc_script.specs.Printing.{audit_text, event_text, fails_text, fault_line, texts}
+use Rattle.jc_script.specs.declared.read.line.BulkLine.TheVariants as bulk
 use Rattle.jc_script.proofs.PrintedMemory.{none_lack}
 use Rattle.jc_script.specs.Running.{ReadsAll}
-use Rattle.jc_script.specs.Transcript.{IsTranscript, pieces_of, Audited, EndsScript, OpenedWorld, Plays, PlaysAct, PlaysBegin, PlaysOne, PlaysRead, Transcript, fault_read}
 
 -- 1. Events.
 
@@ -108,7 +83,7 @@ made number session how tasks sweep =
     record { caller = record { session = session; call = number }; kind = how; tasks = tasks; sweep = sweep; cause = None }
 
 -- no line of a bulk call stands for a command on one key
-abbrev call_of : ℕ → ℕ → Option BulkCall → CallState
+abbrev call_of : ℕ → ℕ → Option BulkLine → CallState
 call_of number session None = made number session kind.Single [] None
 call_of number session (Some (bulk.GetAll keys)) = made number session kind.Batch (at_each op.Get keys) None
 call_of number session (Some (bulk.PutAll pairs)) = made number session kind.Batch (put_each_of pairs) None
@@ -120,21 +95,15 @@ call_of number session (Some (bulk.InvokeAll keys)) = made number session kind.I
 
 is_call_of : (number session : ℕ) (c : Command) → is_some (bulk_call c) ≡ true → (new_call number session c ≡ call_of number session (bulk_call c)) × (is_playable c ≡ true)
 is_call_of number session (command.Single o key) h = absurd (true≢false (sym h))
-is_call_of number session (command.GetAll keys) h = (refl, refl)
-is_call_of number session (command.PutAll pairs) h = (refl, refl)
-is_call_of number session (command.RemoveAll keys) h = (refl, refl)
-is_call_of number session command.RemoveEvery h = (refl, refl)
-is_call_of number session command.Clear h = (refl, refl)
-is_call_of number session (command.LoadAll replace keys) h = (refl, refl)
-is_call_of number session (command.InvokeAll keys) h = (refl, refl)
+is_call_of number session c h = (refl, refl)
 
-call_is : (number session : ℕ) (c : Command) (call : BulkCall) → bulk_call c ≡ Some call → (new_call number session c ≡ call_of number session (Some call)) × (is_playable c ≡ true)
+call_is : (number session : ℕ) (c : Command) (call : BulkLine) → bulk_call c ≡ Some call → (new_call number session c ≡ call_of number session (Some call)) × (is_playable c ≡ true)
 call_is number session c call named =
     let there : is_some (bulk_call c) ≡ true = ap is_some named in
     let same = is_call_of number session c there in
     (same.0 ∙ ap (call_of number session) named, same.1)
 
-bulk_same : RunsAreDetermined → (w : WorldState) (number session : ℕ) (call : BulkCall) (c d : Command) (x y : List ℕ) (n m : OpenedWorld)
+bulk_same : RunsAreDetermined → (w : WorldState) (number session : ℕ) (call : BulkLine) (c d : Command) (x y : List ℕ) (n m : OpenedWorld)
     → bulk_call c ≡ Some call → bulk_call d ≡ Some call
     → (a : PlaysBegin w number session c x n) (b : PlaysBegin w number session d y m)
     → have_memory (shown_at_begin w number session c x n a) ≡ true → have_memory (shown_at_begin w number session d y m b) ≡ true

@@ -1,19 +1,7 @@
 -- A script's pieces, from its first line feed on.
-use Rattle.std.proofs.Common.{◌≡◌, ◌==◌, ℕ, ◌+◌, ◌<◌, ◌≤◌, Bool, true, false, cond, not, ltb, List, [], ◌∷◌, ◌++◌, length, take, drop, Option, None, Some, inl, inr, refl, sym, ap, ◌∙◌, arith, append_assoc, get_or}
+use Rattle.jc_script.proofs.Common.{◌≡◌, ◌==◌, ℕ, ◌+◌, ◌<◌, ◌≤◌, Bool, true, false, cond, not, ltb, List, [], ◌∷◌, ◌++◌, length, take, drop, Option, None, Some, inl, inr, refl, sym, ap, ◌∙◌, arith, append_assoc, get_or, ltb-true, ltb-false, le-ltb, lt-ltb, length-append, slice_split_first, position_or_len_is, onto_first, position, position_or_len, pieces_of, OpenedWorld, Prints, Transcript, IsTranscript, fault_of, Fault, RunEnd, Clean, LineFault, fault_line, Explains, complaint, Appends}
 use Rattle.std.proofs.lemmas.Option.{cond_some}
-use Rattle.std.proofs.lemmas.Bool.{ltb-true, ltb-false, le-ltb, lt-ltb}
-use Rattle.std.proofs.lemmas.List.{length-append}
-use Rattle.std.proofs.lemmas.List.Splits.{slice_split_first}
-use Rattle.std.proofs.lemmas.List.Sums.{position_or_len_is}
 use Rattle.memchr.specs.Find.{IsFirstByte}
-use Rattle.std.specs.List.{onto_first, position, position_or_len}
-use Rattle.jc_script.specs.Transcript.{pieces_of, OpenedWorld, Prints, Transcript, IsTranscript, fault_of}
-use Rattle.jc_script.specs.declared.fault.Fault.{Fault}
-use Rattle.jc_script.specs.declared.run.RunEnd.{RunEnd}
-use Rattle.jc_script.specs.declared.run.RunEnd.TheVariants.{Clean, LineFault}
-use Rattle.jc_script.specs.Printing.{fault_line}
-use Rattle.jc_script.specs.Places.{Explains, complaint}
-use Rattle.std.specs.Io.KnownBytes.{Appends}
 
 -- a test that isn't passed fails
 fails : (b : Bool) → ¬ (b ≡ true) → b ≡ false

@@ -2,37 +2,14 @@
 --     before_it, behind_it    a text with such a line before or behind another has it
 --     event_tells             an event that shows such an eviction prints it
 --     transcript_tells        and so does a transcript
-use Rattle.std.proofs.Common.{◌≡◌, ◌∙◌, ◌+◌, ◌++◌, ◌&&◌, ℕ, Bool, true, false, cond, List, [], ◌∷◌, Option, None, Some, Result, Ok, Err, refl, sym, ap, subst, inl, inr, append_assoc, append-nil, true≢false}
-use Rattle.std.specs.Prelude.{◌⊎◌, codes}
-use Rattle.std.proofs.lemmas.List.Folds.{list_all-append}
+use Rattle.jc_script.proofs.Common.{◌≡◌, ◌∙◌, ◌+◌, ◌++◌, ◌&&◌, ℕ, Bool, true, false, cond, List, [], ◌∷◌, Option, None, Some, Result, Ok, Err, refl, sym, ap, subst, inl, inr, append_assoc, append-nil, true≢false, ◌⊎◌, codes, list_all-append, Bytes, CallState, has_too_many_keys, new_call, over_of, TooManyKeys, Command, Outcome, Shown, WorldEvent, LoadSource, cause_has_memory, eviction_has_memory, has_memory, have_memory, Happens, Run, Step, not_over, shown_begun, opening_events, WorldState, open_call, Fault, Act, Line, Open, Set, Begin, BeginBulk, OfCall, Foreign, Reopen, Audit, RunEnd, TellsOfMemory, shown_at_begin, shown_by_act, shown_by_one, shown_by_line, shown_by_read, shown_in, events_of_act, keys_of_act, load_code, single, start_events, read_line, OpenedWorld, Plays, PlaysAct, PlaysBegin, PlaysOne, PlaysRead, Transcript}
 use Rattle.jc_model.specs.declared.event.Cause.{Cause}
 use Rattle.jc_model.specs.declared.event.Cause.TheVariants.{Full, Memory}
-use Rattle.jc_model.specs.Cache.{Bytes}
 use Rattle.jc_stripe.specs.declared.begun.Eviction.{Eviction}
-use Rattle.jc_world.specs.Calls.{CallState, has_too_many_keys, new_call, over_of}
-use Rattle.jc_types.specs.declared.refusal.Refusal.TheVariants.{TooManyKeys}
-use Rattle.jc_world.specs.declared.command.Command.{Command}
-use Rattle.jc_world.specs.declared.event.Outcome.{Outcome}
 use Rattle.jc_world.specs.declared.event.Outcome.TheVariants as outcome
-use Rattle.jc_world.specs.declared.event.Shown.{Shown}
 use Rattle.jc_world.specs.declared.event.Stepped.{Stepped}
-use Rattle.jc_world.specs.declared.event.WorldEvent.{WorldEvent}
 use Rattle.jc_world.specs.declared.event.WorldEvent.TheVariants as event
-use Rattle.jc_world.specs.declared.process.LoadSource.{LoadSource}
-use Rattle.jc_world.specs.Determinism.{cause_has_memory, eviction_has_memory, has_memory, have_memory}
-use Rattle.jc_world.specs.Events.{Happens, Run, Step, not_over, shown_begun}
-use Rattle.jc_world.specs.Together.{opening_events}
-use Rattle.jc_world.specs.World.{WorldState, open_call}
-use Rattle.jc_script.specs.declared.fault.Fault.{Fault}
-use Rattle.jc_script.specs.declared.line.Act.{Act}
-use Rattle.jc_script.specs.declared.line.Line.{Line}
-use Rattle.jc_script.specs.declared.line.Line.TheVariants.{Open, Set, Begin, BeginBulk, OfCall, Foreign, Reopen, Audit}
-use Rattle.jc_script.specs.declared.run.RunEnd.{RunEnd}
-use Rattle.jc_script.specs.Determinism.{TellsOfMemory, shown_at_begin, shown_by_act, shown_by_one, shown_by_line, shown_by_read, shown_in}
-use Rattle.jc_script.specs.LineEvents.{events_of_act, keys_of_act, load_code, single, start_events}
-use Rattle.jc_script.specs.Lines.{read_line}
 use Rattle.jc_script.specs.Printing.{end_text, event_text, evict_line, evicted_text, fails_text, outcome_text, process_text, shown_text, stepped_text, texts, told, victim_text}
-use Rattle.jc_script.specs.Transcript.{OpenedWorld, Plays, PlaysAct, PlaysBegin, PlaysOne, PlaysRead, Transcript}
 
 -- 1. Texts.
 

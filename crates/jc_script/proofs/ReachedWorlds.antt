@@ -10,49 +10,19 @@
 --     no_event, some_events     a line that makes no event leads on, and so does one that makes some
 --     piece_stays     each line without a fault leads on, by its bytes
 --     script_stays    and so do the lines of a script, one after another
-use Rattle.std.proofs.Common.{arith, ◌+◌, ◌≡◌, ◌∙◌, option_map, ◌++◌, ◌&&◌, ℕ, Bool, true, false, cond, List, [], ◌∷◌, Option, None, Some, Result, Ok, Err, is_some, find, refl, sym, ap, subst, subst₂, inl, inr, append_assoc, append-nil, true≢false}
+use Rattle.jc_script.proofs.Common.{arith, ◌+◌, ◌≡◌, ◌∙◌, option_map, ◌++◌, ◌&&◌, ℕ, Bool, true, false, cond, List, [], ◌∷◌, Option, None, Some, Result, Ok, Err, is_some, find, refl, sym, ap, subst, subst₂, inl, inr, append_assoc, append-nil, true≢false, and_from, list_all-append, empty, get, get-empty, Config, BadConfig, WriterFailed, check, is_between, STRIPES_MAX, CAPACITY_MAX, HISTORY_MIN, HISTORY_MAX, Op, Bytes, key_cmp, is_load_given, Outcome, Part, Shown, WorldEvent, CallState, has_number, after_report, after_reports, keys_reported, reported_now, with_met_by, reported_at, all_fit, is_fit, Ends, Happens, Picks, Run, Starts, fits, may_change, may_leave, may_look, may_report, may_start, opening_events, WorldState, join_cmp, start, has_progress, of_call, open_call, part_of, waits_for_load, waits_for_process, waits_for_report, is_answered, is_untouched, with_stored, Command, Fault, SetTooLate, Act, events_of_act, keys_of_act, load_code, single, start_events, Line, Open, Set, Begin, BeginBulk, OfCall, Foreign, Reopen, Audit, read_line, event_text, fails_text, texts, RunEnd, OpenedWorld, Plays, PlaysAct, PlaysBegin, PlaysOne, PlaysRead, Prints, Transcript}
 use Rattle.std.proofs.Math.Bool.{and-false}
-use Rattle.std.proofs.lemmas.Bool.{and_from}
-use Rattle.std.proofs.lemmas.List.Folds.{list_all-append}
-use Rattle.std.specs.FinMap.{empty, get, get-empty}
 use Rattle.jc_types.specs.declared.caller.Caller.{Caller}
-use Rattle.jc_types.specs.declared.config.Config.{Config}
 use Rattle.jc_types.specs.declared.config.Field.TheVariants.{Stripes, Capacity, History}
-use Rattle.jc_types.specs.declared.refusal.Refusal.TheVariants.{BadConfig, WriterFailed}
-use Rattle.jc_types.specs.Limits.{check, is_between}
-use Rattle.jc_types.specs.declared.limits.TheConstants.{STRIPES_MAX, CAPACITY_MAX, HISTORY_MIN, HISTORY_MAX}
-use Rattle.jc_model.specs.declared.event.Op.{Op}
 use Rattle.jc_model.specs.declared.event.WriteAnswer.{WriteAnswer}
-use Rattle.jc_model.specs.Cache.{Bytes, key_cmp}
-use Rattle.jc_model.specs.Table.{is_load_given}
 use Rattle.jc_stripe.specs.State.{State}
 use Rattle.jc_stripe.specs.Tickets.{JoinClaim}
-use Rattle.jc_world.specs.declared.event.Outcome.{Outcome}
 use Rattle.jc_world.specs.declared.event.Outcome.TheVariants as outcome
-use Rattle.jc_world.specs.declared.event.Part.{Part}
-use Rattle.jc_world.specs.declared.event.Shown.{Shown}
-use Rattle.jc_world.specs.declared.event.WorldEvent.{WorldEvent}
 use Rattle.jc_world.specs.declared.event.WorldEvent.TheVariants as event
-use Rattle.jc_world.specs.Calls.{CallState, has_number}
-use Rattle.jc_world.specs.Events.{after_report, after_reports, keys_reported, reported_now, with_met_by, reported_at, all_fit, is_fit, Ends, Happens, Picks, Run, Starts}
-use Rattle.jc_world.specs.Fits.{fits, may_change, may_leave, may_look, may_report, may_start}
 use Rattle.jc_world.specs.Headline.{start_with, Reaches, StartsOpen}
 use Rattle.jc_world.specs.Premises.{report_for}
-use Rattle.jc_world.specs.Together.{opening_events}
-use Rattle.jc_world.specs.World.{WorldState, join_cmp, start, has_progress, of_call, open_call, part_of, waits_for_load, waits_for_process, waits_for_report, is_answered, is_untouched, with_stored}
-use Rattle.jc_world.specs.declared.command.Command.{Command}
-use Rattle.jc_script.specs.declared.fault.Fault.{Fault}
-use Rattle.jc_script.specs.declared.fault.Fault.TheVariants.{SetTooLate}
-use Rattle.jc_script.specs.declared.line.Act.{Act}
-use Rattle.jc_script.specs.LineEvents.{events_of_act, keys_of_act, load_code, single, start_events}
-use Rattle.jc_script.specs.declared.line.Line.{Line}
-use Rattle.jc_script.specs.declared.line.Line.TheVariants.{Open, Set, Begin, BeginBulk, OfCall, Foreign, Reopen, Audit}
 use Rattle.jc_script.specs.Faults.{config_fault, state_fault}
-use Rattle.jc_script.specs.Lines.{read_line}
-use Rattle.jc_script.specs.Printing.{event_text, fails_text, texts}
 use Rattle.jc_script.specs.ReachedWorlds.{EndsAt, IsBeside, IsReachedBy, LeadsOn, LeadsToEnd}
-use Rattle.jc_script.specs.declared.run.RunEnd.{RunEnd}
-use Rattle.jc_script.specs.Transcript.{OpenedWorld, Plays, PlaysAct, PlaysBegin, PlaysOne, PlaysRead, Prints, Transcript}
 
 -- 1. Runs one after another.
 
@@ -160,9 +130,6 @@ none_part : (w : WorldState) (call : ℕ) (key : Bytes) → IsIdle w → part_of
 none_part w call key idle = ap (λ parts. of_call call (get parts key)) idle.parts ∙ ap (of_call call) (get-empty key_cmp key)
 
 idle_unfit : (w : WorldState) → IsIdle w → (e : WorldEvent) → is_mark e ≡ false → fits w e ≡ false
-idle_unfit w idle (event.Call call session command) other = cc
-idle_unfit w idle (event.Foreign key value) other = cc
-idle_unfit w idle (event.Reopen config) other = cc
 idle_unfit w idle (event.Look call stripe) other = ap (may_look w.config.stripes stripe) (none_open w call idle)
 idle_unfit w idle (event.Start call key) other = ap (may_start w call key) (none_open w call idle)
 idle_unfit w idle (event.Read call key) other = ap (has_progress waits_for_load) (none_part w call key idle)
@@ -174,6 +141,7 @@ idle_unfit w idle (event.Commit call key) other = ap (has_progress is_answered) 
 idle_unfit w idle (event.Withdraw call key) other = ap (has_progress is_untouched) (none_part w call key idle)
 idle_unfit w idle (event.Leave call) other = ap (may_leave w call) (none_open w call idle)
 idle_unfit w idle (event.PickUp call key) other = ap (λ joins. is_some (get joins (call, key))) idle.joins ∙ ap is_some (get-empty join_cmp (call, key))
+idle_unfit w idle e other = cc
 
 -- so no world is fresh after the first event that fits
 first_marks : (w new : WorldState) (e : WorldEvent) (seen : Shown) → IsIdle w → fits w e ≡ true → Happens w e seen new → fresh new ≡ false

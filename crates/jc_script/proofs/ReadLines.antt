@@ -1,37 +1,15 @@
 -- Lines that are read are spelled as what they ask for.
-use Rattle.std.proofs.Common.{◌≡◌, ◌++◌, ◌∙◌, ◌==◌, ℕ, ◌≤◌, Bool, true, false, not, cond, List, [], ◌∷◌, length, Option, None, Some, Result, Ok, Err, refl, sym, ap, subst, arith, IfOk, IfSome}
-use Rattle.std.specs.Prelude.{decimal, codes, nat_lt, nat_le, ◌&&◌, ◌||◌}
-use Rattle.std.specs.List.{list_all, join_with_byte}
-use Rattle.std.specs.Str.{bytes_eq}
-use Rattle.std.proofs.lemmas.Bool.{ltb-true, leb-true, ltb-false, and_parts}
-use Rattle.std.proofs.lemmas.Slice.Eq.{bytes_eq-Decides}
-use Rattle.std.proofs.lemmas.List.{length-map}
-use Rattle.std.proofs.lemmas.Grind.{common_steps}
-use Rattle.std.proofs.lemmas.List.Splits.{join_with_byte-slice_split}
-use Rattle.jc_model.specs.Cache.{Bytes}
-use Rattle.jc_types.specs.declared.config.Config.{Config}
-use Rattle.jc_script.specs.declared.line.Operation.{Operation}
-use Rattle.jc_script.specs.declared.fault.Fault.{Fault}
-use Rattle.jc_script.specs.declared.fault.Fault.TheVariants.{LineTooLong, BadByte, BadLine}
-use Rattle.jc_script.specs.declared.line.Line.{Line}
-use Rattle.jc_script.specs.declared.line.BulkCall.{BulkCall}
-use Rattle.jc_script.specs.declared.commands.Bare.{Bare}
-use Rattle.jc_script.specs.declared.commands.Bare.TheVariants as bare
-use Rattle.jc_script.specs.declared.commands.Valued.{Valued}
-use Rattle.jc_script.specs.declared.commands.Valued.TheVariants as valued
-use Rattle.jc_script.specs.declared.commands.BulkName.{BulkName}
-use Rattle.jc_script.specs.declared.commands.BulkName.TheVariants as name
-use Rattle.jc_script.specs.declared.commands.Form.{Form}
-use Rattle.jc_script.specs.declared.commands.Form.TheVariants as form
-use Rattle.jc_script.specs.declared.line.Act.{Act}
-use Rattle.jc_script.specs.declared.line.Act.TheVariants.{Read, ReadFail, ApplyLie, End, Drop, More, Take}
-use Rattle.jc_script.specs.declared.line.BulkCall.TheVariants as bulk
-use Rattle.jc_model.specs.declared.event.Op.{Op}
-use Rattle.jc_script.specs.Printing.{value_text}
-use Rattle.jc_script.specs.Words.{words_of, number_of, caller_of, key_of, value_of, value_or_none_of, pairs_of, distinct_pairs_of, distinct_keys_of}
+use Rattle.jc_script.proofs.Common.{◌≡◌, ◌++◌, ◌∙◌, ◌==◌, ℕ, ◌≤◌, Bool, true, false, not, cond, List, [], ◌∷◌, length, Option, None, Some, Result, Ok, Err, refl, sym, ap, subst, arith, IfOk, IfSome, decimal, codes, nat_lt, nat_le, ◌&&◌, ◌||◌, list_all, join_with_byte, bytes_eq, ltb-true, leb-true, ltb-false, and_parts, bytes_eq-Decides, length-map, common_steps, join_with_byte-slice_split, Bytes, Config, Fault, LineTooLong, BadByte, BadLine, Line, BulkLine, Form, Act, Read, ReadFail, ApplyLie, End, Drop, More, Take, Op, value_text, words_of, number_of, caller_of, key_of, value_of, value_or_none_of, pairs_of, distinct_pairs_of, distinct_keys_of, IsNumber, IsShape, IsSession, session_text, IsValue, IsKey, AreKeyWords, AreLeftKeys, HasKeys, IsOperation, IsAct, SaysWords, IsSpellable, LinesAreSpelled, spelling, line_words, operation_words, load_word, bulk_words, act_words, left_words, pair_text, flag_words, shape_words, without_load, has_process_shape, source_of, calls_of, source_words}
+use Rattle.jc_script.specs.declared.read.line.Operation.{Operation}
+use Rattle.jc_script.specs.declared.read.commands.Bare.{Bare}
+use Rattle.jc_script.specs.declared.read.commands.Bare.TheVariants as bare
+use Rattle.jc_script.specs.declared.read.commands.Valued.{Valued}
+use Rattle.jc_script.specs.declared.read.commands.Valued.TheVariants as valued
+use Rattle.jc_script.specs.declared.read.commands.BulkName.{BulkName}
+use Rattle.jc_script.specs.declared.read.commands.BulkName.TheVariants as name
+use Rattle.jc_script.specs.declared.read.commands.Form.TheVariants as form
+use Rattle.jc_script.specs.declared.read.line.BulkLine.TheVariants as bulk
 use Rattle.jc_script.specs.Lines.{form_named, flags_of, takes_words, bare_op, valued_op, bare_of, valued_of, value_alone, replace_if_of, begin_with, is_load_mode, has_load_shape, bulk_takes, keys_of, load_all_of, bulk_of, has_but_shape, left_of, apply_of, apply_fail_of, command_of, shape_of, open_of, reopen_of, set_of, begin_of, number_alone, lone_of, coded_of, process_of, say_of, foreign_of, audit_of, line_of, are_words, parsed, is_plain, is_comment, some_line, read_line}
-use Rattle.jc_script.specs.Spelled.{IsNumber, IsShape, IsSession, session_text, IsValue, IsKey, AreKeyWords, AreLeftKeys, HasKeys, IsOperation, IsAct, SaysWords, IsSpellable, LinesAreSpelled, spelling, line_words, operation_words, load_word, bulk_words, act_words, left_words, pair_text, flag_words, shape_words}
-use Rattle.jc_script.specs.ProcessWords.{without_load, has_process_shape, source_of, calls_of, source_words}
 use Rattle.jc_script.proofs.ReadProcess.{SaysSource, source_read, SaysCalls, calls_read}
 use Rattle.jc_script.proofs.Given.{ok_bind, ok_then, ok_if, ok_unless, ok_since, ok_word, ok_weaker}
 use Rattle.jc_script.proofs.AreKeyWords.{SaysKeys, keys_read}
@@ -102,7 +80,7 @@ replace_if_said : SaysForm (codes "replaceif") form.ReplaceIf
 replace_if_said call session words n s shaped = operation_said call session (codes "replaceif" ∷ words) (replace_if_of words) n s (replace_if_read words)
 
 -- a call of many keys, from its name and what follows it
-abbrev SaysBulk : List ℕ → List (List ℕ) → BulkCall → Type 0
+abbrev SaysBulk : List ℕ → List (List ℕ) → BulkLine → Type 0
 SaysBulk name words bulk = HasKeys bulk × (name ∷ words ≡ bulk_words bulk)
 
 bulk_said : (n : BulkName) (name : List ℕ) → ((words : List (List ℕ)) → bulk_takes n words ≡ true → IfOk (bulk_of n words) (SaysBulk name words)) → SaysForm name (form.Bulk n)
@@ -115,7 +93,7 @@ some_keys words keys shaped h =
     let some : 1 ≤ length words = ltb-true 0 (length words) shaped in
     (rw h.1 at some, h.0, h.2)
 
-keys_said : (b : List Bytes → BulkCall) (name : List ℕ) → ((keys : List Bytes) → AreKeyWords 1 keys → SaysBulk name keys (b keys))
+keys_said : (b : List Bytes → BulkLine) (name : List ℕ) → ((keys : List Bytes) → AreKeyWords 1 keys → SaysBulk name keys (b keys))
     → (words : List (List ℕ)) → nat_lt 0 (length words) ≡ true → IfOk (keys_of b words) (SaysBulk name words)
 keys_said b name says words shaped =
     ok_then (distinct_keys_of words) _ (SaysKeys words) (SaysBulk name words) (keys_read words) (λ keys h.

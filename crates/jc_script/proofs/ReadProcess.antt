@@ -1,22 +1,9 @@
 -- The words of a `process` line that are read are spelled as what they say.
 --     SaysSource, source_read     how the loader answers, and the words after it
 --     SaysCalls, calls_read       the calls, and the code
-use Rattle.std.proofs.Common.{◌≡◌, ◌∙◌, ℕ, Bool, true, false, cond, List, [], ◌∷◌, ◌++◌, length, map, take, drop, None, Some, Result, Ok, Err, refl, sym, ap, append_assoc, IfOk}
-use Rattle.std.specs.Prelude.{codes, ◌||◌}
-use Rattle.std.specs.List.{All}
-use Rattle.std.specs.Str.{bytes_eq}
-use Rattle.std.proofs.lemmas.Bool.{and_parts}
-use Rattle.std.proofs.lemmas.Slice.Eq.{bytes_eq-Decides}
+use Rattle.jc_script.proofs.Common.{◌≡◌, ◌∙◌, ℕ, Bool, true, false, cond, List, [], ◌∷◌, ◌++◌, length, map, take, drop, None, Some, Result, Ok, Err, refl, sym, ap, append_assoc, IfOk, codes, ◌||◌, All, bytes_eq, and_parts, bytes_eq-Decides, All-nil, All-cons, All-same, EntryCall, LoadSource, Store, Stated, Failing, Fault, ◌>>=◌, number_of, value_of, value_or_none_of, Calls, begins_with, is_call, is_fail, are_calls_from, without_load, source_of, call_of, calls_from, calls_of, source_words, call_text, fail_words, IsSource, IsEntryCall, IsOptionalCode}
 use Rattle.std.proofs.lemmas.List.{take-append-drop, append-nil}
-use Rattle.std.proofs.lemmas.List.Elements.{All-nil, All-cons, All-same}
-use Rattle.jc_model.specs.declared.processor.EntryCall.{EntryCall}
 use Rattle.jc_model.specs.declared.processor.EntryCall.TheVariants as entry
-use Rattle.jc_world.specs.declared.process.LoadSource.{LoadSource}
-use Rattle.jc_world.specs.declared.process.LoadSource.TheVariants.{Store, Stated, Failing}
-use Rattle.jc_script.specs.declared.fault.Fault.{Fault}
-use Rattle.jc_script.specs.Words.{◌>>=◌, number_of, value_of, value_or_none_of}
-use Rattle.jc_script.specs.ProcessWords.{Calls, begins_with, is_call, is_fail, are_calls_from, without_load, source_of, call_of, calls_from, calls_of, source_words, call_text, fail_words}
-use Rattle.jc_script.specs.Spelled.{IsSource, IsEntryCall, IsOptionalCode}
 use Rattle.jc_script.proofs.Given.{ok_then, ok_weaker}
 use Rattle.jc_script.proofs.ReadWords.{SaysNumber, number_read, SaysValue, value_read, SaysValueOrNone, value_or_none_read}
 

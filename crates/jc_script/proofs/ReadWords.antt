@@ -1,23 +1,9 @@
 -- Words that are read are spelled as what they say.
-use Rattle.std.proofs.Common.{◌≡◌, ◌∙◌, ◌==◌, ℕ, ◌+◌, ◌-◌, ◌*◌, ◌^◌, ◌<◌, ◌≤◌, true, false, cond, List, [], ◌∷◌, ◌++◌, length, map, suc, get_or, take, drop, Option, None, Some, Result, Ok, Err, inl, inr, refl, sym, ap, append_assoc, arith, rules, IfOk}
-use Rattle.std.specs.Prelude.{decimal, codes, ◌&&◌, nat_le, nat_lt}
-use Rattle.std.specs.List.{All, list_all}
-use Rattle.std.proofs.lemmas.Bool.{and_parts, and_from, leb-true, eqb-true}
+use Rattle.jc_script.proofs.Common.{◌≡◌, ◌∙◌, ◌==◌, ℕ, ◌+◌, ◌-◌, ◌*◌, ◌^◌, ◌<◌, ◌≤◌, true, false, cond, List, [], ◌∷◌, ◌++◌, length, map, suc, get_or, take, drop, Option, None, Some, Result, Ok, Err, inl, inr, refl, sym, ap, append_assoc, arith, rules, IfOk, decimal, codes, ◌&&◌, nat_le, nat_lt, All, list_all, and_parts, and_from, leb-true, eqb-true, All-nil, All-cons, All-same, drop-cons, common_steps, decimal-digits_value, KEY_MAX, VALUE_MAX, is_session, Bytes, Fault, BadNumber, BadCaller, BadKey, BadValue, value_text, value_or_none_text, IsNumber, IsSession, IsKey, IsValue, IsValueOrNone, IsPair, session_text, pair_text}
 use Rattle.std.proofs.lemmas.List.{take-append-drop, append-nil}
 use Rattle.std.proofs.lemmas.List.Quantifiers.{position-Some}
-use Rattle.std.proofs.lemmas.List.Elements.{All-nil, All-cons, All-same}
-use Rattle.std.proofs.Math.Seq.{drop-cons}
-use Rattle.std.proofs.lemmas.Grind.{common_steps}
-use Rattle.std.proofs.lemmas.Fmt.{decimal-digits_value}
 use Rattle.std.proofs.lemmas.Str.Parse.{IsNumeralModel, numerals_by_fold}
-use Rattle.jc_types.specs.declared.limits.TheConstants.{KEY_MAX, VALUE_MAX}
-use Rattle.jc_types.specs.Limits.{is_session}
-use Rattle.jc_model.specs.Cache.{Bytes}
-use Rattle.jc_script.specs.declared.fault.Fault.{Fault}
-use Rattle.jc_script.specs.declared.fault.Fault.TheVariants.{BadNumber, BadCaller, BadKey, BadValue}
 use Rattle.jc_script.specs.Words.{◌>>=◌, is_digit, is_text, digits_from, number_of, caller_if, caller_of, key_of, value_of, some_value, value_or_none_of, Pairs, equals_at, key_part, value_part, pair_onto, pairs_from, pairs_of}
-use Rattle.jc_script.specs.Printing.{value_text, value_or_none_text}
-use Rattle.jc_script.specs.Spelled.{IsNumber, IsSession, IsKey, IsValue, IsValueOrNone, IsPair, session_text, pair_text}
 use Rattle.jc_script.proofs.Given.{ok_bind, ok_then, ok_if, ok_since, ok_word, ok_weaker}
 use Rattle.jc_script.proofs.SpelledWords.{text_shown, pair_parts}
 

@@ -1,22 +1,10 @@
 -- A call of one key that begins: its begin and its first phase are played one after the other.
 --     start_fits       once the call has begun, its first phase fits
 --     begins_single    the call has begun, and made its first phase
-use Rattle.std.proofs.Common.{◌≡◌, ◌&&◌, ◌++◌, ℕ, List, [], ◌∷◌, true, cond, is_some, Some, None, refl, sym, ap, subst}
-use Rattle.std.proofs.lemmas.Cmp.{nat_list_eq_equiv}
+use Rattle.jc_script.proofs.Common.{◌≡◌, ◌&&◌, ◌++◌, ℕ, List, [], ◌∷◌, true, cond, is_some, Some, None, refl, sym, ap, subst, nat_list_eq_equiv, Op, Bytes, Shown, WorldEvent, WorldState, open_call, fits, AllFit, Run, new_call, BeginFits, FitTogether, start_events, PlaysEvents, PlaysBegin}
 use Rattle.std.specs.Option.{option_flatten}
-use Rattle.jc_model.specs.declared.event.Op.{Op}
-use Rattle.jc_model.specs.Cache.{Bytes}
 use Rattle.jc_world.specs.declared.command.Command.TheVariants.{Single}
-use Rattle.jc_world.specs.declared.event.Shown.{Shown}
-use Rattle.jc_world.specs.declared.event.WorldEvent.{WorldEvent}
 use Rattle.jc_world.specs.declared.event.WorldEvent.TheVariants as event
-use Rattle.jc_world.specs.World.{WorldState, open_call}
-use Rattle.jc_world.specs.Fits.{fits}
-use Rattle.jc_world.specs.Events.{AllFit, Run}
-use Rattle.jc_world.specs.Calls.{new_call}
-use Rattle.jc_world.specs.Together.{BeginFits, FitTogether}
-use Rattle.jc_script.specs.LineEvents.{start_events}
-use Rattle.jc_script.specs.Transcript.{PlaysEvents, PlaysBegin}
 use Rattle.jc_script.proofs.Fitting.{one_differs, starts_fit}
 
 pub start_fits : (w begun : WorldState) (call session : ℕ) (op : Op) (key : Bytes) (opening : List Shown) → BeginFits w → FitTogether begun → fits w (event.Call call session (Single op key)) ≡ true

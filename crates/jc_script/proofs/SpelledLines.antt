@@ -1,27 +1,10 @@
 -- Lines that are spelled are read as what they say.
-use Rattle.std.proofs.Common.{◌≡◌, ℕ, ◌≤◌, Bool, true, false, List, [], ◌∷◌, ◌++◌, length, map, Option, None, Some, Ok, refl, sym, ap, subst}
-use Rattle.std.specs.Prelude.{decimal, codes}
-use Rattle.std.specs.List.{All}
-use Rattle.std.proofs.lemmas.Bool.{and_from, lt-ltb, le-leb}
-use Rattle.std.proofs.lemmas.List.{length-map}
-use Rattle.jc_model.specs.Cache.{Bytes}
-use Rattle.jc_types.specs.declared.config.Config.{Config}
-use Rattle.jc_script.specs.declared.commands.BulkName.TheVariants as name
-use Rattle.jc_script.specs.declared.commands.Form.{Form}
-use Rattle.jc_script.specs.declared.commands.Form.TheVariants as form
-use Rattle.jc_model.specs.declared.event.Op.{Op}
+use Rattle.jc_script.proofs.Common.{◌≡◌, ℕ, ◌≤◌, Bool, true, false, List, [], ◌∷◌, ◌++◌, length, map, Option, None, Some, Ok, refl, sym, ap, subst, decimal, codes, All, and_from, lt-ltb, le-leb, length-map, Bytes, Config, Form, Op, Line, Open, Set, Begin, BeginBulk, OfCall, Foreign, Reopen, Audit, BulkLine, Act, Read, ReadFail, Say, Apply, ApplyFail, ApplyLie, End, Drop, More, Take, Process, source_words, call_text, fail_words, ◌>>=◌, Pairs, value_text, value_or_none_text, IsNumber, IsShape, IsSession, IsKey, IsValue, IsValueOrNone, IsPair, AreKeyWords, AreLeftKeys, HasKeys, IsOperation, IsAct, LinesReadBack, spelling, session_text, pair_text, flag_words, shape_words, operation_words, load_word, bulk_words, left_words}
+use Rattle.jc_script.specs.declared.read.commands.BulkName.TheVariants as name
+use Rattle.jc_script.specs.declared.read.commands.Form.TheVariants as form
 use Rattle.jc_model.specs.declared.event.Op.TheVariants as op
-use Rattle.jc_script.specs.declared.line.Line.{Line}
-use Rattle.jc_script.specs.declared.line.Line.TheVariants.{Open, Set, Begin, BeginBulk, OfCall, Foreign, Reopen, Audit}
-use Rattle.jc_script.specs.declared.line.BulkCall.{BulkCall}
-use Rattle.jc_script.specs.declared.line.BulkCall.TheVariants as bulk
-use Rattle.jc_script.specs.declared.line.Act.{Act}
-use Rattle.jc_script.specs.declared.line.Act.TheVariants.{Read, ReadFail, Say, Apply, ApplyFail, ApplyLie, End, Drop, More, Take, Process}
-use Rattle.jc_script.specs.ProcessWords.{source_words, call_text, fail_words}
-use Rattle.jc_script.specs.Words.{◌>>=◌, Pairs}
+use Rattle.jc_script.specs.declared.read.line.BulkLine.TheVariants as bulk
 use Rattle.jc_script.specs.Lines.{form_named, flags_of, takes_words, bare_of, valued_of, replace_if_of, begin_with, has_load_shape, load_all_of, bulk_with, has_but_shape, left_of, apply_of, apply_fail_of, command_of, shape_of, set_of, begin_of, lone_of, coded_of, say_of, foreign_of, read_line}
-use Rattle.jc_script.specs.Printing.{value_text, value_or_none_text}
-use Rattle.jc_script.specs.Spelled.{IsNumber, IsShape, IsSession, IsKey, IsValue, IsValueOrNone, IsPair, AreKeyWords, AreLeftKeys, HasKeys, IsOperation, IsAct, LinesReadBack, spelling, session_text, pair_text, flag_words, shape_words, operation_words, load_word, bulk_words, left_words}
 use Rattle.jc_script.proofs.AreKeyWords.{key_back, keys_back, keys_are_words}
 use Rattle.jc_script.proofs.AreDistinctPairs.{distinct_pairs_back}
 use Rattle.jc_script.proofs.SpelledPairs.{pairs_back, pairs_are_words}
@@ -33,14 +16,12 @@ use Rattle.jc_script.proofs.SpelledWords.{AreWords, line_of_words, number_word, 
 flags_back : (read write : Bool) → flags_of (flag_words read write) ≡ Ok (read, write)
 flags_back false false = refl
 flags_back true false = refl
-flags_back false true = refl
-flags_back true true = refl
+flags_back read write = refl
 
 flags_are_words : (read write : Bool) → AreWords (flag_words read write)
 flags_are_words false false = refl
 flags_are_words true false = refl
-flags_are_words false true = refl
-flags_are_words true true = refl
+flags_are_words read write = refl
 
 -- 1. Lines of fixed words.
 
@@ -115,7 +96,7 @@ begin_back call session op.Clear key n s o k = absurd o
 begin_back call session (op.LoadAll replace) key n s o k = absurd o
 begin_back call session op.Invoke key n s o k = begin_asks call session (codes "invoke") (key ∷ []) _ _ n s refl refl (ap (begin_with call session) (bare_back op.Invoke key k))
 
-bulk_are_words : (b : BulkCall) → HasKeys b → AreWords (bulk_words b)
+bulk_are_words : (b : BulkLine) → HasKeys b → AreWords (bulk_words b)
 bulk_are_words (bulk.GetAll keys) known = keys_are_words keys known.1
 bulk_are_words (bulk.PutAll pairs) known = pairs_are_words pairs known.1
 bulk_are_words (bulk.RemoveAll keys) known = keys_are_words keys known.1
@@ -133,7 +114,7 @@ load_back : (replace : Bool) (keys : List Bytes) → AreKeyWords 1 keys → load
 load_back false keys known = ap (λ r. r >>= λ keys. Ok (bulk.LoadAll false keys)) (keys_back 1 keys known)
 load_back true keys known = ap (λ r. r >>= λ keys. Ok (bulk.LoadAll true keys)) (keys_back 1 keys known)
 
-bulk_back : (call session : ℕ) (b : BulkCall) → IsNumber call → IsSession session → HasKeys b
+bulk_back : (call session : ℕ) (b : BulkLine) → IsNumber call → IsSession session → HasKeys b
     → begin_of (decimal call ∷ session_text session ∷ bulk_words b) ≡ Ok (BeginBulk call session b)
 bulk_back call session (bulk.GetAll keys) n s known =
     begin_asks call session (codes "getall") keys (form.Bulk name.GetAll) _ n s refl (lt-ltb 0 (length keys) known.0)

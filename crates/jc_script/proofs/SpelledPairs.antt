@@ -1,17 +1,6 @@
 -- Pairs that are spelled are read as what they say.
-use Rattle.std.proofs.Common.{◌≡◌, ◌∙◌, ◌==◌, ℕ, ◌+◌, true, false, not, List, [], ◌∷◌, ◌++◌, length, map, drop, None, Some, Ok, refl, sym, ap, append_assoc, append-nil, arith}
-use Rattle.std.specs.Prelude.{◌&&◌, nat_lt, nat_le}
-use Rattle.std.specs.List.{All, list_all, position_or_len}
-use Rattle.std.proofs.lemmas.Bool.{and_from, and_parts, cond-true, not_from_false}
-use Rattle.std.proofs.lemmas.Grind.{common_steps}
-use Rattle.std.proofs.lemmas.List.{take_at}
-use Rattle.std.proofs.Math.Seq.{drop-append-add}
-use Rattle.std.proofs.lemmas.List.Elements.{All-head, All-tail}
-use Rattle.jc_types.specs.declared.limits.TheConstants.{KEY_MAX}
-use Rattle.jc_model.specs.Cache.{Bytes}
+use Rattle.jc_script.proofs.Common.{◌≡◌, ◌∙◌, ◌==◌, ℕ, ◌+◌, true, false, not, List, [], ◌∷◌, ◌++◌, length, map, drop, None, Some, Ok, refl, sym, ap, append_assoc, append-nil, arith, ◌&&◌, nat_lt, nat_le, All, list_all, position_or_len, and_from, and_parts, cond-true, not_from_false, common_steps, take_at, drop-append-add, All-head, All-tail, KEY_MAX, Bytes, value_text, IsKey, IsPair, pair_text}
 use Rattle.jc_script.specs.Words.{is_letter, key_of, Pairs, equals_at, key_part, value_part, pair_onto, pairs_from, pairs_of}
-use Rattle.jc_script.specs.Printing.{value_text}
-use Rattle.jc_script.specs.Spelled.{IsKey, IsPair, pair_text}
 use Rattle.jc_script.proofs.AreKeyWords.{key_back}
 use Rattle.jc_script.proofs.Spelling.{value_back}
 use Rattle.jc_script.proofs.SpelledWords.{AreWords, pair_word, pair_parts}

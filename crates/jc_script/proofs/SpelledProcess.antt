@@ -1,23 +1,9 @@
 -- The words of a `process` line that are spelled are read as what they say.
 --     process_words      they are words
 --     process_back       a line of them is read back
-use Rattle.std.proofs.Common.{◌≡◌, ◌∙◌, ℕ, true, false, List, [], ◌∷◌, ◌++◌, length, map, Option, None, Some, Ok, arith, refl, sym, ap, append_assoc, append-nil}
-use Rattle.std.specs.Prelude.{decimal, codes, nat_lt}
-use Rattle.std.proofs.lemmas.Grind.{common_steps}
-use Rattle.std.specs.List.{All, list_all}
-use Rattle.std.proofs.lemmas.Bool.{and_from}
-use Rattle.std.proofs.lemmas.List.Folds.{list_all-append}
-use Rattle.std.proofs.lemmas.List.Elements.{All-head, All-tail}
-use Rattle.jc_model.specs.declared.processor.EntryCall.{EntryCall}
+use Rattle.jc_script.proofs.Common.{◌≡◌, ◌∙◌, ℕ, true, false, List, [], ◌∷◌, ◌++◌, length, map, Option, None, Some, Ok, arith, refl, sym, ap, append_assoc, append-nil, decimal, codes, nat_lt, common_steps, All, list_all, and_from, list_all-append, All-head, All-tail, EntryCall, LoadSource, Store, Stated, Failing, OfCall, Process, are_calls_from, without_load, source_of, calls_from, source_words, call_text, fail_words, value_text, value_or_none_text, IsNumber, IsSource, IsEntryCall, IsOptionalCode}
 use Rattle.jc_model.specs.declared.processor.EntryCall.TheVariants as entry
-use Rattle.jc_world.specs.declared.process.LoadSource.{LoadSource}
-use Rattle.jc_world.specs.declared.process.LoadSource.TheVariants.{Store, Stated, Failing}
-use Rattle.jc_script.specs.declared.line.Line.TheVariants.{OfCall}
-use Rattle.jc_script.specs.declared.line.Act.TheVariants.{Process}
-use Rattle.jc_script.specs.ProcessWords.{are_calls_from, without_load, source_of, calls_from, source_words, call_text, fail_words}
 use Rattle.jc_script.specs.Lines.{process_of}
-use Rattle.jc_script.specs.Printing.{value_text, value_or_none_text}
-use Rattle.jc_script.specs.Spelled.{IsNumber, IsSource, IsEntryCall, IsOptionalCode}
 use Rattle.jc_script.proofs.Spelling.{number_back, value_back}
 use Rattle.jc_script.proofs.SpelledValues.{value_or_none_back}
 use Rattle.jc_script.proofs.SpelledWords.{AreWords, is_mark, is_word, word_marks, number_word, value_word, value_or_none_word}
@@ -42,10 +28,8 @@ source_are_words (Stated value) known = and_from _ _ (after (codes "loadsay=") (
 source_are_words (Failing code) known = and_from _ _ (after (codes "loadfail=") (decimal code) refl (word_marks (decimal code) (number_word code known))) refl
 
 call_is_word : (call : EntryCall) → IsEntryCall call → is_word (call_text call) ≡ true
-call_is_word entry.GetValue known = refl
-call_is_word entry.Exists known = refl
-call_is_word entry.Remove known = refl
 call_is_word (entry.SetValue value) known = after (codes "set=") (value_text value) refl (word_marks (value_text value) (value_word value known))
+call_is_word other known = refl
 
 calls_are_words : (calls : List EntryCall) → All IsEntryCall calls → AreWords (map call_text calls)
 calls_are_words [] known = refl

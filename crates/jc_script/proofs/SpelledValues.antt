@@ -1,15 +1,5 @@
 -- Values that are spelled are no dash, so a value or none is read as what it says.
-use Rattle.std.proofs.Common.{◌≡◌, ◌∙◌, ◌==◌, ℕ, true, false, [], ◌∷◌, length, Option, None, Some, Ok, inl, inr, refl, ap, arith}
-use Rattle.std.specs.Prelude.{codes, ◌&&◌, nat_lt, nat_le}
-use Rattle.std.specs.List.{list_all}
-use Rattle.std.specs.Str.{bytes_eq}
-use Rattle.std.proofs.lemmas.Bool.{and_left, and_parts, cond-false}
-use Rattle.std.proofs.lemmas.Grind.{common_steps}
-use Rattle.jc_types.specs.declared.limits.TheConstants.{VALUE_MAX}
-use Rattle.jc_model.specs.Cache.{Bytes}
-use Rattle.jc_script.specs.Words.{is_letter, some_value, value_or_none_of}
-use Rattle.jc_script.specs.Printing.{value_text, value_or_none_text}
-use Rattle.jc_script.specs.Spelled.{IsValue, IsValueOrNone}
+use Rattle.jc_script.proofs.Common.{◌≡◌, ◌∙◌, ◌==◌, ℕ, true, false, [], ◌∷◌, length, Option, None, Some, Ok, inl, inr, refl, ap, arith, codes, ◌&&◌, nat_lt, nat_le, list_all, bytes_eq, and_left, and_parts, cond-false, common_steps, VALUE_MAX, Bytes, is_letter, some_value, value_or_none_of, value_text, value_or_none_text, IsValue, IsValueOrNone}
 use Rattle.jc_script.proofs.Spelling.{value_back}
 use Rattle.jc_script.proofs.SpelledWords.{text_shown}
 
@@ -17,7 +7,7 @@ dash_is_no_letter : (b : ℕ) → is_letter b ≡ true → (b == 45) ≡ false
 dash_is_no_letter b e = grind (arith, common_steps)
 
 -- no value is printed as a dash
-no_dash : (value : Bytes) → IsValue value → bytes_eq (value_text value) (codes "-") ≡ false
+pub no_dash : (value : Bytes) → IsValue value → bytes_eq (value_text value) (codes "-") ≡ false
 no_dash value (inl e) = rw e refl
 no_dash [] (inr t) = refl
 no_dash (b ∷ bs) (inr t) =

@@ -1,19 +1,6 @@
 -- Words that are spelled: no byte of them separates words, so the words of a line are those that it was joined from.
-use Rattle.std.proofs.Common.{◌≡◌, ◌∙◌, ◌==◌, ℕ, ◌+◌, ◌%◌, ◌^◌, ◌<◌, ◌≤◌, Bool, true, false, not, List, [], ◌∷◌, ◌++◌, length, Option, None, Some, Ok, Err, inl, inr, refl, ap, append_assoc, arith}
-use Rattle.std.specs.Prelude.{decimal, codes, ◌&&◌, nat_le, nat_lt}
-use Rattle.std.specs.List.{All, list_all, join_with_byte}
-use Rattle.std.proofs.lemmas.Bool.{and_from, and_parts, not_from_true, cond-true, cond-false, le-ltb}
-use Rattle.std.proofs.lemmas.Fmt.{decimal_by_steps, decimal_nonempty}
-use Rattle.std.proofs.lemmas.Grind.{common_steps}
-use Rattle.std.proofs.lemmas.List.Folds.{list_all-append}
-use Rattle.std.proofs.lemmas.List.Sums.{AllPass-from_list_all}
-use Rattle.std.proofs.lemmas.List.Splits.{slice_split_none, slice_split_at}
-use Rattle.jc_script.specs.declared.fault.Fault.TheVariants.{BadByte, BadLine, LineTooLong}
-use Rattle.jc_script.specs.declared.line.Line.{Line}
-use Rattle.jc_script.specs.Words.{words_of, is_letter, is_text}
+use Rattle.jc_script.proofs.Common.{◌≡◌, ◌∙◌, ◌==◌, ℕ, ◌+◌, ◌%◌, ◌^◌, ◌<◌, ◌≤◌, Bool, true, false, not, List, [], ◌∷◌, ◌++◌, length, Option, None, Some, Ok, Err, inl, inr, refl, ap, append_assoc, arith, decimal, codes, ◌&&◌, nat_le, nat_lt, All, list_all, join_with_byte, and_from, and_parts, not_from_true, cond-true, cond-false, le-ltb, decimal_by_steps, decimal_nonempty, common_steps, list_all-append, AllPass-from_list_all, slice_split_none, slice_split_at, BadByte, BadLine, LineTooLong, Line, words_of, is_letter, is_text, value_text, value_or_none_text, IsNumber, IsSession, IsValue, IsValueOrNone, IsPair, session_text, pair_text}
 use Rattle.jc_script.specs.Lines.{are_words, line_of, parsed, is_plain, is_comment, some_line, read_line}
-use Rattle.jc_script.specs.Printing.{value_text, value_or_none_text}
-use Rattle.jc_script.specs.Spelled.{IsNumber, IsSession, IsValue, IsValueOrNone, IsPair, session_text, pair_text}
 use Rattle.jc_script.proofs.Spelling.{few_sessions}
 
 -- 1. Bytes that may be in a word, and words of them.

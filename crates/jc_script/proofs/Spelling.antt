@@ -1,17 +1,5 @@
 -- Words as they are spelled, and read.
-use Rattle.std.proofs.Common.{◌≡◌, ◌∙◌, ◌==◌, ℕ, zero, suc, ◌+◌, ◌-◌, ◌*◌, ◌/◌, ◌%◌, ◌^◌, ◌<◌, ◌≤◌, Bool, true, false, cond, List, [], ◌∷◌, ◌++◌, length, get_or, Result, Ok, Err, inl, inr, refl, ap, arith}
-use Rattle.std.specs.Prelude.{decimal, codes, ◌&&◌, nat_le, nat_lt, ◌⊎◌}
-use Rattle.std.specs.List.{list_all}
-use Rattle.std.specs.Str.{bytes_eq}
-use Rattle.std.proofs.lemmas.Bool.{and_from, and_parts, leb-true}
-use Rattle.std.proofs.lemmas.Grind.{common_steps}
-use Rattle.std.proofs.lemmas.Fmt.{decimal_by_steps, decimal_digit, decimal_nonempty, first_decimal}
-use Rattle.jc_script.specs.declared.fault.Fault.{Fault}
-use Rattle.jc_script.specs.declared.fault.Fault.TheVariants.{BadNumber, BadCaller}
-use Rattle.jc_types.specs.declared.limits.TheConstants.{SESSIONS_MAX, VALUE_MAX}
-use Rattle.jc_types.specs.Limits.{is_session}
-use Rattle.jc_script.specs.Words.{◌>>=◌, digits_from, number_of, caller_of, is_digit, is_letter, value_of, is_text}
-use Rattle.jc_script.specs.Printing.{value_text}
+use Rattle.jc_script.proofs.Common.{◌≡◌, ◌∙◌, ◌==◌, ℕ, zero, suc, ◌+◌, ◌-◌, ◌*◌, ◌/◌, ◌%◌, ◌^◌, ◌<◌, ◌≤◌, Bool, true, false, cond, List, [], ◌∷◌, ◌++◌, length, get_or, Result, Ok, Err, inl, inr, refl, ap, arith, decimal, codes, ◌&&◌, nat_le, nat_lt, ◌⊎◌, list_all, bytes_eq, and_from, and_parts, leb-true, common_steps, decimal_by_steps, decimal_digit, decimal_nonempty, first_decimal, Fault, BadNumber, BadCaller, SESSIONS_MAX, VALUE_MAX, is_session, ◌>>=◌, digits_from, number_of, caller_of, is_digit, is_letter, value_of, is_text, value_text}
 
 -- ---- numbers
 

@@ -1,12 +1,6 @@
 -- What is printed of events one after another.
 --     texts_over    behind the last event, or the last that was shown of one, nothing is
-use Rattle.std.proofs.Common.{◌≡◌, ◌<◌, ◌≤◌, ◌⊎◌, inl, inr, ℕ, List, [], ◌∷◌, length, drop, refl, ap, ◌∙◌, arith}
-use Rattle.std.specs.Prelude.{min}
-use Rattle.std.proofs.lemmas.Bool.{cases_lt}
-use Rattle.std.proofs.lemmas.List.{drop_all}
-use Rattle.jc_world.specs.declared.event.WorldEvent.{WorldEvent}
-use Rattle.jc_world.specs.declared.event.Shown.{Shown}
-use Rattle.jc_script.specs.Printing.{texts}
+use Rattle.jc_script.proofs.Common.{◌≡◌, ◌<◌, ◌≤◌, ◌⊎◌, inl, inr, ℕ, List, [], ◌∷◌, length, drop, refl, ap, ◌∙◌, arith, min, cases_lt, drop_all, WorldEvent, Shown, texts}
 
 texts_none : (events : List WorldEvent) → texts events [] ≡ []
 texts_none [] = refl

@@ -25,9 +25,9 @@ use Rattle.jc_world.specs.declared.event.WorldEvent.TheVariants as event
 use Rattle.jc_world.specs.Determinism.{have_memory}
 use Rattle.jc_world.specs.World.{WorldState, open_call}
 use Rattle.jc_script.specs.declared.fault.Fault.{Fault}
-use Rattle.jc_script.specs.declared.line.Act.{Act}
-use Rattle.jc_script.specs.declared.line.Line.{Line}
-use Rattle.jc_script.specs.declared.line.Line.TheVariants.{Open, Set, Begin, BeginBulk, OfCall, Foreign, Reopen, Audit}
+use Rattle.jc_script.specs.declared.read.line.Act.{Act}
+use Rattle.jc_script.specs.declared.read.line.Line.{Line}
+use Rattle.jc_script.specs.declared.read.line.Line.TheVariants.{Open, Set, Begin, BeginBulk, OfCall, Foreign, Reopen, Audit}
 use Rattle.jc_script.specs.declared.run.RunEnd.{RunEnd}
 use Rattle.jc_script.specs.LineEvents.{single}
 use Rattle.jc_script.specs.Lines.{read_line}

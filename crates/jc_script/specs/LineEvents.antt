@@ -29,7 +29,7 @@ use Rattle.std.specs.Prelude.{◌&&◌, ℕ, List, [], ◌∷◌, ◌++◌, filt
 use Rattle.std.specs.List.{list_all, list_any}
 use Rattle.jc_model.specs.Cache.{Bytes}
 use Rattle.jc_model.specs.declared.event.LoadAnswer.TheVariants.{Failed}
-use Rattle.jc_script.specs.declared.line.Operation.{Operation}
+use Rattle.jc_script.specs.declared.read.line.Operation.{Operation}
 use Rattle.jc_world.specs.declared.command.Command.{Command}
 use Rattle.jc_world.specs.declared.command.Command.TheVariants as command
 use Rattle.jc_model.specs.Batches.{is_among}
@@ -38,16 +38,16 @@ use Rattle.jc_world.specs.declared.event.WorldEvent.{WorldEvent}
 use Rattle.jc_world.specs.declared.event.WorldEvent.TheVariants as event
 use Rattle.jc_world.specs.World.{WorldState, has_progress, is_joined, part_of, waits_for_load, waits_for_process}
 use Rattle.jc_world.specs.Fits.{fits, is_asked, passes_in}
-use Rattle.jc_script.specs.declared.line.BulkCall.{BulkCall}
-use Rattle.jc_script.specs.declared.line.BulkCall.TheVariants as bulk
-use Rattle.jc_script.specs.declared.line.Act.{Act}
-use Rattle.jc_script.specs.declared.line.Act.TheVariants.{Read, ReadFail, Say, Apply, ApplyFail, ApplyLie, End, Drop, More, Take, Process}
+use Rattle.jc_script.specs.declared.read.line.BulkLine.{BulkLine}
+use Rattle.jc_script.specs.declared.read.line.BulkLine.TheVariants as bulk
+use Rattle.jc_script.specs.declared.read.line.Act.{Act}
+use Rattle.jc_script.specs.declared.read.line.Act.TheVariants.{Read, ReadFail, Say, Apply, ApplyFail, ApplyLie, End, Drop, More, Take, Process}
 use Rattle.jc_script.specs.Words.{said}
 
 abbrev pub single : Operation → Command
 single operation = command.Single operation.op operation.key
 
-abbrev pub bulk_call : Command → Option BulkCall
+abbrev pub bulk_call : Command → Option BulkLine
 bulk_call (command.Single op key) = None
 bulk_call (command.GetAll set) = Some (bulk.GetAll set.keys)
 bulk_call (command.PutAll map) = Some (bulk.PutAll map.entries)

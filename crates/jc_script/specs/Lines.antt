@@ -8,6 +8,7 @@
 --     is_load_mode                  a word says which keys a `loadall` loads: those that are missing, or all
 --     has_load_shape                such a word, and at least one more
 --     bulk_takes, takes_words       these words may follow the name of a call of many keys, and an operation's name, by their number
+--     op_name                       the name of an operation, if it has one
 --     bare_op, valued_op            the operation of a name with no value, and of a name with one
 --     value_alone                   one value, and no word after it
 --     bare_of, valued_of, replace_if_of      an operation with its key and no value, with one value, with an old and a new one
@@ -41,7 +42,7 @@ use Rattle.std.specs.List.{list_all}
 use Rattle.jc_model.specs.Cache.{Bytes}
 use Rattle.jc_model.specs.declared.event.Op.{Op}
 use Rattle.jc_model.specs.declared.event.Op.TheVariants as op
-use Rattle.jc_script.specs.declared.line.Operation.{Operation}
+use Rattle.jc_script.specs.declared.read.line.Operation.{Operation}
 use Rattle.jc_types.specs.declared.config.Config.{Config}
 use Rattle.jc_types.specs.declared.limits.TheConstants.{LINE_MAX}
 use Rattle.jc_types.specs.Limits.{is_session}
@@ -50,24 +51,24 @@ use Rattle.jc_script.specs.declared.fault.Fault.{Fault}
 use Rattle.jc_script.specs.declared.fault.Fault.TheVariants.{LineTooLong, BadByte, BadLine}
 use Rattle.jc_script.specs.declared.fault.ReadError.{ReadError}
 use Rattle.jc_script.specs.declared.fault.ReadError.TheVariants as errors
-use Rattle.jc_script.specs.declared.line.Line.{Line}
-use Rattle.jc_script.specs.declared.line.Line.TheVariants.{Open, Set, Begin, BeginBulk, OfCall, Foreign, Reopen, Audit}
-use Rattle.jc_script.specs.declared.line.BulkCall.{BulkCall}
-use Rattle.jc_script.specs.declared.line.BulkCall.TheVariants as bulk
-use Rattle.jc_script.specs.declared.line.Act.{Act}
-use Rattle.jc_script.specs.declared.line.Act.TheVariants.{Read, ReadFail, Say, Apply, ApplyFail, ApplyLie, End, Drop, More, Take, Process}
-use Rattle.jc_script.specs.declared.commands.Bare.{Bare}
-use Rattle.jc_script.specs.declared.commands.Bare.TheVariants as bare
-use Rattle.jc_script.specs.declared.commands.Valued.{Valued}
-use Rattle.jc_script.specs.declared.commands.Valued.TheVariants as valued
-use Rattle.jc_script.specs.declared.commands.BulkName.{BulkName}
-use Rattle.jc_script.specs.declared.commands.BulkName.TheVariants as name
-use Rattle.jc_script.specs.declared.commands.Form.{Form}
-use Rattle.jc_script.specs.declared.commands.Form.TheVariants as form
-use Rattle.jc_script.specs.declared.grammar.Lone.{Lone}
-use Rattle.jc_script.specs.declared.grammar.Lone.TheVariants as lone
-use Rattle.jc_script.specs.declared.grammar.Coded.{Coded}
-use Rattle.jc_script.specs.declared.grammar.Coded.TheVariants as coded
+use Rattle.jc_script.specs.declared.read.line.Line.{Line}
+use Rattle.jc_script.specs.declared.read.line.Line.TheVariants.{Open, Set, Begin, BeginBulk, OfCall, Foreign, Reopen, Audit}
+use Rattle.jc_script.specs.declared.read.line.BulkLine.{BulkLine}
+use Rattle.jc_script.specs.declared.read.line.BulkLine.TheVariants as bulk
+use Rattle.jc_script.specs.declared.read.line.Act.{Act}
+use Rattle.jc_script.specs.declared.read.line.Act.TheVariants.{Read, ReadFail, Say, Apply, ApplyFail, ApplyLie, End, Drop, More, Take, Process}
+use Rattle.jc_script.specs.declared.read.commands.Bare.{Bare}
+use Rattle.jc_script.specs.declared.read.commands.Bare.TheVariants as bare
+use Rattle.jc_script.specs.declared.read.commands.Valued.{Valued}
+use Rattle.jc_script.specs.declared.read.commands.Valued.TheVariants as valued
+use Rattle.jc_script.specs.declared.read.commands.BulkName.{BulkName}
+use Rattle.jc_script.specs.declared.read.commands.BulkName.TheVariants as name
+use Rattle.jc_script.specs.declared.read.commands.Form.{Form}
+use Rattle.jc_script.specs.declared.read.commands.Form.TheVariants as form
+use Rattle.jc_script.specs.declared.read.grammar.Lone.{Lone}
+use Rattle.jc_script.specs.declared.read.grammar.Lone.TheVariants as lone
+use Rattle.jc_script.specs.declared.read.grammar.Coded.{Coded}
+use Rattle.jc_script.specs.declared.read.grammar.Coded.TheVariants as coded
 use Rattle.jc_script.specs.Words.{◌>>=◌, words_of, number_of, caller_of, key_of, value_of, value_or_none_of, pairs_of, distinct_pairs_of, distinct_keys_of}
 use Rattle.jc_script.specs.ProcessWords.{without_load, has_process_shape, source_of, calls_of}
 
@@ -148,6 +149,23 @@ takes_words (form.Valued v) words = length words == 2
 takes_words form.ReplaceIf words = length words == 3
 takes_words (form.Bulk n) words = bulk_takes n words
 
+-- the keys of a call of many keys have none of their own
+abbrev pub op_name : Op → Option Bytes
+op_name op.Get = Some (codes "get")
+op_name op.ContainsKey = Some (codes "contains")
+op_name (op.Put value) = Some (codes "put")
+op_name (op.GetAndPut value) = Some (codes "getput")
+op_name (op.PutIfAbsent value) = Some (codes "putif")
+op_name op.Remove = Some (codes "remove")
+op_name (op.RemoveIf old) = Some (codes "removeif")
+op_name op.GetAndRemove = Some (codes "getremove")
+op_name (op.Replace value) = Some (codes "replace")
+op_name (op.ReplaceIf old value) = Some (codes "replaceif")
+op_name (op.GetAndReplace value) = Some (codes "getreplace")
+op_name op.Clear = None
+op_name (op.LoadAll replace) = None
+op_name op.Invoke = Some (codes "invoke")
+
 abbrev pub bare_op : Bare → Op
 bare_op bare.Get = op.Get
 bare_op bare.Contains = op.ContainsKey
@@ -188,16 +206,16 @@ replace_if_of (k ∷ v ∷ words) = do
   Ok (record { op = op.ReplaceIf old value; key = key })
 replace_if_of words = Err BadLine
 
-abbrev pub keys_of : (List Bytes → BulkCall) → List (List ℕ) → Result BulkCall Fault
+abbrev pub keys_of : (List Bytes → BulkLine) → List (List ℕ) → Result BulkLine Fault
 keys_of call words = distinct_keys_of words >>= λ keys. Ok (call keys)
 
 -- the words' shape is known
-abbrev pub load_all_of : List (List ℕ) → Result BulkCall Fault
+abbrev pub load_all_of : List (List ℕ) → Result BulkLine Fault
 load_all_of [] = Err BadLine
 load_all_of (mode ∷ words) = keys_of (bulk.LoadAll (bytes_eq mode (codes "replace"))) words
 
 -- the words' shape is known
-abbrev pub bulk_of : BulkName → List (List ℕ) → Result BulkCall Fault
+abbrev pub bulk_of : BulkName → List (List ℕ) → Result BulkLine Fault
 bulk_of name.GetAll words = keys_of bulk.GetAll words
 bulk_of name.PutAll words = distinct_pairs_of words >>= λ pairs. Ok (bulk.PutAll pairs)
 bulk_of name.RemoveAll words = keys_of bulk.RemoveAll words
@@ -236,7 +254,7 @@ abbrev pub begin_with : ℕ → ℕ → Result Operation Fault → Result Line F
 begin_with number session command = command >>= λ command. Ok (Begin number session command)
 
 -- or the fault of its keys
-abbrev pub bulk_with : ℕ → ℕ → Result BulkCall Fault → Result Line Fault
+abbrev pub bulk_with : ℕ → ℕ → Result BulkLine Fault → Result Line Fault
 bulk_with number session call = call >>= λ call. Ok (BeginBulk number session call)
 
 abbrev pub command_of : ℕ → ℕ → Form → List (List ℕ) → Result Line Fault

@@ -30,16 +30,16 @@ use Rattle.std.specs.Str.{bytes_eq}
 use Rattle.std.specs.List.{position}
 use Rattle.jc_model.specs.Cache.{Bytes}
 use Rattle.jc_types.specs.declared.config.Field.TheVariants.{Stripes, Capacity, History}
-use Rattle.jc_script.specs.declared.commands.BulkName.TheVariants as name
-use Rattle.jc_script.specs.declared.commands.Form.{Form}
-use Rattle.jc_script.specs.declared.commands.Form.TheVariants as form
+use Rattle.jc_script.specs.declared.read.commands.BulkName.TheVariants as name
+use Rattle.jc_script.specs.declared.read.commands.Form.{Form}
+use Rattle.jc_script.specs.declared.read.commands.Form.TheVariants as form
 use Rattle.jc_script.specs.declared.fault.Fault.{Fault}
 use Rattle.jc_script.specs.declared.fault.Fault.TheVariants.{CutLine, LineTooLong, BadByte, BadLine, BadNumber, BadCaller, BadKey, BadValue, RepeatedKey, NotOpen, BadConfig, SetTooLate, NotRising, CallerBusy, NoSuchCall, NotNow}
-use Rattle.jc_script.specs.declared.place.Kind.{Kind}
-use Rattle.jc_script.specs.declared.place.Kind.TheVariants as kind
-use Rattle.jc_script.specs.declared.place.Following.{Following}
-use Rattle.jc_script.specs.declared.place.Search.{Search}
-use Rattle.jc_script.specs.declared.place.Search.TheVariants.{Shape, Content}
+use Rattle.jc_script.specs.declared.read.place.Kind.{Kind}
+use Rattle.jc_script.specs.declared.read.place.Kind.TheVariants as kind
+use Rattle.jc_script.specs.declared.read.place.Following.{Following}
+use Rattle.jc_script.specs.declared.read.place.Search.{Search}
+use Rattle.jc_script.specs.declared.read.place.Search.TheVariants.{Shape, Content}
 use Rattle.jc_script.specs.declared.run.RunEnd.{RunEnd}
 use Rattle.jc_script.specs.declared.run.RunEnd.TheVariants.{Clean, LineFault}
 use Rattle.jc_script.specs.Faults.{text_of}

@@ -76,8 +76,8 @@ use Rattle.jc_world.specs.declared.process.LoadSource.{LoadSource}
 use Rattle.jc_world.specs.declared.process.LoadSource.TheVariants.{Store, Stated, Failing}
 use Rattle.jc_world.specs.declared.process.Processed.{Processed}
 use Rattle.jc_script.specs.declared.fault.Fault.{Fault}
-use Rattle.jc_script.specs.declared.printing.Piece.{Piece}
-use Rattle.jc_script.specs.declared.printing.Piece.TheVariants as piece
+use Rattle.jc_script.specs.declared.print.Piece.{Piece}
+use Rattle.jc_script.specs.declared.print.Piece.TheVariants as piece
 use Rattle.jc_script.specs.Faults.{text_of}
 
 -- 1. Values, replies and places.

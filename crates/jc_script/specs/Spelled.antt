@@ -16,6 +16,7 @@
 --     line_words                 the words of what a line asks for
 --     spelling                   the line itself: its words, separated by single spaces
 --     IsSource, IsEntryCall, IsOptionalCode     how a processor's loader answers; a call of a processor, and its value; a code, or none
+--     AreValues                  the values of an operation
 --     IsOperation, IsAct         an operation that has a name, and its values; an act, and its code or its pairs
 --     AreKeyWords                    at least so many keys, and none twice
 --     AreDistinctPairs           the pairs of a call of many keys: at least one, and no key twice
@@ -34,20 +35,20 @@ use Rattle.jc_types.specs.declared.limits.TheConstants.{KEY_MAX, LINE_MAX, NUMBE
 use Rattle.jc_types.specs.Limits.{is_session}
 use Rattle.jc_model.specs.Cache.{Bytes}
 use Rattle.jc_model.specs.declared.event.Op.{Op}
-use Rattle.jc_model.specs.declared.event.Op.TheVariants as op
-use Rattle.jc_script.specs.declared.line.Line.{Line}
-use Rattle.jc_script.specs.declared.line.Line.TheVariants.{Open, Set, Begin, BeginBulk, OfCall, Foreign, Reopen, Audit}
-use Rattle.jc_script.specs.declared.line.BulkCall.{BulkCall}
-use Rattle.jc_script.specs.declared.line.BulkCall.TheVariants as bulk
-use Rattle.jc_script.specs.declared.line.Act.{Act}
-use Rattle.jc_script.specs.declared.line.Act.TheVariants.{Read, ReadFail, Say, Apply, ApplyFail, ApplyLie, End, Drop, More, Take, Process}
+use Rattle.jc_model.specs.Table.{op_values}
+use Rattle.jc_script.specs.declared.read.line.Line.{Line}
+use Rattle.jc_script.specs.declared.read.line.Line.TheVariants.{Open, Set, Begin, BeginBulk, OfCall, Foreign, Reopen, Audit}
+use Rattle.jc_script.specs.declared.read.line.BulkLine.{BulkLine}
+use Rattle.jc_script.specs.declared.read.line.BulkLine.TheVariants as bulk
+use Rattle.jc_script.specs.declared.read.line.Act.{Act}
+use Rattle.jc_script.specs.declared.read.line.Act.TheVariants.{Read, ReadFail, Say, Apply, ApplyFail, ApplyLie, End, Drop, More, Take, Process}
 use Rattle.jc_model.specs.declared.processor.EntryCall.{EntryCall}
 use Rattle.jc_model.specs.declared.processor.EntryCall.TheVariants as entry
 use Rattle.jc_world.specs.declared.process.LoadSource.{LoadSource}
 use Rattle.jc_world.specs.declared.process.LoadSource.TheVariants.{Store, Stated, Failing}
 use Rattle.jc_script.specs.ProcessWords.{source_words, call_text, fail_words}
 use Rattle.jc_script.specs.Words.{number_of, caller_of, key_of, value_of, is_text}
-use Rattle.jc_script.specs.Lines.{read_line}
+use Rattle.jc_script.specs.Lines.{op_name, read_line}
 use Rattle.jc_script.specs.Printing.{value_text, value_or_none_text}
 
 -- 1. Words.
@@ -99,28 +100,15 @@ flag_words true false = codes "read" ∷ []
 flag_words false true = codes "write" ∷ []
 flag_words true true = codes "read" ∷ codes "write" ∷ []
 
--- no script can say an operation of a bulk call
+-- nothing, if it has no name
 abbrev pub operation_words : Op → Bytes → List Bytes
-operation_words op.Get key = codes "get" ∷ key ∷ []
-operation_words op.ContainsKey key = codes "contains" ∷ key ∷ []
-operation_words (op.Put value) key = codes "put" ∷ key ∷ value_text value ∷ []
-operation_words (op.GetAndPut value) key = codes "getput" ∷ key ∷ value_text value ∷ []
-operation_words (op.PutIfAbsent value) key = codes "putif" ∷ key ∷ value_text value ∷ []
-operation_words op.Remove key = codes "remove" ∷ key ∷ []
-operation_words (op.RemoveIf old) key = codes "removeif" ∷ key ∷ value_text old ∷ []
-operation_words op.GetAndRemove key = codes "getremove" ∷ key ∷ []
-operation_words (op.Replace value) key = codes "replace" ∷ key ∷ value_text value ∷ []
-operation_words (op.ReplaceIf old value) key = codes "replaceif" ∷ key ∷ value_text old ∷ value_text value ∷ []
-operation_words (op.GetAndReplace value) key = codes "getreplace" ∷ key ∷ value_text value ∷ []
-operation_words op.Clear key = []
-operation_words (op.LoadAll replace) key = []
-operation_words op.Invoke key = codes "invoke" ∷ key ∷ []
+operation_words op key = elim (op_name op) [ None ↦ [] | Some name ↦ name ∷ key ∷ map value_text (op_values op) ]
 
 abbrev pub load_word : Bool → Bytes
 load_word false = codes "keep"
 load_word true = codes "replace"
 
-abbrev pub bulk_words : BulkCall → List Bytes
+abbrev pub bulk_words : BulkLine → List Bytes
 bulk_words (bulk.GetAll keys) = codes "getall" ∷ keys
 bulk_words (bulk.PutAll pairs) = codes "putall" ∷ map pair_text pairs
 bulk_words (bulk.RemoveAll keys) = codes "removeall" ∷ keys
@@ -166,22 +154,15 @@ spelling line = join_with_byte 32 (line_words line)
 
 -- 3. What a script can say.
 
+-- the values of an operation
+abbrev pub AreValues : List Bytes → Type 0
+AreValues [] = Unit {0}
+AreValues (value ∷ []) = IsValue value
+AreValues (value ∷ next ∷ values) = IsValue value × AreValues (next ∷ values)
+
 -- an operation that has a name
 abbrev pub IsOperation : Op → Type 0
-IsOperation op.Get = Unit {0}
-IsOperation op.ContainsKey = Unit {0}
-IsOperation (op.Put value) = IsValue value
-IsOperation (op.GetAndPut value) = IsValue value
-IsOperation (op.PutIfAbsent value) = IsValue value
-IsOperation op.Remove = Unit {0}
-IsOperation (op.RemoveIf old) = IsValue old
-IsOperation op.GetAndRemove = Unit {0}
-IsOperation (op.Replace value) = IsValue value
-IsOperation (op.ReplaceIf old value) = IsValue old × IsValue value
-IsOperation (op.GetAndReplace value) = IsValue value
-IsOperation op.Clear = ⊥
-IsOperation (op.LoadAll replace) = ⊥
-IsOperation op.Invoke = Unit {0}
+IsOperation op = elim (op_name op) [ None ↦ ⊥ | Some name ↦ AreValues (op_values op) ]
 
 abbrev pub IsSource : LoadSource → Type 0
 IsSource Store = Unit {0}
@@ -223,7 +204,7 @@ IsAct More = Unit {0}
 IsAct Take = Unit {0}
 IsAct (Process source calls fail) = IsSource source × All IsEntryCall calls × IsOptionalCode fail
 
-abbrev pub HasKeys : BulkCall → Type 0
+abbrev pub HasKeys : BulkLine → Type 0
 HasKeys (bulk.GetAll keys) = AreKeyWords 1 keys
 HasKeys (bulk.PutAll pairs) = AreDistinctPairs pairs
 HasKeys (bulk.RemoveAll keys) = AreKeyWords 1 keys

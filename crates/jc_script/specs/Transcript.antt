@@ -33,10 +33,10 @@ use Rattle.jc_world.specs.Audit.{IsAudit}
 use Rattle.jc_world.specs.Coherent.{all_hold}
 use Rattle.jc_script.specs.declared.fault.Fault.{Fault}
 use Rattle.jc_script.specs.declared.fault.Fault.TheVariants.{CutLine}
-use Rattle.jc_script.specs.declared.line.Line.{Line}
-use Rattle.jc_script.specs.declared.line.Line.TheVariants.{Open, Set, Begin, BeginBulk, OfCall, Foreign, Reopen, Audit}
-use Rattle.jc_script.specs.declared.line.BulkCall.{BulkCall}
-use Rattle.jc_script.specs.declared.line.Act.{Act}
+use Rattle.jc_script.specs.declared.read.line.Line.{Line}
+use Rattle.jc_script.specs.declared.read.line.Line.TheVariants.{Open, Set, Begin, BeginBulk, OfCall, Foreign, Reopen, Audit}
+use Rattle.jc_script.specs.declared.read.line.BulkLine.{BulkLine}
+use Rattle.jc_script.specs.declared.read.line.Act.{Act}
 use Rattle.jc_script.specs.declared.run.RunEnd.{RunEnd}
 use Rattle.jc_script.specs.declared.run.RunEnd.TheVariants.{Clean, LineFault}
 use Rattle.jc_script.specs.Lines.{read_line}
@@ -79,7 +79,7 @@ pub record PlaysBegin (w : WorldState) (number session : ℕ) (command : Command
   pub text_is : text ≡ opening ++ started
   pub new_is : new ≡ Some after
 
-abbrev pub PlaysBulk : WorldState → ℕ → ℕ → BulkCall → List ℕ → OpenedWorld → Type 0
+abbrev pub PlaysBulk : WorldState → ℕ → ℕ → BulkLine → List ℕ → OpenedWorld → Type 0
 PlaysBulk w number session call text new =
     (command : Command) × (bulk_call command ≡ Some call)
     × PlaysBegin w number session command text new

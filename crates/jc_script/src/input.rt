@@ -47,10 +47,10 @@ pub fn read_all<R: Read>(alloc: Global, reader: &mut Noted<R>) -> Result<Vec<u8>
 
 /// A write that failed.
 #[derive(Clone, Copy, Debug)]
-pub struct WriteFault;
+pub struct OutputFault;
 
 /// Writes all the bytes. An error of the writer is not retried, and a write of nothing is an error.
-pub fn write_out<W: Write>(writer: &mut Noted<W>, bytes: &[u8]) -> Result<(), WriteFault>
+pub fn write_out<W: Write>(writer: &mut Noted<W>, bytes: &[u8]) -> Result<(), OutputFault>
     ensures ok { OnOk result (Appends (W.contents writer.old.inner) (W.contents writer.new.inner) bytes.now) }
     ensures err { OnErr result ((n : ℕ) × (n ≤ length bytes.now) × Appends (W.contents writer.old.inner) (W.contents writer.new.inner) (take n bytes.now)) }
     ensures failed { writer.old.failed ≡ false → (IsErr result ↔ writer.new.failed ≡ true) }
@@ -58,9 +58,9 @@ pub fn write_out<W: Write>(writer: &mut Noted<W>, bytes: &[u8]) -> Result<(), Wr
     let mut at = 0;
     while at < bytes.len() {
         match writer.write(&bytes[at..]) {
-            Ok(0) => return Err(WriteFault),
+            Ok(0) => return Err(OutputFault),
             Ok(n) => at += n,
-            Err(_) => return Err(WriteFault),
+            Err(_) => return Err(OutputFault),
         }
     }
     Ok(())

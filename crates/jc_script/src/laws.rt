@@ -1,4 +1,4 @@
-//! Laws of the script's language: what is spelled reads back.
+//! Laws of the script's language: a spelled line reads back.
 ghost use Rattle.jc_script.specs.Spelled.{NumbersReadBack, CallersReadBack, KeysReadBack, ValuesReadBack, LinesReadBack};
 ghost use Rattle.jc_script.specs.Spelled.{LinesAreSpelled};
 
@@ -10,7 +10,7 @@ pub fn words_read_back()
     ensures values { ValuesReadBack }
 {}
 
-/// What a script can say is read from the line that says it, and from no other line.
+/// Each thing that a script can say is read from the line that says it, and from no other line.
 pub fn lines_read_back()
     ensures back { LinesReadBack }
     ensures alone { LinesAreSpelled }

@@ -2,37 +2,30 @@
 //!
 //! A script is bytes, and so is its transcript: one line for each thing that happened, up to the first line with a fault.
 //!
+//! - [`read`] reads a line's words, and says what the line asks for.
+//! - [`play`] plays lines on a world.
+//! - [`print`] prints what happened, and where in its line a fault is.
+//! - [`run`] runs a script whole, from its bytes to its transcript's.
+//!
 //! Why it is so:
-//! - `not now` is one table, the same for one key and for many. A line of spaces is a `bad line`. After `apply N but` there is at least
-//!   one key, after `applyfail N C but` there may be none. A number has at most nine digits. At `begin` the number is tested before the
-//!   caller. `drop` of a joined call is `not now`. A script over the limit prints nothing.
-//! - Failures are noted by the streams (`Noted`), not by `run`: a contract over any reader can't say that a read failed.
+//! - One table tells when a line is `not now`, for one key and for many, because each key of a call goes through the same steps.
+//! - A script over the limit prints nothing, because a transcript is made whole before its first byte is written.
+//! - `drop` of a joined call is `not now`, because a call that has joined a load has reserved nothing that it could give back.
+//! - Failures are noted by the streams (`Noted`), not by `run`, because a contract over any reader can't state that a read failed.
 #![tactic(auto)]
 
-mod commands;
 pub mod determinism;
-mod distinct_pairs;
 pub mod fault;
-pub mod grammar;
 pub mod input;
-mod keys;
 pub mod laws;
-pub mod line;
 pub mod noted;
-mod pairs;
-mod place;
-pub mod player;
-pub mod print_audit;
-mod print_lines;
-pub mod print_place;
-mod print_process;
-mod print_shown;
-pub mod printing;
-mod process_words;
+pub mod play;
+pub mod print;
 pub mod reached;
+pub mod read;
 pub mod run;
-pub mod words;
 
 pub use noted::Noted;
-pub use printing::{put, put_flag, put_number};
+pub use print::{put, put_flag, put_number};
+pub use read::commands::op_name;
 pub use run::{RunEnd, RunFault};

@@ -1,34 +1,14 @@
 -- The lines of a script: its first line, and what is after it.
-use Rattle.std.proofs.Common.{◌≡◌, ◌==◌, ◌||◌, ℕ, ◌+◌, Bool, true, false, cond, List, [], ◌∷◌, ◌++◌, Some, refl, sym, ap, ◌∙◌, inl, inr, arith}
-use Rattle.std.specs.List.{onto_first}
-use Rattle.jc_script.specs.Transcript.{pieces_of, OpenedWorld, Prints, Transcript, fault_of}
-use Rattle.jc_script.specs.declared.fault.Fault.{Fault}
+use Rattle.jc_shell.proofs.Common.{◌≡◌, ◌==◌, ◌||◌, ℕ, ◌+◌, Bool, true, false, cond, List, [], ◌∷◌, ◌++◌, Some, refl, sym, ap, ◌∙◌, inl, inr, arith, pieces_some, pieces_of, OpenedWorld, Prints, Transcript, fault_of, Fault, LineFault, fault_line, has_feed}
+use Rattle.std.proofs.lemmas.Bool.{or_parts}
 use Rattle.jc_script.specs.declared.run.RunEnd.{RunEnd}
-use Rattle.jc_script.specs.declared.run.RunEnd.TheVariants.{LineFault}
-use Rattle.jc_script.specs.Printing.{fault_line}
-use Rattle.jc_shell.specs.Sessions.{has_feed}
-
--- ---- there is always a piece
-
-first_of : (t : Bool) (x : ℕ) (parts : List (List ℕ)) → (p : List ℕ) × (ps : List (List ℕ)) × (cond t ([] ∷ parts) (onto_first x parts) ≡ p ∷ ps)
-first_of true x parts = ([], parts, refl)
-first_of false x [] = (x ∷ [], [], refl)
-first_of false x (q ∷ qs) = (x ∷ q, qs, refl)
-
-pub pieces_some : (bs : List ℕ) → (p : List ℕ) × (ps : List (List ℕ)) × (pieces_of bs ≡ p ∷ ps)
-pieces_some [] = ([], [], refl)
-pieces_some (b ∷ bs) = first_of (b == 10) b (pieces_of bs)
 
 -- ---- a line with its line feed is a piece
-
-neither : (x y : Bool) → (x || y) ≡ false → (x ≡ false) × (y ≡ false)
-neither true y e = absurd cc
-neither false y e = (refl, e)
 
 pub cut : (line rest : List ℕ) → has_feed line ≡ false → pieces_of (line ++ 10 ∷ rest) ≡ line ∷ pieces_of rest
 cut [] rest e = refl
 cut (b ∷ bs) rest e =
-    let none = neither (b == 10) (has_feed bs) e in
+    let none = or_parts (b == 10) (has_feed bs) e in
     rw (none.0, cut bs rest none.1) refl
 
 -- ---- and the first piece is a line, with its line feed if there is another piece

@@ -1,17 +1,7 @@
 -- What was read, answered and written, one part after another.
-use Rattle.std.proofs.Common.{◌≡◌, ◌≤◌, ◌-◌, ◌+◌, ℕ, List, [], ◌∷◌, ◌++◌, length, take, drop, Option, None, Some, Result, Ok, Err, OnOk, IfErr, inl, inr, ◌⊎◌, false, refl, sym, ap, ◌∙◌, append_assoc, append-nil, arith}
-use Rattle.std.proofs.Math.Seq.{drop-append_seam, take-append-add, take-length}
-use Rattle.std.proofs.lemmas.Grind.{flat_map-append}
-use Rattle.std.proofs.lemmas.List.{length-append, take-append-le}
-use Rattle.std.specs.Io.KnownBytes.{Appends, Consumes, IsAtEnd}
-use Rattle.std.specs.Prelude.{codes}
+use Rattle.jc_shell.proofs.Common.{◌≡◌, ◌≤◌, ◌-◌, ◌+◌, ℕ, List, [], ◌∷◌, ◌++◌, length, take, drop, Option, None, Some, Result, Ok, Err, OnOk, IfErr, inl, inr, ◌⊎◌, false, refl, sym, ap, ◌∙◌, append_assoc, append-nil, arith, drop-append_seam, take-append-add, take-length, flat_map-append, length-append, take-append-le, Appends, Consumes, IsAtEnd, codes, Read, TooLong, OutOfMemory, Write, OpenedWorld, Holds, Saved, Saves, Accepted, Answers, AreAnswered, has_feed, nobody, script_of, appends-then}
 use Rattle.jc_shell.specs.declared.run.ShellFault.{ShellFault}
-use Rattle.jc_shell.specs.declared.run.ShellFault.TheVariants.{Read, TooLong, OutOfMemory, Write}
 use Rattle.jc_shell.specs.Running.{Ends, LastText, Ran, Stopped, WrittenBy}
-use Rattle.jc_script.specs.Transcript.{OpenedWorld}
-use Rattle.jc_shell.specs.Holding.{Holds}
-use Rattle.jc_shell.specs.Saving.{Saved, Saves}
-use Rattle.jc_shell.specs.Sessions.{Accepted, Answers, AreAnswered, has_feed, nobody, script_of}
 use Rattle.jc_shell.proofs.Turns.{saves_none, saves_then, script_more}
 
 -- ---- lines after lines
@@ -55,26 +45,11 @@ consumes_then (Some a) None c xs ys p q = absurd p
 consumes_then (Some a) (Some b) None xs ys p q = absurd q
 consumes_then (Some a) (Some b) (Some c) xs ys p q = p ∙ ap (λ (t : List ℕ). xs ++ t) q ∙ sym (append_assoc xs ys c)
 
--- what isn't answered is at the end of what was read
-pub drop_back : (bytes front rest : List ℕ) → bytes ≡ front ++ rest → drop (length bytes - length rest) bytes ≡ rest
-drop_back bytes front rest e =
-    let count : length bytes - length rest ≡ length front = omega (arith, ap length e, length-append front rest) in
-    rw (count, e) (drop_front front rest)
-  where
-    drop_front : (xs ys : List ℕ) → drop (length xs) (xs ++ ys) ≡ ys
-    drop_front xs ys = drop-append_seam xs ys
-
 -- ---- what was written
 
 pub appends_none : (a : Option (List ℕ)) → Appends a a []
 appends_none None = tt
 appends_none (Some xs) = sym (append-nil xs)
-
-pub appends_then : (a b c : Option (List ℕ)) (xs ys : List ℕ) → Appends a b xs → Appends b c ys → Appends a c (xs ++ ys)
-appends_then None b c xs ys p q = tt
-appends_then (Some a) None c xs ys p q = absurd p
-appends_then (Some a) (Some b) None xs ys p q = absurd q
-appends_then (Some a) (Some b) (Some c) xs ys p q = q ∙ ap (λ (t : List ℕ). t ++ ys) p ∙ append_assoc a xs ys
 
 pub written_then : (e : ShellFault) (front said written : List ℕ) → WrittenBy e said written → WrittenBy e (front ++ said) (front ++ written)
 written_then Write front said written (n, le, is) = (
@@ -89,12 +64,7 @@ written_then OutOfMemory front said written is = ap (λ (t : List ℕ). front ++
 -- all that was said so far
 pub written_whole : (e : ShellFault) (said : List ℕ) → WrittenBy e said said
 written_whole Write said = (length said, omega arith, sym (take-length said))
-written_whole Read said = refl
-written_whole TooLong said = refl
-written_whole OutOfMemory said = refl
-
-pub written_part : (said : List ℕ) (n : ℕ) → n ≤ length said → WrittenBy Write said (take n said)
-written_part said n le = (n, le, refl)
+written_whole other said = refl
 
 pub written_more : (said after written : List ℕ) → WrittenBy Write said written → WrittenBy Write (said ++ after) written
 written_more said after written (n, le, is) = (n, omega (arith, le, length-append said after), is ∙ sym (take-append-le n said after le))
@@ -136,24 +106,6 @@ consumes_none : (a : Option (List ℕ)) → Consumes a a []
 consumes_none None = tt
 consumes_none (Some xs) = refl
 
-pub talked_first : (prompt : List ℕ) (reader old new : Option (List ℕ)) (kept : Option (List Saved)) (script : List ℕ) (count : ℕ) (world : OpenedWorld)
-    → Appends old new prompt → Holds nobody script count world → Talked prompt reader reader old new kept kept [] 0 script count world
-talked_first prompt reader old new kept script count world said h = record {
-  lines = [];
-  rest = [];
-  answers = [];
-  more = [];
-  b = nobody;
-  answered = (refl, refl, refl);
-  input_is = refl;
-  at_is = refl;
-  whole = refl;
-  read = consumes_none reader;
-  written = rw (append-nil prompt) said;
-  saves = saves_none kept;
-  holds = h;
-}
-
 -- what isn't answered begins there
 pub rest_at : (front rest bytes input more : List ℕ) (at : ℕ) → input ≡ front ++ rest → at + length rest ≡ length input → more ≡ input ++ bytes
     → drop at more ≡ rest ++ bytes
@@ -188,7 +140,7 @@ talked_next prompt before after later old new newer kept saved latest input byte
       at_is = omega (arith, left_is, ap length all, length-append (script_of (t.lines ++ lines)) rest);
       whole = whole;
       read = rw is (consumes_then before after later input bytes t.read read);
-      written = rw (← append_assoc prompt t.answers answers) (appends_then old new newer (prompt ++ t.answers) answers t.written app);
+      written = rw (← append_assoc prompt t.answers answers) (appends-then old new newer (prompt ++ t.answers) answers t.written app);
       saves = saves_then kept saved latest t.more more t.saves sv;
       holds = h;
     }
@@ -215,7 +167,7 @@ ran_quit prompt before after later old new newer kept saved latest input bytes g
       read = rw (← all, is) taken;
       answered = answered_then prompt t.lines lines t.answers answers t.more more nobody t.b c t.answered are;
       ends = inl (refl, (others, quit));
-      written = rw (append-nil (prompt ++ (t.answers ++ answers)), ← append_assoc prompt t.answers answers) (appends_then old new newer (prompt ++ t.answers) answers t.written app);
+      written = rw (append-nil (prompt ++ (t.answers ++ answers)), ← append_assoc prompt t.answers answers) (appends-then old new newer (prompt ++ t.answers) answers t.written app);
       saves = saves_then kept saved latest t.more more t.saves sv;
     }
 
@@ -223,7 +175,7 @@ pub ran_out : (prompt : List ℕ) (before after later old new newer : Option (Li
     (script : List ℕ) (count : ℕ) (world : OpenedWorld) (text : List ℕ)
     → (t : Talked prompt before after old new kept saved input at script count world)
     → Consumes after later bytes → grown ≡ input ++ bytes → bytes ≡ [] → IsAtEnd later
-    → LastText t.b (drop at grown) text → Appends new newer text
+    → LastText prompt t.b (drop at grown) text → Appends new newer text
     → Ran prompt before later old newer kept saved
 ran_out prompt before after later old new newer kept saved input bytes grown at script count world text t read is none at_end last app =
     let here = rest_at (script_of t.lines) t.rest bytes input grown at t.input_is t.at_is is ∙ ap (λ (xs : List ℕ). t.rest ++ xs) none ∙ append-nil t.rest in
@@ -238,7 +190,7 @@ ran_out prompt before after later old new newer kept saved input bytes grown at 
       read = rw (← all, is) (consumes_then before after later input bytes t.read read);
       answered = t.answered;
       ends = inr (t.whole, rw here at last, at_end);
-      written = appends_then old new newer (prompt ++ t.answers) text t.written app;
+      written = appends-then old new newer (prompt ++ t.answers) text t.written app;
       saves = t.saves;
     }
 
@@ -303,7 +255,7 @@ stopped_answering prompt e before after later old new newer kept saved latest in
       answered = answered_then prompt t.lines lines t.answers answers t.more more nobody t.b c t.answered are;
       ends = inl refl;
       part = rw (append-nil (prompt ++ (t.answers ++ answers)), ← append_assoc prompt t.answers answers) (written_then e (prompt ++ t.answers) answers out part);
-      written = appends_then old new newer (prompt ++ t.answers) out t.written app;
+      written = appends-then old new newer (prompt ++ t.answers) out t.written app;
       saves = saves_then kept saved latest t.more more t.saves sv;
     }
 
@@ -312,7 +264,7 @@ pub stopped_ending : (prompt : List ℕ) (e : ShellFault) (before after later ol
     (script : List ℕ) (count : ℕ) (world : OpenedWorld) (text out : List ℕ)
     → (t : Talked prompt before after old new kept saved input at script count world)
     → Consumes after later bytes → grown ≡ input ++ bytes → bytes ≡ [] → IsAtEnd later
-    → (text ≡ []) ⊎ ((e ≡ Write) × LastText t.b (drop at grown) text) → WrittenBy e text out → Appends new newer out
+    → (text ≡ []) ⊎ ((e ≡ Write) × LastText prompt t.b (drop at grown) text) → WrittenBy e text out → Appends new newer out
     → Stopped prompt e before later old newer kept saved
 stopped_ending prompt e before after later old new newer kept saved input bytes grown at script count world text out t read is none at_end said part app =
     let all = is ∙ ap (λ (xs : List ℕ). input ++ xs) none ∙ append-nil input ∙ t.input_is in
@@ -328,13 +280,13 @@ stopped_ending prompt e before after later old new newer kept saved input bytes 
       answered = t.answered;
       ends = ending said;
       part = written_then e (prompt ++ t.answers) text out part;
-      written = appends_then old new newer (prompt ++ t.answers) out t.written app;
+      written = appends-then old new newer (prompt ++ t.answers) out t.written app;
       saves = t.saves;
     }
   where
     here : drop at grown ≡ t.rest
     here = rest_at (script_of t.lines) t.rest bytes input grown at t.input_is t.at_is is ∙ ap (λ (xs : List ℕ). t.rest ++ xs) none ∙ append-nil t.rest
 
-    ending : (text ≡ []) ⊎ ((e ≡ Write) × LastText t.b (drop at grown) text) → (text ≡ []) ⊎ ((e ≡ Write) × Ends t.b t.rest text later)
+    ending : (text ≡ []) ⊎ ((e ≡ Write) × LastText prompt t.b (drop at grown) text) → (text ≡ []) ⊎ ((e ≡ Write) × Ends prompt t.b t.rest text later)
     ending (inl none_said) = inl none_said
     ending (inr (write, last)) = inr (write, inr (t.whole, rw here at last, at_end))

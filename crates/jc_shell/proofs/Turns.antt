@@ -1,21 +1,8 @@
 -- Sessions: what is answered keeps to the transcript of the accepted lines.
-use Rattle.std.proofs.Common.{◌≡◌, ℕ, ◌+◌, Bool, true, cond, take, Option, List, [], ◌∷◌, ◌++◌, length, None, Some, false, refl, sym, ap, ◌∙◌, append_assoc, append-nil, inl, inr}
-use Rattle.std.proofs.lemmas.Grind.{flat_map-append}
+use Rattle.jc_shell.proofs.Common.{◌≡◌, ℕ, ◌+◌, Bool, true, cond, take, Option, List, [], ◌∷◌, ◌++◌, length, None, Some, false, refl, sym, ap, ◌∙◌, append_assoc, append-nil, inl, inr, flat_map-append, codes, word_of, length-append, OpenedWorld, Prints, IsTranscript, fault_of, Fault, Clean, LineFault, complaint, fault_line, Help, Quit, Save, Line, GoesOn, Holds, Saved, Saves, Accepted, AnswersWord, AreAnswered, IsPlayed, IsTold, has_feed, next_number, nobody, script_of, with_line}
 use Rattle.std.proofs.lemmas.Slice.Eq.{bytes_eq-Decides}
-use Rattle.std.specs.Prelude.{codes}
 use Rattle.std.specs.Str.{bytes_eq}
-use Rattle.jc_shell.specs.ShellWords.{word_of}
-use Rattle.std.proofs.lemmas.List.{length-append}
-use Rattle.jc_script.specs.Transcript.{OpenedWorld, Prints, IsTranscript, fault_of}
-use Rattle.jc_script.specs.declared.fault.Fault.{Fault}
-use Rattle.jc_script.specs.declared.run.RunEnd.TheVariants.{Clean, LineFault}
-use Rattle.jc_script.specs.Places.{complaint}
-use Rattle.jc_script.specs.Printing.{fault_line}
 use Rattle.jc_shell.specs.declared.words.Word.{Word}
-use Rattle.jc_shell.specs.declared.words.Word.TheVariants.{Help, Quit, Save, Line}
-use Rattle.jc_shell.specs.Holding.{GoesOn, Holds}
-use Rattle.jc_shell.specs.Saving.{Saved, Saves}
-use Rattle.jc_shell.specs.Sessions.{Accepted, AnswersWord, AreAnswered, IsPlayed, IsTold, has_feed, next_number, nobody, script_of, with_line}
 use Rattle.jc_shell.proofs.Lines.{at_fault, at_line}
 
 -- ---- what was shown is the transcript
@@ -53,9 +40,6 @@ script_end lines line = sym (append-nil (script_of (lines ++ line ∷ []))) ∙ 
 
 count_more : (lines : List (List ℕ)) (line : List ℕ) → length (lines ++ line ∷ []) ≡ length lines + 1
 count_more lines line = length-append lines (line ∷ [])
-
-pub goes_on_at_first : GoesOn nobody None
-goes_on_at_first = λ rest out end t. t
 
 pub goes_on_after : (a : Accepted) (old new : OpenedWorld) (line text : List ℕ) → has_feed line ≡ false → GoesOn a old → Prints old line text new
     → GoesOn (with_line a line text) new

@@ -1,6 +1,7 @@
 -- Sessions over streams, from the bytes of a reader to the bytes of a writer.
---     LastText     the text for the bytes after the last line feed, at the end of the input: nothing if there are none, otherwise
---                  that the input cuts a line
+--     prompt_end   a line feed, which ends the line of a prompt after which nothing was typed; none without prompts
+--     cut_text     the text for the bytes after the last line feed: nothing if there are none, otherwise that the input cuts a line
+--     LastText     both of them, at the end of the input
 --     Ends         the end of a session: at a line `quit`, or at the end of the input, with such a text
 --     WrittenBy    the part of a text that was written by an error: all of it, or a prefix if it was the writer's
 --     Ran          the input was read up to the session's end, each line of it was answered, and all scripts to be saved were
@@ -15,15 +16,22 @@ use Rattle.jc_shell.specs.declared.run.ShellFault.TheVariants.{Write}
 use Rattle.jc_shell.specs.Saving.{Saved, Saves}
 use Rattle.jc_shell.specs.Sessions.{Accepted, AreAnswered, has_feed, next_number, nobody, script_of}
 
-abbrev pub LastText : Accepted → (last text : List ℕ) → Type 0
-LastText a [] text = text ≡ []
-LastText a (b ∷ bs) text = text ≡ complaint (next_number a) (b ∷ bs) CutLine
+abbrev pub prompt_end : (prompt : List ℕ) → List ℕ
+prompt_end [] = []
+prompt_end (b ∷ bs) = 10 ∷ []
+
+abbrev pub cut_text : (number : ℕ) (last : List ℕ) → List ℕ
+cut_text number [] = []
+cut_text number (b ∷ bs) = complaint number (b ∷ bs) CutLine
+
+abbrev pub LastText : (prompt : List ℕ) → Accepted → (last text : List ℕ) → Type 0
+LastText prompt a last text = text ≡ prompt_end prompt ++ cut_text (next_number a) last
 
 -- after: the bytes that the reader has left; rest: those that were read and aren't answered
-abbrev pub Ends : Accepted → (rest text : List ℕ) (after : Option (List ℕ)) → Type 0
-Ends a rest text after =
+abbrev pub Ends : (prompt : List ℕ) → Accepted → (rest text : List ℕ) (after : Option (List ℕ)) → Type 0
+Ends prompt a rest text after =
     ((text ≡ []) × ((others : List ℕ) × (rest ≡ codes "quit" ++ 10 ∷ others)))
-    ⊎ ((has_feed rest ≡ false) × LastText a rest text × IsAtEnd after)
+    ⊎ ((has_feed rest ≡ false) × LastText prompt a rest text × IsAtEnd after)
 
 abbrev pub WrittenBy : ShellFault → (said written : List ℕ) → Type 0
 WrittenBy Write said written = (count : ℕ) × (count ≤ length said) × (written ≡ take count said)
@@ -39,7 +47,7 @@ pub record Ran (prompt : List ℕ) (before after old new : Option (List ℕ)) (k
   pub accepted : Accepted
   pub read : Consumes before after (script_of lines ++ rest)
   pub answered : AreAnswered prompt nobody lines answers more accepted
-  pub ends : Ends accepted rest text after
+  pub ends : Ends prompt accepted rest text after
   pub written : Appends old new ((prompt ++ answers) ++ text)
   pub saves : Saves kept saved more
 
@@ -53,7 +61,7 @@ pub record Stopped (prompt : List ℕ) (fault : ShellFault) (before after old ne
   pub accepted : Accepted
   pub read : Consumes before after (script_of lines ++ rest)
   pub answered : AreAnswered prompt nobody lines answers more accepted
-  pub ends : (text ≡ []) ⊎ ((fault ≡ Write) × Ends accepted rest text after)
+  pub ends : (text ≡ []) ⊎ ((fault ≡ Write) × Ends prompt accepted rest text after)
   pub part : WrittenBy fault ((prompt ++ answers) ++ text) out
   pub written : Appends old new out
   pub saves : Saves kept saved more

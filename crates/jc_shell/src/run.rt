@@ -3,7 +3,7 @@ ghost use Rattle.std.specs.Prelude.{◌≡◌, ◌≢◌, ◌⊎◌, ◌↔◌, 
 ghost use Rattle.std.specs.Io.KnownBytes.{Appends, Consumes, IsAtEnd};
 ghost use Rattle.jc_script.specs.Transcript.{opened_world};
 ghost use Rattle.jc_shell.specs.Holding.{Holds};
-ghost use Rattle.jc_shell.specs.Running.{LastText, Ran, Stopped, WrittenBy};
+ghost use Rattle.jc_shell.specs.Running.{LastText, Ran, Stopped, WrittenBy, cut_text, prompt_end};
 ghost use Rattle.jc_shell.specs.Saving.{Saved, Saves};
 ghost use Rattle.jc_shell.specs.Sessions.{Accepted, Answers, AreAnswered, has_feed, nobody, script_of};
 ghost use Rattle.jc_shell.specs.ShellWords.{word_of};
@@ -17,7 +17,7 @@ use jc_script::input::write_out;
 use jc_script::noted::Noted;
 use jc_script::run::first_line;
 use jc_types::SCRIPT_MAX;
-use std::alloc::Global;
+use std::alloc::{AllocError, Global};
 use std::io::{Read, Write};
 use thiserror::Error;
 
@@ -113,8 +113,7 @@ fn answer_lines<W: Write, S: Save>(
         × (bytes.now ≡ script_of lines ++ rest)
         × Appends (W.contents writer.old.inner) (W.contents writer.new.inner) answers
         × Saves (S.saved saves.old) (S.saved saves.new) saved
-        × MatchOption left
-        ((others : List ℕ) × (rest ≡ codes "quit" ++ 10 ∷ others))
+        × MatchOption left ((others : List ℕ) × (rest ≡ codes "quit" ++ 10 ∷ others))
         (λ n. (n ≡ length rest) × (has_feed rest ≡ false)
         × Holds b session.new.script.items session.new.lines (opened_world session.new.player.world))) }
     ensures kinds { IfErr result (λ e. (e ≡ ShellFault.Write) ⊎ (e ≡ ShellFault.OutOfMemory)) }
@@ -140,27 +139,69 @@ fn answer_lines<W: Write, S: Save>(
     Ok(Some(rest.len()))
 }
 
-/// Writes that the end of the input cuts a line, if it does.
+/// Ends the line of a prompt after which nothing was typed. Without prompts nobody types, and there is no such line.
+fn end_prompt(prompt: &[u8], out: &mut Vec<u8>) -> Result<(), AllocError>
+    ensures { OnOk result (out.new.items ≡ out.old.items ++ prompt_end prompt.now) }
+{
+    if prompt.is_empty() {
+        return Ok(());
+    }
+    out.push(b'\n')?;
+    Ok(())
+}
+
+/// Tells that the end of the input cuts a line, if it does.
+fn tell_cut(
+    alloc: Global,
+    session: &Session,
+    last: &[u8],
+    out: &mut Vec<u8>,
+) -> Result<(), AllocError>
+    ensures { OnOk result (out.new.items ≡ out.old.items ++ cut_text (session.now.lines + 1) last.now) }
+{
+    if last.is_empty() {
+        return Ok(());
+    }
+    session.tell(alloc, last, Fault::CutLine, out)?;
+    Ok(())
+}
+
+/// The text for the end of the input, after these last bytes.
+fn last_text(
+    alloc: Global,
+    prompt: &[u8],
+    session: &Session,
+    last: &[u8],
+) -> Result<Vec<u8>, AllocError>
+    ensures { IfOk result (λ text. (a : Accepted)
+        → Holds a session.now.script.items session.now.lines (opened_world session.now.player.world)
+        → LastText prompt.now a last.now text.items) }
+{
+    let mut out = Vec::new(alloc);
+    end_prompt(prompt, &mut out)?;
+    tell_cut(alloc, session, last, &mut out)?;
+    Ok(out)
+}
+
+/// Writes the text for the end of the input.
 fn end_input<W: Write>(
     alloc: Global,
+    prompt: &[u8],
     session: &Session,
     last: &[u8],
     writer: &mut Noted<W>,
 ) -> Result<(), ShellFault>
     ensures ok { OnOk result ((a : Accepted) → Holds a session.now.script.items session.now.lines (opened_world session.now.player.world)
-        → (text : List ℕ) × LastText a last.now text × Appends (W.contents writer.old.inner) (W.contents writer.new.inner) text) }
+        → (text : List ℕ) × LastText prompt.now a last.now text
+        × Appends (W.contents writer.old.inner) (W.contents writer.new.inner) text) }
     ensures kinds { IfErr result (λ e. (e ≡ ShellFault.Write) ⊎ (e ≡ ShellFault.OutOfMemory)) }
     ensures err { IfErr result (λ e. (a : Accepted) → Holds a session.now.script.items session.now.lines (opened_world session.now.player.world)
-        → (text : List ℕ) × (written : List ℕ) × ((text ≡ []) ⊎ ((e ≡ ShellFault.Write) × LastText a last.now text))
+        → (text : List ℕ) × (written : List ℕ) × ((text ≡ []) ⊎ ((e ≡ ShellFault.Write) × LastText prompt.now a last.now text))
         × WrittenBy e text written × Appends (W.contents writer.old.inner) (W.contents writer.new.inner) written) }
     ensures failed { writer.old.failed ≡ false → (result ≡ Err ShellFault.Write ↔ writer.new.failed ≡ true) }
 {
-    if last.is_empty() {
-        return Ok(());
-    }
-    let mut out = Vec::new(alloc);
-    match session.tell(alloc, last, Fault::CutLine, &mut out) {
-        Ok(()) => say(writer, &out),
+    match last_text(alloc, prompt, session, last) {
+        Ok(text) => say(writer, &text),
         Err(_) => Err(ShellFault::OutOfMemory),
     }
 }
@@ -190,6 +231,10 @@ fn read_more<R: Read>(reader: &mut Noted<R>, input: &mut Vec<u8>) -> Result<bool
 }
 
 /// Reads lines to the end of the input, and answers each before it reads more.
+///
+/// The bytes written are the answers to the lines that were read, and the scripts saved are those of these lines. After an error
+/// this holds up to there; after a failed write, a prefix of the answers was written. `TooLong` means that the input is over the
+/// limit. Reading failed exactly if the reader did, and writing exactly if the writer did, in this call.
 fn converse<R: Read, W: Write, S: Save>(
     alloc: Global,
     prompt: &[u8],
@@ -199,15 +244,11 @@ fn converse<R: Read, W: Write, S: Save>(
     saves: &mut S,
 ) -> Result<(), ShellFault>
     requires { Holds nobody session.old.script.items session.old.lines (opened_world session.old.player.world) }
-    // The bytes written are the answers to the lines that were read, and the scripts saved are those of these lines.
     ensures ran { OnOk result (Ran prompt.now (R.remaining reader.old.inner) (R.remaining reader.new.inner) (W.contents writer.old.inner)
         (W.contents writer.new.inner) (S.saved saves.old) (S.saved saves.new)) }
-    // After an error this holds up to there; after a failed write, a prefix of the answers was written.
     ensures stopped { IfErr result (λ e. Stopped prompt.now e (R.remaining reader.old.inner) (R.remaining reader.new.inner) (W.contents writer.old.inner)
         (W.contents writer.new.inner) (S.saved saves.old) (S.saved saves.new)) }
-    // `TooLong` means that the input is over the limit.
     ensures long { result ≡ Err ShellFault.TooLong → IfSome (R.remaining reader.old.inner) (λ xs. SCRIPT_MAX < length xs) }
-    // Reading failed exactly if the reader did, and writing exactly if the writer did, in this call.
     ensures read_failed { reader.old.failed ≡ false → (result ≡ Err ShellFault.Read ↔ reader.new.failed ≡ true) }
     ensures write_failed { writer.old.failed ≡ false → (result ≡ Err ShellFault.Write ↔ writer.new.failed ≡ true) }
 {
@@ -220,7 +261,7 @@ fn converse<R: Read, W: Write, S: Save>(
     'reads: while input.len() <= SCRIPT_MAX {
         match read_more(reader, &mut input) {
             Err(fault) => return Err(fault),
-            Ok(false) => return end_input(alloc, session, &input[at..], writer),
+            Ok(false) => return end_input(alloc, prompt, session, &input[at..], writer),
             Ok(true) => {
                 match answer_lines(alloc, prompt, session, &input[at..], writer, saves) {
                     Err(fault) => return Err(fault),
@@ -237,7 +278,8 @@ fn converse<R: Read, W: Write, S: Save>(
 /// reads a line. A line without a fault is played, and its answer is what it prints. A line with a fault does nothing, and its
 /// answer tells the fault. `save NAME` saves the lines that were played, as a script.
 ///
-/// All that was read is answered before more is read, so a person who types gets an answer to each line.
+/// All that was read is answered before more is read, so a person who types gets an answer to each line. If the input ends after a
+/// prompt, a line feed ends the prompt's line.
 pub fn run<R: Read, W: Write, S: Save>(
     alloc: Global,
     prompt: &str,

@@ -11,8 +11,8 @@ ghost use Rattle.jc_shell.specs.declared.words.Word.TheVariants.{Quit};
 use crate::save::Save;
 use crate::words::{HELP, Word, name_in, word_of};
 use jc_script::fault::Fault;
-use jc_script::player::Player;
-use jc_script::print_place::put_complaint;
+use jc_script::play::Player;
+use jc_script::print::place::put_complaint;
 use jc_script::put;
 use std::alloc::{AllocError, Global};
 

@@ -1,7 +1,6 @@
 -- Rows of numbers.
 --     flat_equal     rows that are one list when they are written are the same
-use Rattle.std.proofs.Common.{◌≡◌, ℕ, List, [], ◌∷◌, ◌++◌, length, sym, refl, ap, ◌∙◌, append_assoc, append-nil}
-use Rattle.jc_snapshot.specs.Rows.{framed, flat, AreRows}
+use Rattle.jc_snapshot.proofs.Common.{◌≡◌, ℕ, List, [], ◌∷◌, ◌++◌, length, sym, refl, ap, ◌∙◌, append_assoc, append-nil, framed, flat, AreRows}
 
 -- two lists of one length, each with something behind it
 parts_equal : (xs ys us vs : List ℕ) → length xs ≡ length ys → xs ++ us ≡ ys ++ vs → (xs ≡ ys) × (us ≡ vs)
@@ -63,11 +62,3 @@ rows_push Is (y ∷ xs) (r ∷ rows) x row are is = (are.0, rows_push Is xs rows
 pub flat_push : (rows : List (List ℕ)) (row : List ℕ) → flat (rows ++ row ∷ []) ≡ flat rows ++ framed row
 flat_push [] row = append-nil (framed row)
 flat_push (r ∷ rows) row = ap (λ l. framed r ++ l) (flat_push rows row) ∙ sym (append_assoc (framed r) (flat rows) (framed row))
-
--- rows that are written one by one
-pub three_flat : (a b c : List ℕ) → (([] ++ framed a) ++ framed b) ++ framed c ≡ flat (a ∷ b ∷ c ∷ [])
-three_flat a b c = sym (flat_push (a ∷ b ∷ []) c ∙ ap (λ l. l ++ framed c) (flat_push (a ∷ []) b ∙ ap (λ l. l ++ framed b) (flat_push [] a)))
-
-pub five_flat : (a b c d e : List ℕ) → (((([] ++ framed a) ++ framed b) ++ framed c) ++ framed d) ++ framed e ≡ flat (a ∷ b ∷ c ∷ d ∷ e ∷ [])
-five_flat a b c d e =
-    sym (flat_push (a ∷ b ∷ c ∷ d ∷ []) e ∙ ap (λ l. l ++ framed e) (flat_push (a ∷ b ∷ c ∷ []) d ∙ ap (λ l. l ++ framed d) (sym (three_flat a b c))))

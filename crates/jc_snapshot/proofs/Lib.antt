@@ -1,5 +1,5 @@
+pub mod Common
 mod FlatRows
-mod JoinKeys
 mod OrderedEntries
 mod SnapshotLaws
 mod StripeRows

@@ -2,18 +2,16 @@
 --     tree-insert      the map of a tree with one more entry
 --     tree-entries     the map of a tree has the tree's entries, in its order
 use Rattle.std.specs.Prelude.{T}
-use Rattle.std.proofs.Common.{◌≡◌, List, [], ◌∷◌, true, cond, Some, ap, refl, sym, subst, ◌∙◌, ◌&&◌}
+use Rattle.jc_snapshot.proofs.Common.{◌≡◌, List, [], ◌∷◌, true, cond, Some, ap, refl, sym, subst, ◌∙◌, ◌&&◌, AllByRecursion, IsAntisymmetric, find, is_sorted, from_entries, same_map, get-from_entries, get-from_sorted, get-insert}
 use Rattle.std.specs.declared.cmp.Ordering.{Ordering}
 use Rattle.std.specs.declared.cmp.Ordering.TheVariants.{Less}
 use Rattle.std.specs.Ordering.{eq_by_cmp, is_lt}
-use Rattle.std.specs.List.{AllByRecursion}
 use Rattle.std.specs.List.Sorted.{IsStrictlySortedBy}
 use Rattle.std.specs.Cmp.{IsTotalOrder, eq_by_cmp_equiv}
 use Rattle.std.specs.Map.{keys_of, lookup}
 use Rattle.std.specs.BTreeMap as tree
 use Rattle.std.specs.BTreeMap.{BTreeMap}
 use Rattle.std.specs.FinMap as map
-use Rattle.std.specs.FinMap.{IsAntisymmetric, find, is_sorted, from_entries, same_map, get-from_entries, get-from_sorted, get-insert}
 use Rattle.std.specs.FinMap.Entries.{below_all}
 
 module _ {K X : Type 0} {R : K → K → Ordering} (o : IsTotalOrder R) (exact : IsAntisymmetric R) where

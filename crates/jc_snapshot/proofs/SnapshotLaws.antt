@@ -2,14 +2,8 @@
 --     tell        equal snapshots are of one essence
 --     stay        a snapshot stays one while the tables grow
 --     only        over tables without repetitions there is one
-use Rattle.std.proofs.Common.{◌≡◌, ℕ, List, [], ◌∷◌, Option, Some, None, sym, refl, ap, ◌∙◌, subst}
+use Rattle.jc_snapshot.proofs.Common.{◌≡◌, ℕ, List, [], ◌∷◌, Option, Some, None, sym, refl, ap, ◌∙◌, subst, same_entries_map, WorldState, WorldEssence, Seen, flat, AreRows, bit, last_row, OwnRows, HasOwnRows, rows_of, IsSnapshot, IsStripeRow, IsCallRow, GrowsTo, AreTables}
 use Rattle.std.specs.FinMap as map
-use Rattle.std.specs.FinMap.{same_entries_map}
-use Rattle.jc_world.specs.World.{WorldState}
-use Rattle.jc_world.specs.Essence.{WorldEssence}
-use Rattle.jc_snapshot.specs.declared.seen.Seen.{Seen}
-use Rattle.jc_snapshot.specs.Rows.{flat, AreRows}
-use Rattle.jc_snapshot.specs.Snapshot.{bit, last_row, OwnRows, HasOwnRows, rows_of, IsSnapshot, IsStripeRow, IsCallRow, GrowsTo, AreTables}
 use Rattle.jc_snapshot.specs.Laws.{SnapshotsTell, SnapshotsStay}
 use Rattle.jc_snapshot.proofs.FlatRows.{flat_equal, rows_equal, things_of_rows, rows_stay}
 use Rattle.jc_snapshot.proofs.TableNumbers.{number_stays, numbers_stay, numbers_equal}

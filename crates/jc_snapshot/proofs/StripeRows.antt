@@ -4,50 +4,24 @@
 --     stripe_told, call_told    a row is of one stripe's essence, and of one call
 --     stripe_row_is, call_row_is
 --                               over tables without repetitions there is one row
-use Rattle.std.proofs.Common.{◌≡◌, ℕ, List, [], ◌∷◌, Bool, true, false, Option, Some, None, slice_get, sym, refl, ap, ◌∙◌, subst}
-use Rattle.std.proofs.lemmas.Option.{same_Some}
+use Rattle.jc_snapshot.proofs.Common.{◌≡◌, ℕ, List, [], ◌∷◌, Bool, true, false, Option, Some, None, slice_get, sym, refl, ap, ◌∙◌, subst, same_Some, StripeEssence, Seen, IsNumber, AreNumbers, flat, origin_word, bit, scalars_of, IsStripeRow, head_of, IsCallRow, GrowsTo, AreTables}
 use Rattle.std.specs.FinMap as map
 use Rattle.jc_outside.specs.declared.done.Origin.{Origin}
 use Rattle.jc_outside.specs.declared.done.Origin.TheVariants.{Live, Played}
 use Rattle.jc_world.specs.Calls.{CallState, SweepState, op_found, looked_in}
-use Rattle.jc_world.specs.Essence.{StripeEssence}
 use Rattle.jc_snapshot.specs.declared.heads.CallHead.{CallHead}
-use Rattle.jc_snapshot.specs.declared.seen.Seen.{Seen}
-use Rattle.jc_snapshot.specs.Numbers.{IsNumber, AreNumbers}
-use Rattle.jc_snapshot.specs.Rows.{flat}
-use Rattle.jc_snapshot.specs.Snapshot.{origin_word, bit, scalars_of, IsStripeRow, head_of, IsCallRow, GrowsTo, AreTables}
 use Rattle.jc_snapshot.proofs.FlatRows.{flat_equal}
 use Rattle.jc_snapshot.proofs.TableNumbers.{extends_self, extends_twice, number_stays, numbers_stay, things_equal, numbers_equal}
 
 -- 1. Tables that grow.
 
 pub grows_self : (s : Seen) → GrowsTo s s
-grows_self s = record {
-  configs = extends_self _;
-  premises = extends_self _;
-  entries = extends_self _;
-  reservations = extends_self _;
-  joiners = extends_self _;
-  answers = extends_self _;
-  parts = extends_self _;
-  joins = extends_self _;
-  heads = extends_self _;
-  tasks = extends_self _;
-}
+grows_self s =
+    record { configs = extends_self _; premises = extends_self _; entries = extends_self _; reservations = extends_self _; joiners = extends_self _; answers = extends_self _; parts = extends_self _; joins = extends_self _; heads = extends_self _; tasks = extends_self _ }
 
 pub grows_twice : (s t u : Seen) → GrowsTo s t → GrowsTo t u → GrowsTo s u
-grows_twice s t u g h = record {
-  configs = extends_twice _ _ _ g.configs h.configs;
-  premises = extends_twice _ _ _ g.premises h.premises;
-  entries = extends_twice _ _ _ g.entries h.entries;
-  reservations = extends_twice _ _ _ g.reservations h.reservations;
-  joiners = extends_twice _ _ _ g.joiners h.joiners;
-  answers = extends_twice _ _ _ g.answers h.answers;
-  parts = extends_twice _ _ _ g.parts h.parts;
-  joins = extends_twice _ _ _ g.joins h.joins;
-  heads = extends_twice _ _ _ g.heads h.heads;
-  tasks = extends_twice _ _ _ g.tasks h.tasks;
-}
+grows_twice s t u g h =
+    record { configs = extends_twice _ _ _ g.configs h.configs; premises = extends_twice _ _ _ g.premises h.premises; entries = extends_twice _ _ _ g.entries h.entries; reservations = extends_twice _ _ _ g.reservations h.reservations; joiners = extends_twice _ _ _ g.joiners h.joiners; answers = extends_twice _ _ _ g.answers h.answers; parts = extends_twice _ _ _ g.parts h.parts; joins = extends_twice _ _ _ g.joins h.joins; heads = extends_twice _ _ _ g.heads h.heads; tasks = extends_twice _ _ _ g.tasks h.tasks }
 
 pub stripe_stays : (s t : Seen) → GrowsTo s t → (x : StripeEssence) (row : List ℕ) → IsStripeRow s x row → IsStripeRow t x row
 stripe_stays s t g x row h = record {

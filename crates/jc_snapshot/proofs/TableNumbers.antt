@@ -3,14 +3,9 @@
 --     number_stays, numbers_stay    numbers stay in a longer table
 --     numbers_push                  one more thing, with its number
 --     things_equal, numbers_equal   numbers are of one list of things, and in a table of distinct things these have one list of numbers
---     at_seam                       what is pushed is at the next place
---     distinct_push                 a table with one thing that is new
-use Rattle.std.proofs.Common.{◌≡◌, ℕ, zero, suc, ◌<◌, ◌+◌, List, [], ◌∷◌, ◌++◌, length, Some, slice_get, sym, refl, ap, ◌∙◌, append_assoc, append-nil, take, get_or, add-one}
+use Rattle.jc_snapshot.proofs.Common.{◌≡◌, ℕ, zero, suc, ◌<◌, ◌+◌, List, [], ◌∷◌, ◌++◌, length, Some, slice_get, sym, refl, ap, ◌∙◌, append_assoc, append-nil, take, get_or, add-one, same_Some, map-append, IsNumber, AreNumbers, Extends, IsAbsent, IsDistinctTable}
 use Rattle.std.proofs.Math.Seq.{take-suc}
-use Rattle.std.proofs.lemmas.Option.{same_Some}
-use Rattle.std.proofs.lemmas.List.{map-append}
 use Rattle.jc_types.proofs.CallerLemmas.{stands_on}
-use Rattle.jc_snapshot.specs.Numbers.{IsNumber, AreNumbers, Extends, IsAbsent, IsDistinctTable}
 
 pub extends_self : {A : Type 0} (xs : List A) → Extends xs xs
 extends_self xs = ([], sym (append-nil xs))
@@ -56,23 +51,6 @@ numbers_equal t xs (n ∷ ns) [] d are be = let e = are ∙ sym be in cc
 numbers_equal t [] (n ∷ ns) (m ∷ ms) d are be = cc
 numbers_equal t (x ∷ xs) (n ∷ ns) (m ∷ ms) d are be =
     cons_is _ _ _ _ (d n m x (head_is _ _ _ _ are) (head_is _ _ _ _ be)) (numbers_equal t xs ns ms d (tail_is _ _ _ _ are) (tail_is _ _ _ _ be))
-
-pub at_seam : {A : Type 0} (xs : List A) (x : A) → slice_get (xs ++ x ∷ []) (length xs) ≡ Some x
-at_seam [] x = refl
-at_seam (y ∷ xs) x = at_seam xs x
-
--- what is in a longer list is in the list, or is the last
-at_pushed : {A : Type 0} (P : Type 0) (xs : List A) (x y : A) (n : ℕ) → slice_get (xs ++ x ∷ []) n ≡ Some y → (slice_get xs n ≡ Some y → P) → (n ≡ length xs → x ≡ y → P) → P
-at_pushed P [] x y zero there f g = g refl (same_Some x y there)
-at_pushed P [] x y (suc n) there f g = cc
-at_pushed P (z ∷ xs) x y zero there f g = f there
-at_pushed P (z ∷ xs) x y (suc n) there f g = at_pushed P xs x y n there f (λ e. g (ap (λ k. suc k) e))
-
-pub distinct_push : {A : Type 0} (xs : List A) (x : A) → IsDistinctTable xs → IsAbsent xs x → IsDistinctTable (xs ++ x ∷ [])
-distinct_push xs x d absent = λ n m y there here.
-    at_pushed (n ≡ m) xs x y n there
-    (λ in_n. at_pushed (n ≡ m) xs x y m here (λ in_m. d n m y in_n in_m) (λ last is. absurd (absent n (in_n ∙ ap (λ z. Some z) (sym is)))))
-    (λ first is. at_pushed (n ≡ m) xs x y m here (λ in_m. absurd (absent m (in_m ∙ ap (λ z. Some z) (sym is)))) (λ last also. first ∙ sym last))
 
 -- the things so far, and the next one
 pub take_next : {A : Type 0} (xs : List A) (i : ℕ) (x : A) → i < length xs → x ≡ get_or xs i x → take (i + 1) xs ≡ take i xs ++ x ∷ []

@@ -12,7 +12,7 @@ pub trait Comparable: Copy {
         ensures { IsTrue result ↔ (self.now ≡ other.now) };
 }
 
-/// Things of which no two are the same, each with its place as its number, from 0.
+/// Distinct things, each with its place as its number, from 0.
 #[derive(Drop)]
 pub struct Table<T: Comparable> {
     things: Vec<T>,

@@ -4,12 +4,12 @@
 use Rattle.std.specs.Prelude.{◌+◌, ℕ, min}
 use Rattle.jc_store.specs.declared.doubles.counts.Call.{Call}
 use Rattle.jc_store.specs.declared.doubles.counts.Call.TheVariants.{Load, LoadAll, Write, WriteAll, Delete, DeleteAll}
-use Rattle.jc_store.specs.declared.doubles.counts.Counts.{Counts}
+use Rattle.jc_store.specs.declared.doubles.counts.CallCounts.{CallCounts}
 
 abbrev pub one_more_call : ℕ → ℕ
 one_more_call n = min (n + 1) 18446744073709551615
 
-abbrev pub after_call : Counts → Call → Counts
+abbrev pub after_call : CallCounts → Call → CallCounts
 after_call counts Load = record counts { loads = one_more_call counts.loads }
 after_call counts LoadAll = record counts { load_batches = one_more_call counts.load_batches }
 after_call counts Write = record counts { writes = one_more_call counts.writes }

@@ -11,6 +11,6 @@ mod scheduled_loader;
 mod scheduled_writer;
 
 pub use counting::{Counting, SharedCounts};
-pub use counts::{Call, Counts};
+pub use counts::{Call, CallCounts};
 pub use scheduled_loader::{LoadFault, ScheduledLoader};
 pub use scheduled_writer::{ScheduledWriter, WriteFault};

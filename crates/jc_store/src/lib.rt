@@ -14,7 +14,8 @@ mod store;
 mod writer;
 
 pub use doubles::{
-    Call, Counting, Counts, LoadFault, ScheduledLoader, ScheduledWriter, SharedCounts, WriteFault,
+    Call, CallCounts, Counting, LoadFault, ScheduledLoader, ScheduledWriter, SharedCounts,
+    WriteFault,
 };
 pub use increment::Increment;
 pub use loader::StoreLoader;

@@ -27,8 +27,12 @@
 --                                         of the present generation do
 --     there_behind                        what is in a list is in a longer one, behind what comes before it
 --     adds_whole, gains_whole             a step that is added or gained is in the whole history, and one own step more
+--     ask_found                           a reservation that is found asks what it asked
+--     stands_at                           the place of an event is the number of those before it
 --     may_in_all                          a step that may come after its session's own steps of all generations may come after the whole
 --                                         history
+pub use Rattle.jc_stripe.proofs.Beside.{ask_found}
+pub use Rattle.jc_stripe.proofs.SharedSteps.{stands_at}
 use Rattle.std.proofs.Common.{◌≡◌, ◌==◌, ◌&&◌, ◌||◌, ◌+◌, ℕ, zero, suc, List, [], ◌∷◌, Bool, true, false, cond, not, Option, None, Some, is_none, refl, sym, ap, ◌∙◌, slice_get, append-nil}
 use Rattle.std.specs.Ordering.{eq_by_cmp}
 use Rattle.std.specs.Map.{keys_of}
@@ -58,11 +62,11 @@ use Rattle.jc_inflight.specs.declared.joiner.JoinState.TheVariants.{Answered, Ag
 use Rattle.jc_inflight.specs.Joining.{callers_of}
 use Rattle.jc_inflight.specs.Resolving.{after_resolve}
 use Rattle.jc_inflight.specs.Taking as taking
-use Rattle.jc_stripe.specs.declared.begun.StepDone.{StepDone}
+use Rattle.jc_stripe.specs.Outcomes.{StepDone}
 use Rattle.jc_stripe.specs.declared.ticket.Reservation.{Reservation}
 use Rattle.jc_stripe.specs.Tickets.{JoinClaim, TicketClaim, asks_processor}
 use Rattle.jc_stripe.specs.Refusals.{first_asked, first_by}
-use Rattle.jc_stripe.specs.declared.begun.Begun.TheVariants as begun
+use Rattle.jc_stripe.specs.Outcomes as begun
 use Rattle.jc_stripe.specs.State.{State, IsOut, waits, is_of}
 use Rattle.jc_stripe.specs.Keys.{AreKeys}
 use Rattle.jc_stripe.specs.OrderOfUse.{by_use}

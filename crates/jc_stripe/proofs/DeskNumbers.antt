@@ -22,9 +22,9 @@ use Rattle.jc_stripe.specs.Phases.{MayBegin, Begins, Commits, PicksUp, is_other_
 use Rattle.jc_stripe.specs.Reached.{IsReached}
 use Rattle.jc_stripe.specs.Tickets.{JoinClaim}
 use Rattle.jc_stripe.specs.declared.ticket.Reservation.{Reservation}
-use Rattle.jc_stripe.specs.declared.begun.StepDone.{StepDone}
-use Rattle.jc_stripe.specs.declared.begun.Begun.TheVariants as begun
-use Rattle.jc_stripe.specs.declared.begun.Picked.TheVariants as picked_as
+use Rattle.jc_stripe.specs.Outcomes.{StepDone}
+use Rattle.jc_stripe.specs.Outcomes as begun
+use Rattle.jc_stripe.specs.Polled as polled
 use Rattle.jc_stripe.proofs.CallerLemmas.{adds_one, gains_one}
 use Rattle.jc_stripe.specs.Tests.{is_clear}
 use Rattle.jc_stripe.specs.DeskState.{HasStepsBefore}
@@ -111,7 +111,7 @@ committed steps one old new r out done next low reached before commits phase =
     (adds_one who.session old new event done.place (steps.commits old new r out done reached commits)) (or_last (not (who.session == who.session)) (nat_lt who.call next) (below who.call next low)) (before who.session))
 
 pub picked : (steps : OwnSteps) (one : OnePhase) (old new : State) (join : JoinClaim) (reply : Reply) (place shared_with next : ℕ) → join.caller.call < next
-    → IsReached old → HasStepsBefore old next → PicksUp old join (picked_as.Answer reply place shared_with) new → IsPhaseOf join.caller.session old new → HasStepsBefore new next
+    → IsReached old → HasStepsBefore old next → PicksUp old join (polled.Answer reply place shared_with) new → IsPhaseOf join.caller.session old new → HasStepsBefore new next
 picked steps one old new join reply place shared_with next low reached before picks phase =
     let who = join.caller in
     let gained = steps.picks_up old new join reply place shared_with reached picks in

@@ -3,14 +3,13 @@ use Rattle.std.proofs.Common.{◌≡◌, List, [], length, true, append-nil, ref
 use Rattle.std.specs.List.{list_any}
 use Rattle.jc_model.specs.declared.event.Op.{Op}
 use Rattle.jc_model.specs.declared.event.Out.{Out}
-use Rattle.jc_stripe.specs.declared.begun.StepDone.{StepDone}
+use Rattle.jc_stripe.specs.Outcomes.{StepDone, Begun}
+use Rattle.jc_stripe.specs.Polled.{Polled}
 use Rattle.jc_model.specs.Cache.{Bytes, entry_at}
 use Rattle.jc_model.specs.Group.{events_of, nothing_said}
 use Rattle.jc_inflight.specs.Joining.{callers_of}
-use Rattle.jc_stripe.specs.declared.begun.Begun.{Begun}
-use Rattle.jc_stripe.specs.declared.begun.Begun.TheVariants as begun
-use Rattle.jc_stripe.specs.declared.begun.Picked.{Picked}
-use Rattle.jc_stripe.specs.declared.begun.Picked.TheVariants as picked
+use Rattle.jc_stripe.specs.Outcomes as begun
+use Rattle.jc_stripe.specs.Polled as polled
 use Rattle.jc_stripe.specs.Tickets.{JoinClaim}
 use Rattle.jc_stripe.specs.State.{State, is_key, is_reserved, without_reservation, without_key}
 use Rattle.jc_stripe.specs.Phases.{new_group, after_commit, Steps, Begins, Commits, Withdraws, PicksUp}
@@ -53,10 +52,10 @@ commits_on old new r out done h =
 pub withdraws_on : (old new : State) (r : Reservation) → Withdraws old r new → Extends old new
 withdraws_on old new r h = same_on old new _ h.1 (record { config = refl; stripe = refl; origin = refl; lives = refl; ended = refl; opening = refl }) refl
 
-pub picks_up_on : (old new : State) (join : JoinClaim) (p : Picked) → PicksUp old join p new → Extends old new
-picks_up_on old new join (picked.Answer reply place shared) h = same_on old new _ h.3 (record { config = refl; stripe = refl; origin = refl; lives = refl; ended = refl; opening = refl }) refl
-picks_up_on old new join picked.Again h = same_on old new _ h.2 (record { config = refl; stripe = refl; origin = refl; lives = refl; ended = refl; opening = refl }) refl
-picks_up_on old new join (picked.NotYet back) h = same_on old new _ h.3 (record { config = refl; stripe = refl; origin = refl; lives = refl; ended = refl; opening = refl }) refl
+pub picks_up_on : (old new : State) (join : JoinClaim) (p : Polled) → PicksUp old join p new → Extends old new
+picks_up_on old new join (polled.Answer reply place shared) h = same_on old new _ h.3 (record { config = refl; stripe = refl; origin = refl; lives = refl; ended = refl; opening = refl }) refl
+picks_up_on old new join polled.Again h = same_on old new _ h.2 (record { config = refl; stripe = refl; origin = refl; lives = refl; ended = refl; opening = refl }) refl
+picks_up_on old new join (polled.NotYet back) h = same_on old new _ h.3 (record { config = refl; stripe = refl; origin = refl; lives = refl; ended = refl; opening = refl }) refl
 
 -- 2. The entry of a reserved key stays.
 
@@ -86,7 +85,7 @@ commits_keeps old new r out done q reached h there =
 pub withdraws_keeps : (old new : State) (r : Reservation) → Withdraws old r new → new.cache ≡ old.cache
 withdraws_keeps old new r h = ap (λ (s : State). s.cache) h.1
 
-pub picks_up_keeps : (old new : State) (join : JoinClaim) (p : Picked) → PicksUp old join p new → new.cache ≡ old.cache
-picks_up_keeps old new join (picked.Answer reply place shared) h = ap (λ (s : State). s.cache) h.3
-picks_up_keeps old new join picked.Again h = ap (λ (s : State). s.cache) h.2
-picks_up_keeps old new join (picked.NotYet back) h = ap (λ (s : State). s.cache) h.3
+pub picks_up_keeps : (old new : State) (join : JoinClaim) (p : Polled) → PicksUp old join p new → new.cache ≡ old.cache
+picks_up_keeps old new join (polled.Answer reply place shared) h = ap (λ (s : State). s.cache) h.3
+picks_up_keeps old new join polled.Again h = ap (λ (s : State). s.cache) h.2
+picks_up_keeps old new join (polled.NotYet back) h = ap (λ (s : State). s.cache) h.3

@@ -22,7 +22,7 @@ use Rattle.jc_inflight.specs.Resolving.{with_answer, answered_from, after_resolv
 use Rattle.jc_inflight.specs.Dissolving.{after_dissolve}
 use Rattle.jc_inflight.specs.Taking as taking
 use Rattle.jc_stripe.specs.declared.ticket.Reservation.{Reservation}
-use Rattle.jc_stripe.specs.declared.begun.StepDone.{StepDone}
+use Rattle.jc_stripe.specs.Outcomes.{StepDone}
 use Rattle.jc_stripe.specs.State.{State, is_key}
 use Rattle.jc_stripe.specs.Phases.{new_group, after_commit, is_other_join, Steps, Commits}
 use Rattle.jc_stripe.specs.Reached.{IsReached, are_apart}

@@ -24,7 +24,7 @@ use Rattle.jc_inflight.specs.declared.joiner.Joiner.{Joiner}
 use Rattle.jc_inflight.specs.declared.joiner.JoinState.TheVariants.{Answered}
 use Rattle.jc_inflight.specs.Joining.{belongs_to}
 use Rattle.jc_inflight.specs.Taking as taking
-use Rattle.jc_stripe.specs.declared.begun.Picked.TheVariants as picked
+use Rattle.jc_stripe.specs.Polled as polled
 use Rattle.jc_stripe.specs.Tickets.{JoinClaim}
 use Rattle.jc_stripe.specs.State.{State}
 use Rattle.jc_stripe.specs.Phases.{is_other_join, PicksUp}
@@ -126,7 +126,7 @@ split_at [] place e h = cc
 split_at (x ∷ xs) zero e h = let is : x ≡ e = cc in ([], xs, ap (λ y. y ∷ xs) is)
 split_at (x ∷ xs) (suc place) e h = let r = split_at xs place e h in (x ∷ r.0, r.1, ap (λ ys. x ∷ ys) r.2)
 
-pub picks_own : (old new : State) (join : JoinClaim) (reply : Reply) (place shared : ℕ) → IsReached old → PicksUp old join (picked.Answer reply place shared) new
+pub picks_own : (old new : State) (join : JoinClaim) (reply : Reply) (place shared : ℕ) → IsReached old → PicksUp old join (polled.Answer reply place shared) new
     → (out : Out) × GainsOwn join.caller.session old new (Step join.caller Get join.key out (Some shared) reply) place
 picks_own old new join reply place shared reached h =
     let c : Caller = join.caller in

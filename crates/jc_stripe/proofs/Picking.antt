@@ -20,7 +20,7 @@ use Rattle.jc_inflight.specs.Taking as taking
 use Rattle.jc_inflight.proofs.CallerLemmas.{belongs_to_same, after_take_over, after_take_waiting, count-cons}
 use Rattle.jc_stripe.specs.Tickets.{JoinClaim}
 use Rattle.jc_stripe.specs.State.{State, IsJoined, waits}
-use Rattle.jc_stripe.specs.declared.begun.Picked.TheVariants as picked
+use Rattle.jc_stripe.specs.Polled as polled
 use Rattle.jc_stripe.specs.declared.stripe.Stripe.TheInside.{Inside}
 use Rattle.jc_stripe.specs.Inside.{IsStripe, state_of}
 use Rattle.jc_stripe.specs.Phases.{PicksUp, is_other_join, told_to, IsSharedStep}
@@ -137,7 +137,7 @@ reply_same event caller key out shared told reply is h = same told reply (sym (a
     same x y h = cc
 
 pub took_answer : (old new : State) (join : JoinClaim) (place shared : ℕ) (reply : Reply) (events : List Event) → IsJoined old join → told_to old join ≡ Some (Answered place shared) → HasToldStep old join (Answered place shared)
-    → new ≡ after_pick_up old join (Answered place shared) → events ≡ new.history → Some reply ≡ reply_in (slice_get events place) → PicksUp old join (picked.Answer reply place shared) new
+    → new ≡ after_pick_up old join (Answered place shared) → events ≡ new.history → Some reply ≡ reply_in (slice_get events place) → PicksUp old join (polled.Answer reply place shared) new
 took_answer old new join place shared reply events joined heard step left same replied =
     let events_are : events ≡ old.history = same ∙ ap (λ (s : State). s.history) left in
     let is = reply_same (slice_get old.history place) join.caller join.key step.1.0 shared step.0 reply step.1.1 (replied ∙ ap (λ es. reply_in (slice_get es place)) events_are) in

@@ -164,6 +164,19 @@ alone_passes state key op nobody free =
     let joined = joins_some (load_joined state key op) (either (answers_at_once state.config op (entry_at state.cache key)) (is_some (load_joined state key op)) (not-false _ free) e) in
     is_loader _ nobody (joins_known state key op joined.0 joined.1).asks _)
 
+-- a call that asks nobody needs its key free unless it answers at once
+pub alone_needs : (state : State) (key : Bytes) (op : Op) → first_asked state.config op (entry_at state.cache key) ≡ Nobody → needs_free_key state key op ≡ not (answers_at_once state.config op (entry_at state.cache key))
+alone_needs state key op nobody =
+    by (load_joined state key op) (λ load joins. is_loader _ nobody (joins_known state key op load joins).asks _)
+  where
+    or_false : (b : Bool) → (b || false) ≡ b
+    or_false true = refl
+    or_false false = refl
+
+    by : (o : Option ℕ) → ((load : ℕ) → o ≡ Some load → ⊥) → not (answers_at_once state.config op (entry_at state.cache key) || is_some o) ≡ not (answers_at_once state.config op (entry_at state.cache key))
+    by None h = ap not (or_false _)
+    by (Some load) h = absurd (h load refl)
+
 -- a call that needs a reservation needs its key free
 pub needing_stops : (state : State) (key : Bytes) (op : Op) → needs_reservation state key op ≡ true → needs_free_key state key op ≡ true
 needing_stops state key op needs =

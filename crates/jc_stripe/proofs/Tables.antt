@@ -22,8 +22,8 @@ use Rattle.jc_inflight.specs.declared.joiner.JoinState.TheVariants.{Waiting, Aga
 use Rattle.jc_inflight.specs.Joining.{belongs_to, waits_for}
 use Rattle.jc_inflight.specs.Dissolving.{after_dissolve}
 use Rattle.jc_inflight.proofs.CallerLemmas.{calls-after_dissolve, count-cons}
-use Rattle.jc_stripe.specs.declared.begun.Picked.{Picked}
-use Rattle.jc_stripe.specs.declared.begun.Picked.TheVariants as picked
+use Rattle.jc_stripe.specs.Polled.{Polled}
+use Rattle.jc_stripe.specs.Polled as polled
 use Rattle.jc_stripe.specs.declared.ticket.First.{First}
 use Rattle.jc_stripe.specs.Tickets.{JoinClaim}
 use Rattle.jc_stripe.specs.State.{State, is_of as is_own_key, is_reserved, new_reservation, with_reservation, without_key, waits, promised, IsOut}
@@ -276,7 +276,7 @@ reached_left state join old =
       between = between_kept state.reservations stays state.joiners old.between;
     })
 
-pub reached_picked : (old new : State) (join : JoinClaim) (p : Picked) → IsReached old → PicksUp old join p new → IsReached new
-reached_picked old new join (picked.Answer reply place shared) reached h = subst IsReached (sym h.3) (reached_left old join reached)
-reached_picked old new join picked.Again reached h = subst IsReached (sym h.2) (reached_left old join reached)
-reached_picked old new join (picked.NotYet back) reached h = subst IsReached (sym h.3) reached
+pub reached_picked : (old new : State) (join : JoinClaim) (p : Polled) → IsReached old → PicksUp old join p new → IsReached new
+reached_picked old new join (polled.Answer reply place shared) reached h = subst IsReached (sym h.3) (reached_left old join reached)
+reached_picked old new join polled.Again reached h = subst IsReached (sym h.2) (reached_left old join reached)
+reached_picked old new join (polled.NotYet back) reached h = subst IsReached (sym h.3) reached

@@ -12,11 +12,10 @@ use Rattle.jc_inflight.specs.Joining as joining
 use Rattle.jc_inflight.specs.Resolving.{after_resolve}
 use Rattle.jc_inflight.specs.Dissolving.{after_dissolve}
 use Rattle.jc_inflight.specs.Taking as taking
-use Rattle.jc_stripe.specs.declared.begun.Begun.{Begun}
-use Rattle.jc_stripe.specs.declared.begun.StepDone.{StepDone}
-use Rattle.jc_stripe.specs.declared.begun.Begun.TheVariants as first
-use Rattle.jc_stripe.specs.declared.begun.Picked.{Picked}
-use Rattle.jc_stripe.specs.declared.begun.Picked.TheVariants as last
+use Rattle.jc_stripe.specs.Outcomes.{Begun, StepDone}
+use Rattle.jc_stripe.specs.Polled.{Polled}
+use Rattle.jc_stripe.specs.Outcomes as first
+use Rattle.jc_stripe.specs.Polled as last
 use Rattle.jc_stripe.specs.Tickets.{JoinClaim}
 use Rattle.jc_stripe.specs.State.{State}
 use Rattle.jc_stripe.specs.Phases.{new_group, after_commit, Begins, PicksUp, Steps, without_joiner}
@@ -124,12 +123,12 @@ others_left other old new join differs is =
     ∙ own-parked other old.joiners (taking.without_joiner join.caller join.key old.joiners) old.history
     (λ c k e. parked-without join.caller join.key old.joiners c k (ap (λ t. t == join.caller.session) (eqb-true c.session other e) ∙ differs))
 
-others_picked : (other : ℕ) (old new : State) (join : JoinClaim) (picked : Picked) → (other == join.caller.session) ≡ false → PicksUp old join picked new → own_steps other new ≡ own_steps other old
+others_picked : (other : ℕ) (old new : State) (join : JoinClaim) (picked : Polled) → (other == join.caller.session) ≡ false → PicksUp old join picked new → own_steps other new ≡ own_steps other old
 others_picked other old new join (last.Answer reply place shared) differs h = others_left other old new join differs h.3
 others_picked other old new join last.Again differs h = others_left other old new join differs h.2
 others_picked other old new join (last.NotYet back) differs h = ap (λ (s : State). own_steps other s) h.3
 
-next_picked : (old new : State) (join : JoinClaim) (picked : Picked) → PicksUp old join picked new → old.next ≤ new.next
+next_picked : (old new : State) (join : JoinClaim) (picked : Polled) → PicksUp old join picked new → old.next ≤ new.next
 next_picked old new join (last.Answer reply place shared) h = let n = ap (λ (s : State). s.next) h.3 in omega arith
 next_picked old new join last.Again h = let n = ap (λ (s : State). s.next) h.2 in omega arith
 next_picked old new join (last.NotYet back) h = let n = ap (λ (s : State). s.next) h.3 in omega arith

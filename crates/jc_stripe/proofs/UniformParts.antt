@@ -21,10 +21,10 @@ use Rattle.jc_inflight.specs.Dissolving.{after_dissolve}
 use Rattle.jc_inflight.specs.declared.joiner.JoinState.TheVariants.{Again}
 use Rattle.jc_inflight.specs.Taking as taking
 use Rattle.jc_stripe.specs.declared.ticket.Reservation.{Reservation}
-use Rattle.jc_stripe.specs.declared.begun.Begun.{Begun}
-use Rattle.jc_stripe.specs.declared.begun.Begun.TheVariants as begun
-use Rattle.jc_stripe.specs.declared.begun.Picked.{Picked}
-use Rattle.jc_stripe.specs.declared.begun.Picked.TheVariants as picked
+use Rattle.jc_stripe.specs.Outcomes.{Begun}
+use Rattle.jc_stripe.specs.Polled.{Polled}
+use Rattle.jc_stripe.specs.Outcomes as begun
+use Rattle.jc_stripe.specs.Polled as polled
 use Rattle.jc_stripe.specs.Tickets.{TicketClaim, JoinClaim}
 use Rattle.jc_stripe.specs.State.{State, is_key, is_reserved, without_key}
 use Rattle.jc_stripe.specs.Phases.{MayBegin, Begins, PicksUp}
@@ -49,10 +49,10 @@ own_begun law old new caller key op (begun.Asks ticket) may h = inl (law.reserve
 own_begun law old new caller key op (begun.Joined join) may h = inl (law.joins old new caller key op join h)
 own_begun law old new caller key op (begun.Refused refusal) may h = inl (law.refused old new caller key op refusal h)
 
-own_picked : OwnSteps → (old new : State) (join : JoinClaim) (p : Picked) → IsReached old → PicksUp old join p new → Own join.caller.session old new
-own_picked law old new join (picked.Answer reply place shared) reached h = let g = law.picks_up old new join reply place shared reached h in inr (Step join.caller Get join.key g.0 (Some shared) reply, place, g.1)
-own_picked law old new join picked.Again reached h = inl (law.again old new join reached h)
-own_picked law old new join (picked.NotYet back) reached h = inl (law.not_yet old new join back h)
+own_picked : OwnSteps → (old new : State) (join : JoinClaim) (p : Polled) → IsReached old → PicksUp old join p new → Own join.caller.session old new
+own_picked law old new join (polled.Answer reply place shared) reached h = let g = law.picks_up old new join reply place shared reached h in inr (Step join.caller Get join.key g.0 (Some shared) reply, place, g.1)
+own_picked law old new join polled.Again reached h = inl (law.again old new join reached h)
+own_picked law old new join (polled.NotYet back) reached h = inl (law.not_yet old new join back h)
 
 pub uniform_own : OwnSteps → (session : ℕ) (old new : State) → IsReached old → IsPhaseOf session old new → Own session old new
 uniform_own law session old new reached phase =
@@ -129,10 +129,10 @@ held_begun session old new caller key op (begun.Asks ticket) own h =
 held_begun session old new caller key op (begun.Joined join) own h = ap (λ (s : State). others_held session s.reservations) h.3
 held_begun session old new caller key op (begun.Refused refusal) own h = ap (λ (s : State). others_held session s.reservations) h.1
 
-held_picked : (session : ℕ) (old new : State) (join : JoinClaim) (p : Picked) → PicksUp old join p new → others_held session new.reservations ≡ others_held session old.reservations
-held_picked session old new join (picked.Answer reply place shared) h = ap (λ (s : State). others_held session s.reservations) h.3
-held_picked session old new join picked.Again h = ap (λ (s : State). others_held session s.reservations) h.2
-held_picked session old new join (picked.NotYet back) h = ap (λ (s : State). others_held session s.reservations) h.3
+held_picked : (session : ℕ) (old new : State) (join : JoinClaim) (p : Polled) → PicksUp old join p new → others_held session new.reservations ≡ others_held session old.reservations
+held_picked session old new join (polled.Answer reply place shared) h = ap (λ (s : State). others_held session s.reservations) h.3
+held_picked session old new join polled.Again h = ap (λ (s : State). others_held session s.reservations) h.2
+held_picked session old new join (polled.NotYet back) h = ap (λ (s : State). others_held session s.reservations) h.3
 
 pub uniform_reservations : (session : ℕ) (old new : State) → IsReached old → IsPhaseOf session old new → others_held session new.reservations ≡ others_held session old.reservations
 uniform_reservations session old new reached phase =
@@ -190,10 +190,10 @@ joins_begun session old new caller key op (begun.Joined join) own h =
     ap (λ (s : State). others_joined session s.joiners) h.3 ∙ joined_pushed session join.caller join.key join.load old.joiners (ap (λ (j : JoinClaim). j.caller.session) h.2 ∙ own)
 joins_begun session old new caller key op (begun.Refused refusal) own h = ap (λ (s : State). others_joined session s.joiners) h.1
 
-joins_picked : (session : ℕ) (old new : State) (join : JoinClaim) (p : Picked) → join.caller.session ≡ session → PicksUp old join p new → others_joined session new.joiners ≡ others_joined session old.joiners
-joins_picked session old new join (picked.Answer reply place shared) own h = ap (λ (s : State). others_joined session s.joiners) h.3 ∙ joined_without session join.caller join.key old.joiners own
-joins_picked session old new join picked.Again own h = ap (λ (s : State). others_joined session s.joiners) h.2 ∙ joined_without session join.caller join.key old.joiners own
-joins_picked session old new join (picked.NotYet back) own h = ap (λ (s : State). others_joined session s.joiners) h.3
+joins_picked : (session : ℕ) (old new : State) (join : JoinClaim) (p : Polled) → join.caller.session ≡ session → PicksUp old join p new → others_joined session new.joiners ≡ others_joined session old.joiners
+joins_picked session old new join (polled.Answer reply place shared) own h = ap (λ (s : State). others_joined session s.joiners) h.3 ∙ joined_without session join.caller join.key old.joiners own
+joins_picked session old new join polled.Again own h = ap (λ (s : State). others_joined session s.joiners) h.2 ∙ joined_without session join.caller join.key old.joiners own
+joins_picked session old new join (polled.NotYet back) own h = ap (λ (s : State). others_joined session s.joiners) h.3
 
 pub uniform_joins : (session : ℕ) (old new : State) → IsPhaseOf session old new → others_joined session new.joiners ≡ others_joined session old.joiners
 uniform_joins session old new phase =

@@ -27,7 +27,7 @@ use Rattle.jc_model.proofs.CallerLemmas.{get-with_entry, get-without}
 use Rattle.jc_entries.specs.ByUse.{is_pinned}
 use Rattle.jc_stripe.specs.declared.ticket.Reservation.{Reservation}
 use Rattle.jc_stripe.specs.declared.begun.Eviction.{Eviction}
-use Rattle.jc_stripe.specs.declared.begun.StepDone.{StepDone}
+use Rattle.jc_stripe.specs.Outcomes.{StepDone}
 use Rattle.jc_stripe.specs.State.{State, is_key, without_key}
 use Rattle.jc_stripe.specs.OrderOfUse.{by_use, pinned, least_used, next_victim}
 use Rattle.jc_stripe.specs.Phases.{Steps, Commits, own_cause, inserts_here, overflows, victim, new_group, after_commit}

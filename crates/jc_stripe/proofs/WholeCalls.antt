@@ -23,7 +23,7 @@ use Rattle.jc_inflight.specs.Joining.{is_waiting, waits_for, callers_of}
 use Rattle.jc_inflight.specs.Resolving.{with_answer, answered_from}
 use Rattle.jc_stripe.specs.declared.ticket.First.{First}
 use Rattle.jc_stripe.specs.declared.ticket.Reservation.{Reservation}
-use Rattle.jc_stripe.specs.declared.begun.StepDone.{StepDone}
+use Rattle.jc_stripe.specs.Outcomes.{StepDone}
 use Rattle.jc_stripe.specs.Tickets.{TicketClaim}
 use Rattle.jc_stripe.specs.State.{State, is_key, is_reserved, reservation_of, new_reservation, with_reservation, without_key}
 use Rattle.jc_stripe.specs.Refusals.{needs_reservation}

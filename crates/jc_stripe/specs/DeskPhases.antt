@@ -43,9 +43,9 @@ use Rattle.jc_inflight.specs.declared.joiner.Joiner.{Joiner}
 use Rattle.jc_inflight.specs.Joining.{belongs_to, callers_of}
 use Rattle.jc_stripe.specs.declared.ticket.First.{First}
 use Rattle.jc_stripe.specs.declared.ticket.Reservation.{Reservation}
-use Rattle.jc_stripe.specs.declared.begun.StepDone.{StepDone}
-use Rattle.jc_stripe.specs.declared.begun.Begun.TheVariants as begun
-use Rattle.jc_stripe.specs.declared.begun.Picked.TheVariants as picked
+use Rattle.jc_stripe.specs.Outcomes.{StepDone}
+use Rattle.jc_stripe.specs.Outcomes as begun
+use Rattle.jc_stripe.specs.Polled as polled
 use Rattle.jc_stripe.specs.declared.desk.answers.FirstAnswer.{FirstAnswer}
 use Rattle.jc_stripe.specs.declared.desk.answers.FirstAnswer.TheVariants as first_answer
 use Rattle.jc_stripe.specs.declared.desk.answers.CommitDone.{CommitDone}
@@ -169,9 +169,9 @@ pub record WithdrawsAtDesk (old : DeskState) (number : ℕ) (new : DeskState) : 
   pub rest : new ≡ record old { stripe = new.stripe }
 
 abbrev pub PicksUpAtDesk : DeskState → JoinClaim → Reply → PickUpAnswer → DeskState → Type 0
-PicksUpAtDesk old join reply (pick_up_answer.Answer place shared_with) new = PicksUp old.stripe join (picked.Answer reply place shared_with) new.stripe × (new ≡ record old { stripe = new.stripe })
-PicksUpAtDesk old join reply pick_up_answer.Again new = PicksUp old.stripe join picked.Again new.stripe × (new ≡ record old { stripe = new.stripe })
-PicksUpAtDesk old join reply pick_up_answer.NotYet new = PicksUp old.stripe join (picked.NotYet join) new.stripe × (new ≡ record old { stripe = new.stripe })
+PicksUpAtDesk old join reply (pick_up_answer.Answer place shared_with) new = PicksUp old.stripe join (polled.Answer reply place shared_with) new.stripe × (new ≡ record old { stripe = new.stripe })
+PicksUpAtDesk old join reply pick_up_answer.Again new = PicksUp old.stripe join polled.Again new.stripe × (new ≡ record old { stripe = new.stripe })
+PicksUpAtDesk old join reply pick_up_answer.NotYet new = PicksUp old.stripe join (polled.NotYet join) new.stripe × (new ≡ record old { stripe = new.stripe })
 PicksUpAtDesk old join reply pick_up_answer.Misuse new = (new ≡ old) × (is_join_out old.stripe join ≡ false)
 
 abbrev pub is_pick_up_misuse : PickUpAnswer → Bool

@@ -8,7 +8,7 @@ use Rattle.jc_entries.specs.MostRecent.{most_recent}
 use Rattle.jc_stripe.specs.State.{State}
 use Rattle.jc_stripe.specs.OrderOfUse.{by_use}
 use Rattle.jc_stripe.specs.Phases.{Begins, hit_done}
-use Rattle.jc_stripe.specs.declared.begun.Begun.TheVariants as begun
+use Rattle.jc_stripe.specs.Outcomes as begun
 
 pub record IsHit (old : State) (caller : Caller) (key : Bytes) (new : State) : Type 0 where
   pub value : Bytes

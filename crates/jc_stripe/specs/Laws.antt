@@ -15,9 +15,8 @@ use Rattle.jc_model.specs.declared.event.Out.{Out}
 use Rattle.jc_model.specs.Cache.{Bytes, entry_at}
 use Rattle.jc_model.specs.Legal.{Legal}
 use Rattle.jc_stripe.specs.declared.ticket.Reservation.{Reservation}
-use Rattle.jc_stripe.specs.declared.begun.Begun.{Begun}
-use Rattle.jc_stripe.specs.declared.begun.StepDone.{StepDone}
-use Rattle.jc_stripe.specs.declared.begun.Picked.{Picked}
+use Rattle.jc_stripe.specs.Outcomes.{Begun, StepDone}
+use Rattle.jc_stripe.specs.Polled.{Polled}
 use Rattle.jc_stripe.specs.Tickets.{JoinClaim}
 use Rattle.jc_stripe.specs.State.{State, is_reserved, without_reservation}
 use Rattle.jc_stripe.specs.Phases.{MayBegin, Begins, Commits, Withdraws, PicksUp}
@@ -27,7 +26,7 @@ pub record StaysReached : Type 0 where
   pub begins : (old new : State) (caller : Caller) (key : Bytes) (op : Op) (b : Begun) → IsReached old → MayBegin old caller key → Begins old caller key op b new → IsReached new
   pub commits : (old new : State) (r : Reservation) (out : Out) (done : StepDone) → IsReached old → Commits old r out done new → IsReached new
   pub withdraws : (old new : State) (r : Reservation) → IsReached old → Withdraws old r new → IsReached new
-  pub picks_up : (old new : State) (join : JoinClaim) (p : Picked) → IsReached old → PicksUp old join p new → IsReached new
+  pub picks_up : (old new : State) (join : JoinClaim) (p : Polled) → IsReached old → PicksUp old join p new → IsReached new
 
 abbrev pub OpenedIsReached : Type 0
 OpenedIsReached = (state : State) → IsOpened state → IsReached state
@@ -54,10 +53,10 @@ pub record Grows : Type 0 where
   pub begins : (old new : State) (caller : Caller) (key : Bytes) (op : Op) (b : Begun) → Begins old caller key op b new → Extends old new
   pub commits : (old new : State) (r : Reservation) (out : Out) (done : StepDone) → Commits old r out done new → Extends old new
   pub withdraws : (old new : State) (r : Reservation) → Withdraws old r new → Extends old new
-  pub picks_up : (old new : State) (join : JoinClaim) (p : Picked) → PicksUp old join p new → Extends old new
+  pub picks_up : (old new : State) (join : JoinClaim) (p : Polled) → PicksUp old join p new → Extends old new
 
 pub record KeepsReserved : Type 0 where
   pub begins : (old new : State) (caller : Caller) (key : Bytes) (op : Op) (b : Begun) (q : Bytes) → IsReached old → Begins old caller key op b new → is_reserved old q ≡ true → entry_at new.cache q ≡ entry_at old.cache q
   pub commits : (old new : State) (r : Reservation) (out : Out) (done : StepDone) (q : Bytes) → IsReached old → Commits old r out done new → is_reserved (without_reservation old r.key) q ≡ true → entry_at new.cache q ≡ entry_at old.cache q
   pub withdraws : (old new : State) (r : Reservation) → Withdraws old r new → new.cache ≡ old.cache
-  pub picks_up : (old new : State) (join : JoinClaim) (p : Picked) → PicksUp old join p new → new.cache ≡ old.cache
+  pub picks_up : (old new : State) (join : JoinClaim) (p : Polled) → PicksUp old join p new → new.cache ≡ old.cache

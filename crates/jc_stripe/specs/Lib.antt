@@ -6,6 +6,8 @@ pub mod Occurrences
 pub mod Generations
 pub mod Refusals
 pub mod Finding
+pub mod Outcomes
+pub mod Polled
 pub mod Phases
 pub mod Effects
 pub mod Reached

@@ -28,9 +28,8 @@ use Rattle.jc_inflight.specs.declared.joiner.JoinState.{JoinState}
 use Rattle.jc_inflight.specs.declared.joiner.JoinState.TheVariants.{Waiting, Answered, Again}
 use Rattle.jc_inflight.specs.Joining.{belongs_to}
 use Rattle.jc_stripe.specs.declared.ticket.Reservation.{Reservation}
-use Rattle.jc_stripe.specs.declared.begun.Begun.{Begun}
-use Rattle.jc_stripe.specs.declared.begun.StepDone.{StepDone}
-use Rattle.jc_stripe.specs.declared.begun.Picked.{Picked}
+use Rattle.jc_stripe.specs.Outcomes.{Begun, StepDone}
+use Rattle.jc_stripe.specs.Polled.{Polled}
 use Rattle.jc_stripe.specs.Tickets.{JoinClaim}
 use Rattle.jc_stripe.specs.State.{State, is_reserved}
 use Rattle.jc_stripe.specs.Phases.{MayBegin, Begins, Commits, Withdraws, PicksUp}
@@ -62,7 +61,7 @@ pub record Withdrawal (session : ℕ) (old new : State) : Type 0 where
 
 pub record PickUp (session : ℕ) (old new : State) : Type 0 where
   pub join : JoinClaim
-  pub picked : Picked
+  pub picked : Polled
   pub own : join.caller.session ≡ session
   pub picks_up : PicksUp old join picked new
 

@@ -13,14 +13,14 @@ use Rattle.std.specs.Prelude.{List, [], ◌∷◌, map, Bool, true, false, ◌&&
 use Rattle.std.specs.FinMap as finite
 use Rattle.std.specs.FinMap.{len}
 use Rattle.jc_model.specs.declared.event.Op.{Op}
-use Rattle.jc_model.specs.declared.event.Op.TheVariants.{Get, ContainsKey, Put, GetAndPut, PutIfAbsent, Remove, RemoveIf, GetAndRemove, Replace, ReplaceIf, GetAndReplace, Clear, LoadAll, Invoke}
+use Rattle.jc_model.specs.declared.event.OpKind.TheVariants as kind
 use Rattle.jc_model.specs.declared.event.Out.{Out}
 use Rattle.jc_model.specs.declared.event.LoadAnswer.{LoadAnswer}
 use Rattle.jc_model.specs.declared.event.Event.{Event}
 use Rattle.jc_model.specs.declared.event.Event.TheVariants.{Step, Evict}
 use Rattle.jc_model.specs.Cache.{Bytes, key_cmp}
 use Rattle.jc_model.specs.Listed.{others, with_entry_first}
-use Rattle.jc_model.specs.Table.{first_fault, entry_after}
+use Rattle.jc_model.specs.Table.{op_kind, first_fault, entry_after}
 use Rattle.jc_model.specs.Processor.{found_in}
 use Rattle.jc_entries.specs.ByUse.{lru_victim}
 use Rattle.jc_stripe.specs.declared.ticket.Reservation.{Reservation}
@@ -30,20 +30,14 @@ use Rattle.jc_stripe.specs.State.{State}
 
 -- for an operation that was made without a fault, with this answer of the loader
 abbrev pub uses : Op → LoadAnswer → Bool
-uses ContainsKey load = false
-uses (LoadAll replace) load = is_some (found_in load)
-uses Get load = true
-uses (Put value) load = true
-uses (GetAndPut value) load = true
-uses (PutIfAbsent value) load = true
-uses Remove load = true
-uses (RemoveIf old) load = true
-uses GetAndRemove load = true
-uses (Replace value) load = true
-uses (ReplaceIf old new) load = true
-uses (GetAndReplace value) load = true
-uses Clear load = true
-uses Invoke load = true
+uses op load = elim (op_kind op) [
+  | kind.ContainsKey ↦ false
+  | kind.LoadAll replace ↦ is_some (found_in load)
+  | kind.Get ↦ true
+  | kind.Write ↦ true
+  | kind.Clear ↦ true
+  | kind.Invoke ↦ true
+]
 
 abbrev pub is_use : Op → Out → Bool
 is_use op out = is_none (first_fault out) && uses op out.load

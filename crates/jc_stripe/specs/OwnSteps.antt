@@ -32,9 +32,8 @@ use Rattle.jc_model.specs.Group.{nothing_said}
 use Rattle.jc_model.specs.Legal.{may_come}
 use Rattle.jc_types.specs.declared.refusal.Refusal.{Refusal}
 use Rattle.jc_stripe.specs.declared.ticket.Reservation.{Reservation}
-use Rattle.jc_stripe.specs.declared.begun.StepDone.{StepDone}
-use Rattle.jc_stripe.specs.declared.begun.Begun.TheVariants.{Done, Asks, Joined, Refused}
-use Rattle.jc_stripe.specs.declared.begun.Picked.TheVariants.{Answer, Again, NotYet}
+use Rattle.jc_stripe.specs.Outcomes.{StepDone, Done, Asks, Joined, Refused}
+use Rattle.jc_stripe.specs.Polled.{Answer, Again, NotYet}
 use Rattle.jc_stripe.specs.Tickets.{TicketClaim, JoinClaim}
 use Rattle.jc_stripe.specs.State.{State, is_of}
 use Rattle.jc_stripe.specs.Refusals.{load_joined}

@@ -22,6 +22,7 @@
 --     without_joiner   the stripe without a join that is over
 --     IsSharedStep     the event at a place is the join's own step, with this reply, and names the step that loaded
 --     told_to          the state of a join: it waits, was answered, or is told to retry
+--     polled_with      the outcome of a pick-up whose reply was written apart
 --     PicksUp          a joiner asks for its answer
 use Rattle.std.specs.Prelude.{◌≡◌, ◌==◌, ◌-◌, ◌+◌, ℕ, List, [], ◌++◌, length, Bool, true, false, not, ◌&&◌, ◌||◌, IsTrue, Option, None, Some, is_some, is_none, slice_get, option_map, if◌then◌else◌}
 use Rattle.std.specs.List.{list_all}
@@ -52,14 +53,15 @@ use Rattle.jc_inflight.specs.Taking as taking
 use Rattle.jc_stripe.specs.declared.ticket.First.TheVariants.{Nobody}
 use Rattle.jc_stripe.specs.declared.ticket.Reservation.{Reservation}
 use Rattle.jc_stripe.specs.declared.begun.Eviction.{Eviction}
-use Rattle.jc_stripe.specs.declared.begun.StepDone.{StepDone}
-use Rattle.jc_stripe.specs.declared.begun.Begun.{Begun}
-use Rattle.jc_stripe.specs.declared.begun.Begun.TheVariants as begun
 use Rattle.jc_stripe.specs.declared.begun.Appended.{Appended}
 use Rattle.jc_stripe.specs.declared.begun.Started.{Started}
 use Rattle.jc_stripe.specs.declared.begun.Started.TheVariants as started
 use Rattle.jc_stripe.specs.declared.begun.Picked.{Picked}
 use Rattle.jc_stripe.specs.declared.begun.Picked.TheVariants as picked
+use Rattle.jc_stripe.specs.Outcomes.{StepDone, Begun}
+use Rattle.jc_stripe.specs.Polled.{Polled}
+use Rattle.jc_stripe.specs.Outcomes as begun
+use Rattle.jc_stripe.specs.Polled as polled
 use Rattle.jc_stripe.specs.Tickets.{JoinClaim}
 use Rattle.jc_stripe.specs.State.{State, is_of, new_reservation, with_reservation, without_reservation, IsOut, IsJoined}
 use Rattle.jc_stripe.specs.Refusals.{first_refusal, first_asked, load_joined, reserves}
@@ -195,8 +197,13 @@ IsSharedStep state join reply place shared_with =
 abbrev pub told_to : State → JoinClaim → Option JoinState
 told_to state join = taking.join_state_of join.caller join.key state.joiners
 
-abbrev pub PicksUp : State → JoinClaim → Picked → State → Type 0
-PicksUp old join (picked.Answer reply place shared_with) new =
+abbrev pub polled_with : Picked → Reply → Polled
+polled_with (picked.Answer place shared_with) reply = polled.Answer reply place shared_with
+polled_with picked.Again reply = polled.Again
+polled_with (picked.NotYet join) reply = polled.NotYet join
+
+abbrev pub PicksUp : State → JoinClaim → Polled → State → Type 0
+PicksUp old join (polled.Answer reply place shared_with) new =
     IsJoined old join × (told_to old join ≡ Some (state.Answered place shared_with)) × IsSharedStep old join reply place shared_with × (new ≡ without_joiner old join)
-PicksUp old join picked.Again new = IsJoined old join × (told_to old join ≡ Some state.Again) × (new ≡ without_joiner old join)
-PicksUp old join (picked.NotYet back) new = IsJoined old join × (told_to old join ≡ Some state.Waiting) × (back ≡ join) × (new ≡ old)
+PicksUp old join polled.Again new = IsJoined old join × (told_to old join ≡ Some state.Again) × (new ≡ without_joiner old join)
+PicksUp old join (polled.NotYet back) new = IsJoined old join × (told_to old join ≡ Some state.Waiting) × (back ≡ join) × (new ≡ old)

@@ -28,13 +28,13 @@ use Rattle.jc_types.specs.declared.limits.TheConstants.{STEP_PLACES, HIT_PLACES,
 use Rattle.jc_types.specs.declared.refusal.Refusal.{Refusal}
 use Rattle.jc_types.specs.declared.refusal.Refusal.TheVariants as refusal
 use Rattle.jc_model.specs.declared.event.Op.{Op}
-use Rattle.jc_model.specs.declared.event.Op.TheVariants.{Get, ContainsKey, Put, GetAndPut, PutIfAbsent, Remove, RemoveIf, GetAndRemove, Replace, ReplaceIf, GetAndReplace, Clear, LoadAll, Invoke}
+use Rattle.jc_model.specs.declared.event.OpKind.TheVariants as kind
 use Rattle.jc_model.specs.declared.event.Change.{Change}
 use Rattle.jc_model.specs.declared.event.ProcessAnswer.TheVariants as process
 use Rattle.jc_model.specs.declared.table.LoaderAsk.{LoaderAsk}
 use Rattle.jc_model.specs.declared.table.LoaderAsk.TheVariants.{Never, Always, IfWanted}
 use Rattle.jc_model.specs.Cache.{Bytes, entry_at}
-use Rattle.jc_model.specs.Table.{loader_ask, write_ask, is_invoke}
+use Rattle.jc_model.specs.Table.{op_kind, loader_ask, write_ask, is_invoke}
 use Rattle.jc_stripe.specs.declared.ticket.First.{First}
 use Rattle.jc_stripe.specs.declared.ticket.First.TheVariants.{Nobody, Loader, Writer, Processor}
 use Rattle.jc_stripe.specs.declared.ticket.Reservation.{Reservation}
@@ -76,20 +76,14 @@ reserves (Processor entry loads) = true
 -- 2. The needs of a call.
 
 abbrev pub answers_at_once : Config → Op → Option Bytes → Bool
-answers_at_once config Get entry = is_some entry || not config.read_through
-answers_at_once config ContainsKey entry = true
-answers_at_once config (Put value) entry = false
-answers_at_once config (GetAndPut value) entry = false
-answers_at_once config (PutIfAbsent value) entry = false
-answers_at_once config Remove entry = false
-answers_at_once config (RemoveIf old) entry = false
-answers_at_once config GetAndRemove entry = false
-answers_at_once config (Replace value) entry = false
-answers_at_once config (ReplaceIf old new) entry = false
-answers_at_once config (GetAndReplace value) entry = false
-answers_at_once config Clear entry = false
-answers_at_once config (LoadAll replace) entry = false
-answers_at_once config Invoke entry = false
+answers_at_once config op entry = elim (op_kind op) [
+  | kind.Get ↦ is_some entry || not config.read_through
+  | kind.ContainsKey ↦ true
+  | kind.Write ↦ false
+  | kind.Clear ↦ false
+  | kind.LoadAll replace ↦ false
+  | kind.Invoke ↦ false
+]
 
 -- the load of a reservation, if it asked the loader
 abbrev pub load_of : First → ℕ → Option ℕ
@@ -103,20 +97,14 @@ load_at None = None
 load_at (Some r) = load_of r.first r.number
 
 abbrev pub may_join : Op → Bool
-may_join Get = true
-may_join ContainsKey = false
-may_join (Put value) = false
-may_join (GetAndPut value) = false
-may_join (PutIfAbsent value) = false
-may_join Remove = false
-may_join (RemoveIf old) = false
-may_join GetAndRemove = false
-may_join (Replace value) = false
-may_join (ReplaceIf old new) = false
-may_join (GetAndReplace value) = false
-may_join Clear = false
-may_join (LoadAll replace) = false
-may_join Invoke = false
+may_join op = elim (op_kind op) [
+  | kind.Get ↦ true
+  | kind.ContainsKey ↦ false
+  | kind.Write ↦ false
+  | kind.Clear ↦ false
+  | kind.LoadAll replace ↦ false
+  | kind.Invoke ↦ false
+]
 
 abbrev pub load_joined : State → Bytes → Op → Option ℕ
 load_joined state key op =

@@ -19,7 +19,7 @@ use crate::begun::{Appended, Eviction};
 use crate::stripe_tables::StripeJoiners;
 use jc_entries::{Entries, Inserted};
 use jc_history::{History, LentStep};
-use jc_model::{Cause, Event, LoadAnswer, Op, Out, Reply};
+use jc_model::{Cause, Event, LoadAnswer, Op, OpKind, Out, Reply};
 use jc_types::{Caller, Key, Value};
 use std::marker::Model;
 
@@ -56,24 +56,13 @@ impl<'a> Model for NewGroup<'a> {
 fn uses(op: &Op, load: &LoadAnswer) -> bool
     ensures { result ≡ uses op.now load.now }
 {
-    match op {
-        Op::ContainsKey => false,
-        Op::LoadAll { .. } => match load {
+    match op.kind() {
+        OpKind::ContainsKey => false,
+        OpKind::LoadAll { .. } => match load {
             LoadAnswer::Found(_) => true,
             LoadAnswer::NotAsked | LoadAnswer::Nothing | LoadAnswer::Failed(_) => false,
         },
-        Op::Get
-        | Op::Put(_)
-        | Op::GetAndPut(_)
-        | Op::PutIfAbsent(_)
-        | Op::Remove
-        | Op::RemoveIf(_)
-        | Op::GetAndRemove
-        | Op::Replace(_)
-        | Op::ReplaceIf { .. }
-        | Op::GetAndReplace(_)
-        | Op::Clear
-        | Op::Invoke => true,
+        OpKind::Get | OpKind::Write | OpKind::Clear | OpKind::Invoke => true,
     }
 }
 

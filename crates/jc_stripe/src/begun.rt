@@ -1,9 +1,6 @@
 //! The outcomes of phases: of a first phase, of a step, and of a joiner that asks for its answer.
-ghost use Rattle.std.specs.Prelude.{◌≡◌};
-ghost use Rattle.jc_stripe.specs.Phases.{begun_with, with_reply};
-
 use crate::ticket::{Join, Ticket};
-use jc_model::{Cause, Reply};
+use jc_model::Cause;
 use jc_types::{Key, Refusal};
 
 /// The eviction of an entry that a step had inserted.
@@ -27,33 +24,6 @@ pub struct Appended {
     pub evicted: Option<Eviction>,
 }
 
-impl Appended {
-    /// The step with its reply.
-    pub fn with_reply(self, reply: &Reply) -> StepDone
-        ensures { result ≡ with_reply self reply.now }
-    {
-        StepDone {
-            reply: *reply,
-            place: self.place,
-            victim: self.victim,
-            evicted: self.evicted,
-        }
-    }
-}
-
-/// A step that was appended to the history, with the evictions that belong to it.
-#[derive(Clone, Copy, Debug, PartialEq, Eq)]
-pub struct StepDone {
-    /// The answer to the caller.
-    pub reply: Reply,
-    /// The place of the step in the stripe's history, from 0.
-    pub place: u32,
-    /// The key that was evicted directly before the step, if the stripe was full.
-    pub victim: Option<Key>,
-    /// The eviction of the step's own key after it, if it was evicted.
-    pub evicted: Option<Eviction>,
-}
-
 /// The outcome of a first phase. The reply, if there is one, is in the caller's buffer.
 pub enum Started {
     /// The call is done, and its reply is written.
@@ -66,38 +36,10 @@ pub enum Started {
     Refused(Refusal),
 }
 
-impl Started {
-    /// The outcome of the first phase, with this reply if the call is done.
-    pub fn with_reply(self, reply: &Reply) -> Begun
-        ensures { result ≡ begun_with self reply.now }
-    {
-        match self {
-            Started::Done(step) => Begun::Done(step.with_reply(reply)),
-            Started::Asks(ticket) => Begun::Asks(ticket),
-            Started::Joined(join) => Begun::Joined(join),
-            Started::Refused(refusal) => Begun::Refused(refusal),
-        }
-    }
-}
-
-/// The outcome of a first phase, with the reply. Contracts and tests use it.
-pub enum Begun {
-    /// The call is done.
-    Done(StepDone),
-    /// The key is reserved, and the ticket's reservation names whom to ask next.
-    Asks(Ticket),
-    /// The key is being loaded by another call: the call has joined that load, and its answer is to be picked up.
-    Joined(Join),
-    /// Nothing was done.
-    Refused(Refusal),
-}
-
-/// The answer to a joiner that polls.
+/// The answer to a joiner that polls. The reply, if there is one, is in the caller's buffer.
 pub enum Picked {
-    /// The load was committed.
+    /// The load was committed, and its reply is written.
     Answer {
-        /// The answer to the caller.
-        reply: Reply,
         /// The place of the joiner's own step in the stripe's history.
         place: u32,
         /// The place of the step that loaded.

@@ -7,7 +7,7 @@ ghost use Rattle.jc_stripe.specs.Refusals.{answers_at_once, may_join, places_nee
 ghost use Rattle.jc_stripe.specs.Finding.{is_to_reserve};
 
 use crate::ticket::First;
-use jc_model::{Change, LentChange, LoaderAsk, Op, ProcessAnswer};
+use jc_model::{Change, LentChange, LoaderAsk, Op, OpKind, ProcessAnswer};
 use jc_types::{Config, HIT_PLACES, STEP_PLACES, Value};
 
 /// The findings of a call at its key, before anything is done.
@@ -29,21 +29,10 @@ pub(crate) struct Found {
 pub(crate) fn answers_at_once(config: &Config, op: &Op, entry: &Option<Value>) -> bool
     ensures { result ≡ answers_at_once config.now op.now entry.now }
 {
-    match op {
-        Op::Get => entry.is_some() || !config.read_through,
-        Op::ContainsKey => true,
-        Op::Put(_)
-        | Op::GetAndPut(_)
-        | Op::PutIfAbsent(_)
-        | Op::Remove
-        | Op::RemoveIf(_)
-        | Op::GetAndRemove
-        | Op::Replace(_)
-        | Op::ReplaceIf { .. }
-        | Op::GetAndReplace(_)
-        | Op::Clear
-        | Op::LoadAll { .. }
-        | Op::Invoke => false,
+    match op.kind() {
+        OpKind::Get => entry.is_some() || !config.read_through,
+        OpKind::ContainsKey => true,
+        OpKind::Write | OpKind::Clear | OpKind::LoadAll { .. } | OpKind::Invoke => false,
     }
 }
 
@@ -51,21 +40,10 @@ pub(crate) fn answers_at_once(config: &Config, op: &Op, entry: &Option<Value>) -
 pub(crate) fn may_join(op: &Op) -> bool
     ensures { result ≡ may_join op.now }
 {
-    match op {
-        Op::Get => true,
-        Op::ContainsKey
-        | Op::Put(_)
-        | Op::GetAndPut(_)
-        | Op::PutIfAbsent(_)
-        | Op::Remove
-        | Op::RemoveIf(_)
-        | Op::GetAndRemove
-        | Op::Replace(_)
-        | Op::ReplaceIf { .. }
-        | Op::GetAndReplace(_)
-        | Op::Clear
-        | Op::LoadAll { .. }
-        | Op::Invoke => false,
+    match op.kind() {
+        OpKind::Get => true,
+        OpKind::ContainsKey | OpKind::Write | OpKind::Clear => false,
+        OpKind::LoadAll { .. } | OpKind::Invoke => false,
     }
 }
 

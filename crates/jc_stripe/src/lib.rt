@@ -11,7 +11,7 @@
 //!   waits, so that no phase can forget to free one.
 //! - The conditions of a first phase are required and not tested, because the order of a session's calls rests on them, and a
 //!   test would read the whole history.
-//! - A phase that ends a call writes its reply into the caller's buffer and returns the rest (`Appended`, `Started`), because a
+//! - A phase that ends a call writes its reply into the caller's buffer and returns the rest (`Appended`, `Started`, `Picked`), because a
 //!   reply that is returned is cleared and copied at each function on the way: 250 bytes each time, even without a value.
 #![tactic(auto)]
 
@@ -28,7 +28,7 @@ mod stripe_tables;
 mod ticket;
 mod ticket_boxes;
 
-pub use begun::{Appended, Begun, Eviction, Picked, Started, StepDone};
+pub use begun::{Appended, Eviction, Picked, Started};
 pub use desk::{CommitDone, Desk, FirstAnswer, OpenFault, PickUpAnswer, ValueMoves};
 pub use jc_mutentry::{AskProcess, ProcDone};
 pub use jc_outside::{LoadDone, Origin, WriteDone, played_load, played_write};

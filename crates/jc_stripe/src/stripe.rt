@@ -5,7 +5,7 @@ ghost use Rattle.std.specs.Bool.{OnTrue, OnFalse};
 ghost use Rattle.std.specs.FinMap as map;
 ghost use Rattle.jc_model.specs.declared.event.Op.{Op};
 ghost use Rattle.jc_model.specs.declared.event.Op.TheVariants.{Get};
-ghost use Rattle.jc_stripe.specs.declared.begun.Begun.TheVariants.{Done};
+ghost use Rattle.jc_stripe.specs.Outcomes.{Done};
 ghost use Rattle.jc_model.specs.Cache.{entry_at};
 ghost use Rattle.jc_model.specs.Listed.{has_distinct_keys};
 ghost use Rattle.jc_model.specs.Table.{is_write_given};
@@ -17,7 +17,7 @@ ghost use Rattle.jc_stripe.specs.State.{IsOut, IsJoined, IsIdle};
 ghost use Rattle.jc_stripe.specs.OrderOfUse.{by_use};
 ghost use Rattle.jc_stripe.specs.Refusals.{has_room};
 ghost use Rattle.jc_stripe.specs.Appending.{AnswersFirst, HasToldStep, after_pick_up};
-ghost use Rattle.jc_stripe.specs.Phases.{MayBegin, Begins, begun_with, hit_done, Commits, with_reply, Withdraws, PicksUp, told_to};
+ghost use Rattle.jc_stripe.specs.Phases.{MayBegin, Begins, begun_with, hit_done, Commits, with_reply, Withdraws, PicksUp, polled_with, told_to};
 ghost use Rattle.jc_stripe.specs.Effects.{HasReport, change_due, report_answer, process_out};
 ghost use Rattle.jc_stripe.specs.OnePhase.{IsPhaseOf};
 
@@ -246,16 +246,16 @@ impl Stripe {
         self.give_back(ticket.spend());
     }
 
-    /// Picks up the answer of the load that a call has joined. If the load isn't over, the join is returned and nothing changes;
-    /// if it was withdrawn, the call is told to retry.
+    /// Picks up the answer of the load that a call has joined, and writes it to `reply`. If the load isn't over, the join is
+    /// returned and nothing changes; if it was withdrawn, the call is told to retry.
     ///
     /// Conditions: the join is out here: its call is among this stripe's joiners of its key, and joined this load.
-    pub fn pick_up(&mut self, join: Join) -> Picked
+    pub fn pick_up(&mut self, join: Join, reply: &mut Reply) -> Picked
         requires { IsJoined self.old join }
-        ensures picks_up { PicksUp self.old join result self.new }
+        ensures picks_up { PicksUp self.old join (polled_with result reply.new) self.new }
         ensures phase { IsPhaseOf join.caller.session self.old self.new }
     {
-        self.answer(join)
+        self.answer(join, reply)
     }
 
     /// The shape of the stripe's cache.
@@ -418,20 +418,19 @@ impl Stripe {
         }
     }
 
-    /// The answer to a joiner, which is removed if its load is over.
-    fn answer(&mut self, join: Join) -> Picked
+    /// The answer to a joiner, which is removed if its load is over. The reply is written to `reply`.
+    fn answer(&mut self, join: Join, reply: &mut Reply) -> Picked
         requires { IsJoined self.old join }
-        ensures { PicksUp self.old join result self.new }
+        ensures { PicksUp self.old join (polled_with result reply.new) self.new }
     {
         match self.take(&join) {
             JoinState::Answered { place, shared_with } => {
                 join.spend();
                 match self.history.reply(place as usize) {
-                    Some(reply) => Picked::Answer {
-                        reply,
-                        place,
-                        shared_with,
-                    },
+                    Some(answer) => {
+                        *reply = answer;
+                        Picked::Answer { place, shared_with }
+                    }
                     None => unreachable!(),
                 }
             }

@@ -1,34 +1,18 @@
 -- Stripes that are alike make the same phases, and are alike behind them.
 use Rattle.std.proofs.Common.{◌≡◌, ◌≤◌, ℕ, zero, suc, ◌+◌, List, [], ◌∷◌, ◌++◌, length, filter, find, Bool, true, false, not, ◌&&◌, Option, None, Some, is_some, option_map, slice_get, nat_le, nat_lt, if◌then◌else◌, sym, refl, ap, ◌∙◌, subst, true≢false, arith}
-use Rattle.std.proofs.Common.{length-append}
-use Rattle.jc_types.specs.declared.caller.Caller.{Caller}
-use Rattle.jc_types.specs.declared.refusal.Refusal.{Refusal}
-use Rattle.jc_model.specs.declared.event.Op.{Op}
-use Rattle.jc_model.specs.declared.event.Out.{Out}
-use Rattle.jc_model.specs.declared.event.Event.{Event}
-use Rattle.jc_model.specs.Cache.{Bytes}
-use Rattle.jc_model.specs.Group.{Group, events_of, step_place, nothing_said}
+use Rattle.jc_world.proofs.Common.{length-append, Caller, Refusal, Op, Out, Event, Bytes, Group, events_of, step_place, nothing_said, Joiner, JoinState, Waiting, Answered, Again, waits_for, callers_of, belongs_to, answered_from, after_dissolve, JoinClaim, Begun, Picked, StepDone, Reservation}
 use Rattle.jc_model.specs.Lawful.{IsLawful}
-use Rattle.jc_inflight.specs.declared.joiner.Joiner.{Joiner}
-use Rattle.jc_inflight.specs.declared.joiner.JoinState.{JoinState}
-use Rattle.jc_inflight.specs.declared.joiner.JoinState.TheVariants.{Waiting, Answered, Again}
-use Rattle.jc_inflight.specs.Joining.{waits_for, callers_of, belongs_to}
-use Rattle.jc_inflight.specs.Resolving.{answered_from}
-use Rattle.jc_inflight.specs.Dissolving.{after_dissolve}
 use Rattle.jc_stripe.specs.OrderOfUse.{by_use, order_after_event}
 use Rattle.jc_stripe.specs.State.{State, with_reservation, promised, is_reserved}
 use Rattle.jc_types.specs.declared.refusal.Refusal.TheVariants as refusal
 use Rattle.jc_types.specs.declared.limits.TheConstants.{RESERVATIONS_MAX, JOINERS_MAX}
-use Rattle.jc_stripe.specs.Tickets.{JoinClaim}
-use Rattle.jc_stripe.specs.declared.begun.Begun.{Begun}
-use Rattle.jc_stripe.specs.declared.begun.Begun.TheVariants as begun
-use Rattle.jc_stripe.specs.declared.begun.Picked.{Picked}
-use Rattle.jc_stripe.specs.declared.begun.Picked.TheVariants as picked
-use Rattle.jc_stripe.specs.declared.begun.StepDone.{StepDone}
-use Rattle.jc_stripe.specs.declared.ticket.Reservation.{Reservation}
+use Rattle.jc_stripe.specs.Outcomes as begun
+use Rattle.jc_stripe.specs.Polled.{Polled}
+use Rattle.jc_stripe.specs.Polled as polled
 use Rattle.jc_stripe.specs.Refusals.{first_refusal, load_joined, full_refusal, last_number, places_needed, needs_free_key, needs_reservation}
 use Rattle.jc_stripe.specs.Phases.{Steps, Begins, Commits, Withdraws, PicksUp, with_joiner, without_joiner, new_group, own_cause, own_eviction, inserts_here, overflows, victim, after_group, after_commit, after_withdrawal}
 use Rattle.jc_world.specs.Alike.{AgreeAt, Agree, IsLike}
+use Rattle.jc_world.proofs.Facts.{some_back}
 
 -- 1. Joiners' answers.
 
@@ -100,9 +84,6 @@ agree-found : (p : Joiner → Bool) (js : List Joiner) (h k : List Event) (place
 agree-found p [] h k place shared a is = absurd (true≢false (ap is_some (sym is)))
 agree-found p (j ∷ js) h k place shared a is = go (p j) (agree-found p js h k place shared a.1) is
   where
-    some_back : (x y : JoinState) → Some x ≡ Some y → x ≡ y
-    some_back x y e = cc
-
     go : (b : Bool) → (option_map (λ (j : Joiner). j.state) (find p js) ≡ Some (Answered place shared) → slice_get k place ≡ slice_get h place)
         → option_map (λ (j : Joiner). j.state) (if b then Some j else find p js) ≡ Some (Answered place shared) → slice_get k place ≡ slice_get h place
     go true rest e = let P : JoinState → Type 0 = λ s. AgreeAt s h k in subst P (some_back j.state (Answered place shared) e) a.0
@@ -240,20 +221,20 @@ without-like : (a : State) (o : List (Bytes × Bytes)) (h : List Event) (join : 
 without-like a o h join order count answers =
     record { is = refl; order = order; count = count; answers = agree-filter (λ (j : Joiner). not (belongs_to join.caller join.key j)) a.joiners a.history h answers }
 
-picks-past : (a n : State) (o : List (Bytes × Bytes)) (h : List Event) (join : JoinClaim) (x : Picked)
+picks-past : (a n : State) (o : List (Bytes × Bytes)) (h : List Event) (join : JoinClaim) (x : Polled)
     → by_use o h ≡ by_use a.opening a.history → length h ≡ length a.history → Agree a.joiners a.history h
     → PicksUp a join x n → (m : State) × PicksUp (with_past a o h) join x m × IsLike n m
-picks-past a n o h join (picked.Answer reply place shared) order count answers one =
+picks-past a n o h join (polled.Answer reply place shared) order count answers one =
     let m : State = without_joiner (with_past a o h) join in
     let here : slice_get h place ≡ slice_get a.history place = agree-found (belongs_to join.caller join.key) a.joiners a.history h place shared answers one.1 in
     (m, (one.0, one.1, (one.2.0, here ∙ one.2.1), refl), subst (λ (y : State). IsLike y m) (sym one.3) (without-like a o h join order count answers))
-picks-past a n o h join picked.Again order count answers one =
+picks-past a n o h join polled.Again order count answers one =
     let m : State = without_joiner (with_past a o h) join in
     (m, (one.0, one.1, refl), subst (λ (y : State). IsLike y m) (sym one.2) (without-like a o h join order count answers))
-picks-past a n o h join (picked.NotYet back) order count answers one =
+picks-past a n o h join (polled.NotYet back) order count answers one =
     (with_past a o h, (one.0, one.1, one.2, refl), subst (λ (y : State). IsLike y (with_past a o h)) (sym one.3) (past-like a o h order count answers))
 
-pub picks-like : (a b n : State) (join : JoinClaim) (x : Picked) → IsLike a b → PicksUp a join x n → (m : State) × PicksUp b join x m × IsLike n m
+pub picks-like : (a b n : State) (join : JoinClaim) (x : Polled) → IsLike a b → PicksUp a join x n → (m : State) × PicksUp b join x m × IsLike n m
 picks-like a b n join x like one =
     let P : State → Type 0 = λ s. (m : State) × PicksUp s join x m × IsLike n m in
     subst P (sym like.is) (picks-past a n b.opening b.history join x like.order like.count like.answers one)

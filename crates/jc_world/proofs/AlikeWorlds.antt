@@ -1,35 +1,16 @@
 -- Worlds that are alike show the same of an event, and are alike behind it.
 use Rattle.std.proofs.Common.{◌≡◌, ℕ, zero, suc, List, [], ◌∷◌, ◌++◌, map, Bool, true, false, Option, None, Some, is_some, option_map, slice_get, slice_set, if◌then◌else◌, sym, refl, ap, ◌∙◌, subst, true≢false, inl, inr}
-use Rattle.std.specs.Map.{keys_of}
+use Rattle.jc_world.proofs.Common.{keys_of, Caller, Config, WriterFailed, Op, Event, WriteAnswer, Bytes, entry_at, with_entry, by_use, AreKeys, State, JoinClaim, Played, WorldEvent, Outcome, Shown, Part, new_call, WorldState, start, home, part_of, out_of, waits_for_report, read_answer, report_for, load_from, opens_coherent, with_foreign_write, fits}
 use Rattle.std.specs.List.Sorted.{IsPermutation}
-use Rattle.jc_types.specs.declared.caller.Caller.{Caller}
-use Rattle.jc_types.specs.declared.config.Config.{Config}
-use Rattle.jc_types.specs.declared.refusal.Refusal.TheVariants.{WriterFailed}
-use Rattle.jc_model.specs.declared.event.Op.{Op}
-use Rattle.jc_model.specs.declared.event.Event.{Event}
-use Rattle.jc_model.specs.declared.event.WriteAnswer.{WriteAnswer}
-use Rattle.jc_model.specs.Cache.{Bytes, entry_at, with_entry}
-use Rattle.jc_stripe.specs.OrderOfUse.{by_use}
-use Rattle.jc_stripe.specs.Keys.{AreKeys}
 use Rattle.jc_stripe.specs.Reopening.{all_entries}
-use Rattle.jc_stripe.specs.State.{State}
-use Rattle.jc_stripe.specs.Tickets.{JoinClaim}
-use Rattle.jc_stripe.specs.declared.begun.Begun.TheVariants as begun
-use Rattle.jc_stripe.specs.declared.begun.Picked.TheVariants as picked
-use Rattle.jc_outside.specs.declared.done.Origin.TheVariants.{Played}
+use Rattle.jc_stripe.specs.Outcomes as begun
+use Rattle.jc_stripe.specs.Polled as polled
 use Rattle.jc_stripe.specs.Reopening.{dropped, opened_stripes}
-use Rattle.jc_world.specs.declared.event.WorldEvent.{WorldEvent}
 use Rattle.jc_world.specs.declared.event.WorldEvent.TheVariants as event
-use Rattle.jc_world.specs.declared.event.Outcome.{Outcome}
 use Rattle.jc_world.specs.declared.event.Outcome.TheVariants as outcome
-use Rattle.jc_world.specs.declared.event.Shown.{Shown}
-use Rattle.jc_world.specs.declared.event.Part.{Part}
-use Rattle.jc_world.specs.Calls.{new_call}
-use Rattle.jc_world.specs.World.{WorldState, start, home, part_of, out_of, waits_for_report}
-use Rattle.jc_world.specs.Premises.{read_answer, report_for, load_from, opens_coherent, with_foreign_write}
-use Rattle.jc_world.specs.Fits.{fits}
 use Rattle.jc_world.specs.Events.{Happens, Step, Run, Starts, Ends, Picks, with_call, with_look, after_answer, after_change, after_process, run_result, after_report, after_reports, reported_at, with_met_by, keys_reported, reported_now, with_stripe, with_phase, with_settled, fault_in, new_progress, with_new_part, with_join, without_part, without_join, without_call, over_by, step_of, after_reopening, not_over}
 use Rattle.jc_world.specs.Alike.{IsLike, AreLike, WorldsAlike}
+use Rattle.jc_world.proofs.Facts.{none_some, some_back}
 use Rattle.jc_world.proofs.AlikeStripes.{begins-like, commits-like, withdraws-like, picks-like, like-refl}
 
 -- 1. Stripes, one by one.
@@ -37,16 +18,6 @@ use Rattle.jc_world.proofs.AlikeStripes.{begins-like, commits-like, withdraws-li
 pub are_like-refl : (ss : List State) → AreLike ss ss
 are_like-refl [] = tt
 are_like-refl (s ∷ ss) = (like-refl s, are_like-refl ss)
-
-none_some : {A : Type 0} {x : A} {o : Option A} → o ≡ None → o ≡ Some x → ⊥
-none_some n s = true≢false (ap is_some (sym s) ∙ ap is_some n)
-
-abbrev or_this : {A : Type 0} → A → Option A → A
-or_this x None = x
-or_this x (Some y) = y
-
-some_back : {A : Type 0} (x y : A) → Some x ≡ Some y → x ≡ y
-some_back x y h = ap (λ o. or_this x o) h
 
 like-at : (ss ts : List State) (i : ℕ) (a : State) → AreLike ss ts → slice_get ss i ≡ Some a → (b : State) × (slice_get ts i ≡ Some b) × IsLike a b
 like-at [] [] i a h at = absurd (none_some refl at)
@@ -131,15 +102,15 @@ picks-world : (w n : WorldState) (ss : List State) (o : List Event) (call : ℕ)
     → AreLike w.stripes ss → IsLike from b → Picks w call key join from to x n
     → (m : WorldState) × (new : State) × Picks (with_past w ss o) call key join b new x m × WorldsAlike n m
 picks-world w n ss o call key join from to b (outcome.PickedUp seen) alike like one =
-    let made = picks-like from b to join (picked.Answer seen.reply seen.place seen.shared) like one.0 in
+    let made = picks-like from b to join (polled.Answer seen.reply seen.place seen.shared) like one.0 in
     let m : WorldState = with_settled (without_join (with_stripe (with_past w ss o) key made.0) call key) call key (fault_in seen.reply) in
     (m, made.0, (made.1, one.1, refl), alike-as n (with_settled (without_join (with_stripe w key to) call key) call key (fault_in seen.reply)) m one.2 refl (like-set w.stripes ss (home w key) to made.0 alike made.2))
 picks-world w n ss o call key join from to b outcome.Again alike like one =
-    let made = picks-like from b to join picked.Again like one.0 in
+    let made = picks-like from b to join polled.Again like one.0 in
     let m : WorldState = without_join (with_stripe (with_past w ss o) key made.0) call key in
     (m, made.0, (made.1, refl), alike-as n (without_join (with_stripe w key to) call key) m one.1 refl (like-set w.stripes ss (home w key) to made.0 alike made.2))
 picks-world w n ss o call key join from to b outcome.Waits alike like one =
-    let made = picks-like from b to join (picked.NotYet join) like one.0 in
+    let made = picks-like from b to join (polled.NotYet join) like one.0 in
     (with_past w ss o, made.0, (made.1, refl), alike-as n w (with_past w ss o) one.1 refl alike)
 picks-world w n ss o call key join from to b x alike like one = absurd one
 
@@ -169,25 +140,11 @@ reports-past x y call answer (key ∷ keys) like =
 
 over-same : (w : WorldState) (ss : List State) (o : List Event) (call : ℕ) (key : Bytes) (x : Outcome) → over_by (with_past w ss o) call key x ≡ over_by w call key x
 over-same w ss o call key (outcome.Stepped x) = refl
-over-same w ss o call key (outcome.PickedUp x) = refl
-over-same w ss o call key (outcome.Refused r) = refl
 over-same w ss o call key x = refl
 
 fits-same : (w : WorldState) (ss : List State) (o : List Event) (e : WorldEvent) → fits (with_past w ss o) e ≡ fits w e
 fits-same w ss o (event.Call call session command) = refl
-fits-same w ss o (event.Look call stripe) = refl
-fits-same w ss o (event.Start call key) = refl
-fits-same w ss o (event.Read call key) = refl
-fits-same w ss o (event.Say call key answer) = refl
-fits-same w ss o (event.Change call key) = refl
-fits-same w ss o (event.Report call left fault) = refl
-fits-same w ss o (event.Process call key source calls fail) = refl
-fits-same w ss o (event.Commit call key) = refl
-fits-same w ss o (event.Withdraw call key) = refl
-fits-same w ss o (event.Leave call) = refl
-fits-same w ss o (event.PickUp call key) = refl
-fits-same w ss o (event.Foreign key value) = refl
-fits-same w ss o (event.Reopen config) = refl
+fits-same w ss o e = refl
 
 abbrev after_foreign : WorldState → Bytes → Option Bytes → WorldState
 after_foreign w key value = record w { store = with_entry w.store key value; premises = with_foreign_write w.premises; is_fresh = false }

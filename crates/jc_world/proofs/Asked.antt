@@ -13,9 +13,7 @@ asked_answer first p answer due h = cc
 
 pub asked_change : (first : First) (p : PartProgress) → FitsAsked first p → FitsAsked first (with_change p)
 asked_change Nobody p h = h
-asked_change Loader p h = h
-asked_change (Writer change) p h = h
-asked_change (Processor entry may_load) p h = h
+asked_change first p h = h
 
 some_not_none : (o : Option Change) → is_some o ≡ true → o ≡ None → ⊥
 some_not_none None due none = cc

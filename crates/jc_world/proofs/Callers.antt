@@ -2,7 +2,7 @@
 --     order_key                       after each kind of change at a key
 --     order_happens, order_opened     after any event that fits, and after an entry of the store's opening
 --     order_is, has_shares            the order is one legal history over all stripes, and each stripe's history is its part of it
-use Rattle.jc_world.proofs.Common.{◌≡◌, ℕ, zero, suc, ◌+◌, ◌%◌, ◌<◌, Bool, true, false, cond, not, ◌&&◌, ◌||◌, ◌⊎◌, List, [], ◌∷◌, ◌++◌, length, is_none, IsSomeAnd, nat_lt, ◌==◌, slice_get, slice_set, Some, None, sum, Option, option_map, find, sym, refl, ap, ◌∙◌, subst, inl, inr, arith, not-true, eqb-true, and_parts, false_from_ne_true, nat_list_cmp_total, nat_list_eq_equiv, eq_by_cmp_equiv, pointwise, texts_ties, get, insert, remove, get-insert, get-remove, list_all, eq_by_cmp, all_imply, Caller, Config, Refusal, Bytes, Cache, key_cmp, nothing_said, events_of, of_stripe, IsHistory, IsOpening, Op, Get, Out, belongs_to, is_waiting, waits_for, callers_of, after_resolve, JoinState, Again, Answered, Waiting, Joiner, StaysReached, IsSameStripe, Extends, may_come_all, new_group, Steps, with_joiner, Begins, after_commit, Commits, Withdraws, without_joiner, PicksUp, JoinFits, IsReached, State, is_of, is_key, is_reserved, with_reservation, without_key, IsOut, JoinClaim, Begun, Picked, StepDone, Reservation, Part, Premises, PartProgress, Shown, WorldEvent, cache_at, opening_at, IsOrder, HasShares, SweepState, CallState, has_number, op_at, op_for, open_keys, going_on, with_met, replaced, settle, drop_call, with_found, with_stripe, with_phase, step_of, fault_in, with_settled, with_met_by, without_call, with_look, new_part, with_part, without_part, with_join, without_join, Happens, is_free, may_leave, fits, IsWorldStripe, is_up_to, has_answer, has_parked_answer, is_served_in, is_served, FitsCall, CallsFit, Each, IsHeld, IsCallOf, IsOwned, AllOwned, IsCalled, IsSoundWorld, Parts, Joins, WorldState, home, stripe_for, open_call, part_of, out_of, join_of, is_joined, with_stored}
+use Rattle.jc_world.proofs.Common.{◌≡◌, ℕ, zero, suc, ◌+◌, ◌%◌, ◌<◌, Bool, true, false, cond, not, ◌&&◌, ◌||◌, ◌⊎◌, List, [], ◌∷◌, ◌++◌, length, is_none, IsSomeAnd, nat_lt, ◌==◌, slice_get, slice_set, Some, None, sum, Option, option_map, find, sym, refl, ap, ◌∙◌, subst, inl, inr, arith, not-true, eqb-true, and_parts, false_from_ne_true, nat_list_cmp_total, nat_list_eq_equiv, eq_by_cmp_equiv, pointwise, texts_ties, get, insert, remove, get-insert, get-remove, list_all, eq_by_cmp, all_imply, Caller, Config, Refusal, Bytes, Cache, key_cmp, nothing_said, events_of, of_stripe, IsHistory, IsOpening, Op, Get, Out, belongs_to, is_waiting, waits_for, callers_of, after_resolve, JoinState, Again, Answered, Waiting, Joiner, StaysReached, IsSameStripe, Extends, may_come_all, new_group, Steps, with_joiner, Begins, after_commit, Commits, Withdraws, without_joiner, PicksUp, JoinFits, IsReached, State, is_of, is_key, is_reserved, with_reservation, without_key, IsOut, JoinClaim, Begun, Polled, StepDone, Reservation, Part, Premises, PartProgress, Shown, WorldEvent, cache_at, opening_at, IsOrder, HasShares, SweepState, CallState, has_number, op_at, op_for, open_keys, going_on, with_met, replaced, settle, drop_call, with_found, with_stripe, with_phase, step_of, fault_in, with_settled, with_met_by, without_call, with_look, new_part, with_part, without_part, with_join, without_join, Happens, is_free, may_leave, fits, IsWorldStripe, is_up_to, has_answer, has_parked_answer, is_served_in, is_served, FitsCall, CallsFit, Each, IsHeld, IsCallOf, IsOwned, AllOwned, IsCalled, IsSoundWorld, Parts, Joins, WorldState, home, stripe_for, open_call, part_of, out_of, join_of, is_joined, with_stored}
 use Rattle.jc_world.proofs.Numbered.{some_of}
 use Rattle.jc_inflight.specs.Taking.{without_joiner as without}
 use Rattle.jc_world.proofs.Halves.{HasOrder, order_half}
@@ -16,7 +16,7 @@ use Rattle.jc_world.proofs.Settling.{open_now, Left, done_for, still_called, cal
 use Rattle.jc_world.proofs.LoadKeys.{key_of_load, each_fits}
 use Rattle.jc_world.proofs.Joiners.{joiner_of, unanswered, told_resolved, told_waiting, told_dissolved, told_pushed, find_kept, each_own, each_caller, each_both, join_at, joined_no_part}
 use Rattle.jc_world.proofs.Beginning.{unless, fits_left, fits_same, fits_taken, calls_same, order_stored, owned_part, order_parted, order_called, MayStart, not_own, apart_or, unserved, begins_with, order_beside}
-use Rattle.jc_world.proofs.Facts.{same_found}
+use Rattle.jc_world.proofs.Facts.{same_found, some_back}
 use Rattle.jc_world.proofs.Entries.{tied}
 use Rattle.jc_world.proofs.KeyChanges.{KeyChange, by_answer, by_commit, by_join, by_nothing, by_refusal, by_reservation, by_retry, by_step, by_withdrawal, key_change, may_of}
 
@@ -444,7 +444,7 @@ left_keeps w call key from to join caller q there is call_is key_is apart =
     (λ h. h)
 
 -- a call has its answer at a key
-order_picked : StaysReached → (w : WorldState) (call : ℕ) (key : Bytes) (met : Option Refusal) (join : JoinClaim) (from to : State) (p : Picked) → join_of w call key ≡ Some join → stripe_for w key ≡ Some from → PicksUp from join p to → to ≡ without_joiner from join → IsSoundWorld w
+order_picked : StaysReached → (w : WorldState) (call : ℕ) (key : Bytes) (met : Option Refusal) (join : JoinClaim) (from to : State) (p : Polled) → join_of w call key ≡ Some join → stripe_for w key ≡ Some from → PicksUp from join p to → to ≡ without_joiner from join → IsSoundWorld w
     → HasOrder (with_settled (without_join (with_stripe w key to) call key) call key met)
 order_picked stays w call key met join from to p joined there picks is old =
     let new : WorldState = with_settled (without_join (with_stripe w key to) call key) call key met in
@@ -465,17 +465,14 @@ order_picked stays w call key met join from to p joined there picks is old =
 -- a call that is told to retry has no answer
 again_untold : (o : Option Joiner) → option_map (λ (j : Joiner). j.state) o ≡ Some Again → has_parked_answer o ≡ false
 again_untold None h = refl
-again_untold (Some j) h = go j.state (same_some j.state Again h)
+again_untold (Some j) h = go j.state (some_back j.state Again h)
   where
-    same_some : (x y : JoinState) → Some x ≡ Some y → x ≡ y
-    same_some x y e = cc
-
     go : (s : JoinState) → s ≡ Again → has_answer s ≡ false
     go (Answered place shared) h = cc
     go s h = refl
 
 -- a call is told to retry
-order_again : StaysReached → (w : WorldState) (call : ℕ) (key : Bytes) (join : JoinClaim) (from to : State) → join_of w call key ≡ Some join → stripe_for w key ≡ Some from → PicksUp from join Picked.Again to → IsSoundWorld w
+order_again : StaysReached → (w : WorldState) (call : ℕ) (key : Bytes) (join : JoinClaim) (from to : State) → join_of w call key ≡ Some join → stripe_for w key ≡ Some from → PicksUp from join Polled.Again to → IsSoundWorld w
     → HasOrder (without_join (with_stripe w key to) call key)
 order_again stays w call key join from to joined there picks old =
     let new : WorldState = without_join (with_stripe w key to) call key in
@@ -496,7 +493,7 @@ order_again stays w call key join from to joined there picks old =
     let t : true ≡ false = sym h ∙ (λ i. is_served w (same i).caller (at i)) ∙ untold in cc) h
     in
     order_aside w key from to new.joins there (ap (λ (s : State). s.config) is) (ap (λ (s : State). s.stripe) is) (ap (λ (s : State). s.origin) is) (ap (λ (s : State). s.ended) is) (ap (λ (s : State). s.history) is) (ap (λ (s : State). s.reservations) is)
-    (stays.picks_up from to join Picked.Again at.reached picks)
+    (stays.picks_up from to join Polled.Again at.reached picks)
     (calls_on w new (IsFound w) w.calls (λ v found h. fits_same w new v refl refl (served v found) h) (each_found w w.calls old.calls) old.calls) old
 
 -- a call leaves
@@ -570,7 +567,7 @@ order_key stays w new e key seen (by_commit call part from to x e_is part_is the
     subst HasOrder (sym is) (order_commit w call key (fault_in x.reply) from to old there end reached)
 order_key stays w new e key seen (by_withdrawal call part from to e_is part_is there h is shows) fit old = subst HasOrder (sym is) (order_withdrawn stays w key part.reservation from to (part_key w call key part part_is old) there h old)
 order_key stays w new e key seen (by_answer call join from to x e_is join_is there h home_is is shows ends) fit old =
-    subst HasOrder (sym is) (order_picked stays w call key (fault_in x.reply) join from to (Picked.Answer x.reply x.place x.shared) join_is there h h.3 old)
+    subst HasOrder (sym is) (order_picked stays w call key (fault_in x.reply) join from to (Polled.Answer x.reply x.place x.shared) join_is there h h.3 old)
 order_key stays w new e key seen (by_retry call join from to e_is join_is there h is shows ends) fit old = subst HasOrder (sym is) (order_again stays w call key join from to join_is there h old)
 
 -- by the kind of the event

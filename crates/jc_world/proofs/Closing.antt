@@ -4,7 +4,7 @@
 --     picked         one join less, once it has its answer
 --     never_waits    if no key is reserved, no joiner waits
 --     held_out, joins_out    what is out in a world that is sound
-use Rattle.jc_world.proofs.Common.{◌≡◌, ℕ, ◌+◌, ◌<◌, Bool, true, false, cond, not, ◌&&◌, ◌⊎◌, List, [], ◌∷◌, length, get_or, is_some, IsSomeAnd, ◌==◌, slice_get, slice_set, Some, None, Option, option_map, find, sym, refl, ap, ◌∙◌, subst, inl, inr, arith, not-true, eqb-true, and_parts, and_from, false_from_ne_true, nat_list_cmp_total, eq_by_cmp_equiv, pointwise, texts_ties, empty, get, remove, get-empty, get-remove, list_all, eq_by_cmp, all_imply, all_filter, stripe_of, Config, Bytes, key_cmp, Out, belongs_to, Waiting, Joiner, StaysReached, Commits, Withdraws, without_joiner, PicksUp, JoinFits, AllJoin, IsReached, State, is_of, is_key, without_key, IsOut, IsJoined, JoinClaim, Picked, StepDone, Reservation, Part, IsLeft, AreLeft, out_at, IsPartOut, HasHeld, IsJoinOut, HasJoins, NoneReserved, IsHeld, IsOwned, IsSoundWorld, Parts, JoinKey, join_key, Joins, WorldState, stripe_for}
+use Rattle.jc_world.proofs.Common.{◌≡◌, ℕ, ◌+◌, ◌<◌, Bool, true, false, cond, not, ◌&&◌, ◌⊎◌, List, [], ◌∷◌, length, get_or, is_some, IsSomeAnd, ◌==◌, slice_get, slice_set, Some, None, Option, option_map, find, sym, refl, ap, ◌∙◌, subst, inl, inr, arith, not-true, eqb-true, and_parts, and_from, false_from_ne_true, nat_list_cmp_total, eq_by_cmp_equiv, pointwise, texts_ties, empty, get, remove, get-empty, get-remove, list_all, eq_by_cmp, all_imply, all_filter, stripe_of, Config, Bytes, key_cmp, Out, belongs_to, Waiting, Joiner, StaysReached, Commits, Withdraws, without_joiner, PicksUp, JoinFits, AllJoin, IsReached, State, is_of, is_key, without_key, IsOut, IsJoined, JoinClaim, Polled, StepDone, Reservation, Part, IsLeft, AreLeft, out_at, IsPartOut, HasHeld, IsJoinOut, HasJoins, NoneReserved, IsHeld, IsOwned, IsSoundWorld, Parts, JoinKey, join_key, Joins, WorldState, stripe_for}
 use Rattle.jc_world.proofs.Lemmas.{set_cases, length-slice_set, each_test, others_left, same_bytes, find_kept, joined_resolved, joined_dissolved, at_stripe, found_left, some_of, within, at_index}
 use Rattle.jc_world.proofs.Maps.{joins_ordered, each_left}
 
@@ -145,14 +145,14 @@ never s p (x ∷ xs) none fits h =
       | false ↦ λ h. never s p xs none fits.1 h
     ] h
 
-pub never_waits : (s to : State) (join back : JoinClaim) → IsReached s → s.reservations ≡ [] → PicksUp s join (Picked.NotYet back) to → ⊥
+pub never_waits : (s to : State) (join back : JoinClaim) → IsReached s → s.reservations ≡ [] → PicksUp s join (Polled.NotYet back) to → ⊥
 never_waits s to join back reached none h = never s (belongs_to join.caller join.key) s.joiners none reached.joins h.1
 
 -- so a pick-up takes the joiner out
-pub picked_left : (from to : State) (join : JoinClaim) (p : Picked) → IsReached from → from.reservations ≡ [] → PicksUp from join p to → to ≡ without_joiner from join
-picked_left from to join (Picked.Answer reply place shared_with) reached none h = h.3
-picked_left from to join Picked.Again reached none h = h.2
-picked_left from to join (Picked.NotYet back) reached none h = absurd (never_waits from to join back reached none h)
+pub picked_left : (from to : State) (join : JoinClaim) (p : Polled) → IsReached from → from.reservations ≡ [] → PicksUp from join p to → to ≡ without_joiner from join
+picked_left from to join (Polled.Answer reply place shared_with) reached none h = h.3
+picked_left from to join Polled.Again reached none h = h.2
+picked_left from to join (Polled.NotYet back) reached none h = absurd (never_waits from to join back reached none h)
 
 -- a joiner of another call or key stays
 other_joined : (from : State) (join j : JoinClaim) → (join_key j ≡ join_key join → ⊥) → IsJoined from j → IsJoined (without_joiner from join) j

@@ -8,13 +8,12 @@
 --     given_if, has_report, no_report
 --                                the writer's report is there if it was asked
 --     answered_failed, due_told  a writer that fails leaves a key of which all is answered, and what was due
-use Rattle.jc_world.proofs.Common.{◌≡◌, Bool, true, false, cond, not, ◌&&◌, is_some, ◌⊎◌, inl, inr, Option, Some, None, sym, refl, ap, ◌∙◌, subst, Config, Bytes, Change, WriteAnswer, Out, is_load_given, is_write_given, is_process_given, effect_change, change_due, ProcessResult, TicketClaim, Claim, Reservation, First, Loader, Nobody, Processor, Writer, asks_loader, asks_processor, load_only, write_only, Part, PartProgress, FitsAsked, change_in, IsDueIn, is_unanswered, is_answered, waits_for_report}
+use Rattle.jc_world.proofs.Common.{◌≡◌, Bool, true, false, cond, not, ◌&&◌, is_some, ◌⊎◌, inl, inr, Option, Some, None, sym, refl, ap, ◌∙◌, subst, Config, Bytes, Change, WriteAnswer, Out, is_load_given, is_write_given, is_process_given, effect_change, change_due, ProcessResult, TicketClaim, Claim, Reservation, First, Loader, Nobody, Processor, Writer, asks_loader, asks_processor, load_only, write_only, Part, PartProgress, FitsAsked, change_in, IsDueIn, is_unanswered, is_answered, waits_for_report, with_report}
 use Rattle.jc_model.specs.declared.event.WriteAnswer.TheVariants as write
 use Rattle.jc_outside.specs.Done.{WriteResult}
 use Rattle.jc_outside.specs.declared.done.Origin.{Origin}
 use Rattle.jc_stripe.specs.Effects.{HasReport}
 use Rattle.jc_stripe.specs.Tickets.{id_of}
-use Rattle.jc_world.specs.Events.{with_report}
 use Rattle.jc_world.specs.Held.{HasRun}
 
 -- 1. Of a processor.
@@ -117,24 +116,18 @@ answered_failed part code =
     let process = is_process_given part.progress.out.process in
     told (asks_loader part.reservation.first) (asks_processor part.reservation.first) (is_some part.progress.change) load process
   where
+    silent : (x l p : Bool) → (x && (not l && not true && not p)) ≡ false
+    silent true true p = refl
+    silent true false p = refl
+    silent false l p = refl
+
+    unwritten : (s : Bool) → (s && not true) ≡ false
+    unwritten true = refl
+    unwritten false = refl
+
     told : (x y s l p : Bool) → (not (x && (not l && not true && not p)) && not (y && (not l && not true && not p)) && not (s && not true)) ≡ true
-    told true true true true p = refl
-    told true true true false p = refl
-    told true true false true p = refl
-    told true true false false p = refl
-    told true false true true p = refl
-    told true false true false p = refl
-    told true false false true p = refl
-    told true false false false p = refl
-    told false true true true p = refl
-    told false true true false p = refl
-    told false true false true p = refl
-    told false true false false p = refl
-    told false false true l p = refl
-    told false false false l p = refl
+    told x y s l p = rw (silent x l p, silent y l p, unwritten s) refl
 
 pub due_told : (config : Config) (first : First) (p : PartProgress) (report : WriteAnswer) → IsDueIn config first p → IsDueIn config first (with_report p report)
 due_told config Nobody p report due = due
-due_told config Loader p report due = due
-due_told config (Writer change) p report due = due
-due_told config (Processor entry may_load) p report due = due
+due_told config first p report due = due

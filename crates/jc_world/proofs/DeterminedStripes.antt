@@ -1,30 +1,13 @@
 -- A phase of a stripe is determined, but for insertions that are out of memory.
 use Rattle.std.proofs.Common.{◌≡◌, ℕ, List, [], length, Bool, true, false, ◌&&◌, Option, None, Some, is_some, is_none, option_map, if◌then◌else◌, sym, refl, ap, ◌∙◌, true≢false}
-use Rattle.jc_types.specs.declared.caller.Caller.{Caller}
-use Rattle.jc_types.specs.declared.refusal.Refusal.{Refusal}
-use Rattle.jc_model.specs.declared.event.Op.{Op}
-use Rattle.jc_model.specs.declared.event.Op.TheVariants.{Get, ContainsKey, Put, GetAndPut, PutIfAbsent, Remove, RemoveIf, GetAndRemove, Replace, ReplaceIf, GetAndReplace, Clear, LoadAll, Invoke}
-use Rattle.jc_model.specs.declared.event.Out.{Out}
-use Rattle.jc_model.specs.declared.event.Reply.{Reply}
-use Rattle.jc_model.specs.declared.event.Cause.{Cause}
-use Rattle.jc_model.specs.Cache.{Bytes, entry_at}
+use Rattle.jc_world.proofs.Common.{Caller, Refusal, Op, Get, Out, Reply, Cause, Bytes, entry_at, Group, step_place, nothing_said, callers_of, State, new_reservation, with_reservation, TicketClaim, JoinClaim, asks_loader, Begun, StepDone, First, Nobody, Reservation, first_asked, first_by, load_joined, reserves, Change}
 use Rattle.jc_model.specs.Table.{reply_after}
-use Rattle.jc_model.specs.Group.{Group, step_place, nothing_said}
-use Rattle.jc_inflight.specs.Joining.{callers_of}
-use Rattle.jc_stripe.specs.State.{State, new_reservation, with_reservation}
-use Rattle.jc_stripe.specs.Tickets.{TicketClaim, JoinClaim, asks_loader}
-use Rattle.jc_stripe.specs.declared.begun.Begun.{Begun}
-use Rattle.jc_stripe.specs.declared.begun.Begun.TheVariants as begun
-use Rattle.jc_stripe.specs.declared.begun.StepDone.{StepDone}
+use Rattle.jc_stripe.specs.Outcomes as begun
 use Rattle.jc_stripe.specs.declared.begun.Eviction.{Eviction}
-use Rattle.jc_stripe.specs.declared.ticket.First.{First}
-use Rattle.jc_stripe.specs.declared.ticket.First.TheVariants.{Nobody}
-use Rattle.jc_stripe.specs.declared.ticket.Reservation.{Reservation}
-use Rattle.jc_stripe.specs.Refusals.{first_asked, first_by, load_joined, reserves}
 use Rattle.jc_model.specs.Table.{loader_ask}
-use Rattle.jc_model.specs.declared.event.Change.{Change}
 use Rattle.jc_stripe.specs.Phases.{Steps, Begins, Commits, with_joiner, new_group, own_cause, own_eviction, inserts_here, overflows, victim, after_group, after_commit}
 use Rattle.jc_world.specs.Determinism.{eviction_has_memory}
+use Rattle.jc_world.proofs.Facts.{none_some, some_back}
 
 -- 1. The group of a step.
 
@@ -90,19 +73,7 @@ steps-determined old n m caller key op out callers a b one ample other ample_too
 
 abbrev pub begun_amply : Begun → Bool
 begun_amply (begun.Done done) = eviction_has_memory done.evicted
-begun_amply (begun.Asks ticket) = true
-begun_amply (begun.Joined join) = true
-begun_amply (begun.Refused refusal) = true
-
-pub none_some : {A : Type 0} {x : A} {o : Option A} → o ≡ None → o ≡ Some x → ⊥
-none_some n s = true≢false (ap is_some (sym s) ∙ ap is_some n)
-
-abbrev or_this : {A : Type 0} → A → Option A → A
-or_this x None = x
-or_this x (Some y) = y
-
-pub some_back : {A : Type 0} (x y : A) → Some x ≡ Some y → x ≡ y
-some_back x y h = ap (λ o. or_this x o) h
+begun_amply b = true
 
 get_joins : (through : Bool) (entry : Option Bytes) (o : Option ℕ) (load : ℕ) (change : Option Change)
     → (if through && is_none entry then o else None) ≡ Some load → first_by (loader_ask through Get entry) change ≡ Nobody → ⊥
@@ -113,19 +84,7 @@ get_joins true None o load change joins asks = true≢false (ap asks_loader asks
 -- who joins a load would ask the loader
 joins_asks : (state : State) (key : Bytes) (op : Op) (load : ℕ) → load_joined state key op ≡ Some load → first_asked state.config op (entry_at state.cache key) ≡ Nobody → ⊥
 joins_asks state key Get load joins asks = get_joins state.config.read_through (entry_at state.cache key) _ load _ joins asks
-joins_asks state key ContainsKey load joins asks = absurd (none_some refl joins)
-joins_asks state key (Put v) load joins asks = absurd (none_some refl joins)
-joins_asks state key (GetAndPut v) load joins asks = absurd (none_some refl joins)
-joins_asks state key (PutIfAbsent v) load joins asks = absurd (none_some refl joins)
-joins_asks state key Remove load joins asks = absurd (none_some refl joins)
-joins_asks state key (RemoveIf v) load joins asks = absurd (none_some refl joins)
-joins_asks state key GetAndRemove load joins asks = absurd (none_some refl joins)
-joins_asks state key (Replace v) load joins asks = absurd (none_some refl joins)
-joins_asks state key (ReplaceIf u v) load joins asks = absurd (none_some refl joins)
-joins_asks state key (GetAndReplace v) load joins asks = absurd (none_some refl joins)
-joins_asks state key Clear load joins asks = absurd (none_some refl joins)
-joins_asks state key (LoadAll v) load joins asks = absurd (none_some refl joins)
-joins_asks state key Invoke load joins asks = absurd (none_some refl joins)
+joins_asks state key op load joins asks = cc
 
 pub begins-determined : (old n m : State) (caller : Caller) (key : Bytes) (op : Op) (a b : Begun)
     → Begins old caller key op a n → begun_amply a ≡ true

@@ -1,43 +1,17 @@
 -- An event of a world is determined, but for insertions that are out of memory; and so is a run.
-use Rattle.std.proofs.Common.{◌≡◌, ℕ, List, [], ◌∷◌, Bool, true, false, cond, Option, Some, option_map, slice_get, sym, refl, ap, ◌∙◌, subst, true≢false, inl, inr}
-use Rattle.std.proofs.lemmas.Bool.{and_parts}
-use Rattle.jc_types.specs.declared.caller.Caller.{Caller}
-use Rattle.jc_model.specs.declared.event.Op.{Op}
-use Rattle.jc_model.specs.declared.event.Reply.{Reply}
+use Rattle.jc_world.proofs.Common.{◌≡◌, ℕ, List, [], ◌∷◌, Bool, true, false, cond, Option, Some, option_map, slice_get, sym, refl, ap, ◌∙◌, subst, true≢false, inl, inr, and_parts, Caller, Op, Reply, Event, JoinState, Waiting, Answered, Again, JoinAnswer, Bytes, entry_at, State, JoinClaim, Begun, StepDone, WorldEvent, Outcome, Shown, Stepped, Part, keys_of, AreKeys, by_use, CallState, SweepState, puts_off, op_at, with_found, over_of, WorldState, home, out_of, writer_change, read_answer, report_for, load_from, Over, Change, WriterFailed}
 use Rattle.jc_model.specs.declared.event.Reply.TheVariants as reply
-use Rattle.jc_model.specs.declared.event.Event.{Event}
 use Rattle.jc_model.specs.declared.event.Event.TheVariants as stripe
-use Rattle.jc_inflight.specs.declared.joiner.JoinState.{JoinState}
-use Rattle.jc_inflight.specs.declared.joiner.JoinState.TheVariants.{Waiting, Answered, Again}
-use Rattle.jc_world.specs.declared.event.JoinAnswer.{JoinAnswer}
-use Rattle.jc_model.specs.Cache.{Bytes, entry_at}
-use Rattle.jc_stripe.specs.State.{State}
-use Rattle.jc_stripe.specs.Tickets.{JoinClaim}
-use Rattle.jc_stripe.specs.declared.begun.Begun.{Begun}
-use Rattle.jc_stripe.specs.declared.begun.Begun.TheVariants as begun
-use Rattle.jc_stripe.specs.declared.begun.StepDone.{StepDone}
+use Rattle.jc_stripe.specs.Outcomes as begun
 use Rattle.jc_stripe.specs.Phases.{Begins, after_withdrawal}
 use Rattle.jc_world.specs.declared.command.CallKind.{CallKind}
-use Rattle.jc_world.specs.declared.event.WorldEvent.{WorldEvent}
 use Rattle.jc_world.specs.declared.event.WorldEvent.TheVariants as event
-use Rattle.jc_world.specs.declared.event.Outcome.{Outcome}
 use Rattle.jc_world.specs.declared.event.Outcome.TheVariants as outcome
-use Rattle.jc_world.specs.declared.event.Shown.{Shown}
-use Rattle.jc_world.specs.declared.event.Stepped.{Stepped}
-use Rattle.jc_world.specs.declared.event.Part.{Part}
-use Rattle.std.specs.Map.{keys_of}
-use Rattle.jc_stripe.specs.Keys.{AreKeys}
-use Rattle.jc_stripe.specs.OrderOfUse.{by_use}
 use Rattle.jc_world.proofs.SortedKeys.{sorted-once}
-use Rattle.jc_world.specs.Calls.{CallState, SweepState, puts_off, op_at, with_found, over_of}
-use Rattle.jc_world.specs.World.{WorldState, home, out_of, writer_change}
-use Rattle.jc_world.specs.Premises.{read_answer, report_for, load_from}
-use Rattle.jc_world.specs.declared.event.Over.{Over}
-use Rattle.jc_model.specs.declared.event.Change.{Change}
-use Rattle.jc_types.specs.declared.refusal.Refusal.TheVariants.{WriterFailed}
 use Rattle.jc_world.specs.Events.{Happens, Step, Run, after_answer, after_change, after_process, run_result, shown_process, after_reports, with_met_by, keys_reported, reported_now, Starts, RefusesAs, Ends, Picks, with_stripe, with_phase, step_of, with_settled, fault_in, asks_as, new_progress, with_new_part, with_join, without_part, without_join, not_over, over_by, with_look}
 use Rattle.jc_world.specs.Determinism.{has_memory, have_memory}
-use Rattle.jc_world.proofs.DeterminedStripes.{begun_amply, begins-determined, commits-determined, some_back}
+use Rattle.jc_world.proofs.DeterminedStripes.{begun_amply, begins-determined, commits-determined}
+use Rattle.jc_world.proofs.Facts.{some_back}
 
 -- 1. A first phase, by what it returns.
 

@@ -2,8 +2,7 @@
 --     HasRoom          a stripe that has as many entries has room for this many more
 --     found_kept       what is found among the entries that the stripe of a key keeps: nothing if the key is dropped, else what there was
 --     found_in_all     what is found among all entries is what the stripe of the key caches
-use Rattle.jc_world.proofs.Common.{◌≡◌, ◌==◌, ℕ, zero, suc, ◌+◌, ◌<◌, ◌≤◌, Bool, true, false, cond, ◌||◌, List, [], ◌∷◌, ◌++◌, map, length, take, slice_get, Some, None, Option, option_or, is_none, sym, refl, ap, ◌∙◌, subst, arith, add-zero, zero-add, and_parts, eq-eqb, eqb-true, filter-append, list_any, list_all, pointwise, texts_ties, nat_list_cmp_total, get-from_entries, eq_by_cmp, stripe_of, Config, Bytes, entry_at, key_cmp, State, IsReached, IsShaped, WorldState, home, entry_in, cached_entry}
-use Rattle.jc_model.proofs.CallerLemmas.{none_is}
+use Rattle.jc_world.proofs.Common.{◌≡◌, ◌==◌, ℕ, zero, suc, ◌+◌, ◌<◌, ◌≤◌, Bool, true, false, cond, ◌||◌, List, [], ◌∷◌, ◌++◌, map, length, take, slice_get, Some, None, Option, option_or, is_none, sym, refl, ap, ◌∙◌, subst, arith, add-zero, zero-add, and_parts, eq-eqb, eqb-true, filter-append, list_any, list_all, pointwise, texts_ties, nat_list_cmp_total, get-from_entries, eq_by_cmp, stripe_of, Config, Bytes, entry_at, key_cmp, State, IsReached, IsShaped, WorldState, home, entry_in, cached_entry, none_is}
 use Rattle.std.specs.FinMap as map
 use Rattle.std.proofs.lemmas.Bool.{le-leb, lt-leb}
 use Rattle.std.proofs.lemmas.List.{length-append}

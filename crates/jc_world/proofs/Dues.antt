@@ -4,6 +4,7 @@
 --     dues_reported              the writer has returned for a key
 --     dues_happens               any event that fits
 use Rattle.jc_world.proofs.Common.{and_parts, fits, asks_loader, is_unanswered, has_progress, waits_for_load, is_load_given, LoadAnswer, First, Loader, Nobody, Processor, Writer, with_loaded, IsDue, IsDueIn, ◌≡◌, ℕ, true, Some, None, option_map, sym, refl, ap, ◌∙◌, subst, get, get-empty, insert, remove, Config, WriterFailed, Bytes, key_cmp, entry_at, WriteAnswer, ProcessResult, Claim, change_due, Part, PartProgress, Shown, WorldEvent, with_met_by, new_part, with_change, with_report, after_report, keys_reported, run_result, progress_after, Happens, load_from, report_for, AllDue, Parts, WorldState, part_of, reported_now}
+use Rattle.jc_world.proofs.Committing.{due_told}
 use Rattle.jc_world.proofs.Holding.{is_part}
 use Rattle.jc_world.proofs.Maps.{keys_ordered, each_put, each_left}
 use Rattle.jc_world.proofs.Lemmas.{KeyChange, by_nothing, by_refusal, by_step, by_reservation, by_join, by_commit, by_withdrawal, by_answer, by_retry, key_change, each_report}
@@ -23,22 +24,12 @@ due_answer config Loader p answer due = tt
 due_answer config first p answer due = cc
 
 due_change : (config : Config) (first : First) (p : PartProgress) → IsDueIn config first p → IsDueIn config first (with_change p)
-due_change config Nobody p h = tt
-due_change config Loader p h = tt
-due_change config (Writer change) p h = tt
 due_change config (Processor entry may_load) p h = h
-
-due_report : (config : Config) (first : First) (p : PartProgress) (report : WriteAnswer) → IsDueIn config first p → IsDueIn config first (with_report p report)
-due_report config Nobody p report h = tt
-due_report config Loader p report h = tt
-due_report config (Writer change) p report h = tt
-due_report config (Processor entry may_load) p report h = h
+due_change config first p h = tt
 
 due_run : (config : Config) (first : First) (done : ProcessResult Claim) → IsDueIn config first (progress_after (change_due config done) done)
-due_run config Nobody done = tt
-due_run config Loader done = tt
-due_run config (Writer change) done = tt
 due_run config (Processor entry may_load) done = refl
+due_run config first done = tt
 
 -- 3. Each event.
 
@@ -65,7 +56,7 @@ dues_key w new e key seen (by_retry call join from to e_is join_is there h is sh
 
 -- the writer has returned for a key
 pub dues_reported : (w : WorldState) (call : ℕ) (key : Bytes) (part : Part) (report : WriteAnswer) → part_of w call key ≡ Some part → AllDueAt w → AllDueAt (after_report w key part report)
-dues_reported w call key part report at old = dues_insert w.config w.parts key _ old (due_report w.config part.reservation.first part.progress report (due_of w call key part at old))
+dues_reported w call key part report at old = dues_insert w.config w.parts key _ old (due_told w.config part.reservation.first part.progress report (due_of w call key part at old))
 
 pub dues_happens : (w new : WorldState) (e : WorldEvent) (seen : Shown) → fits w e ≡ true → Happens w e seen new → AllDueAt w → AllDueAt new
 dues_happens w new (WorldEvent.Look call stripe) seen fit h old = subst AllDueAt (sym h.9) old

@@ -1,5 +1,7 @@
 -- What a step leaves of each entry, and what of that the store says.
-use Rattle.jc_world.proofs.Common.{◌≡◌, Bool, true, false, cond, ◌&&◌, List, is_some, is_none, ◌==◌, Some, None, Option, sym, refl, ap, ◌∙◌, subst, and_parts, nat_list_cmp_total, remove, len, get-remove, eq_by_cmp, Caller, Config, none_is, get-with_entry, Bytes, Cache, entry_at, with_entry, key_cmp, nothing_said, load_only, write_only, without_victim, without_own, loads_whole, found_in, holds, always_if, ask_if, write_ask, entry_without_fault, entry_after, Cause, Change, Delete, Write, LoadAnswer, Op, Clear, Get, GetAndPut, GetAndRemove, GetAndReplace, Invoke, LoadAll, Put, PutIfAbsent, Remove, RemoveIf, Replace, ReplaceIf, Out, ProcessAnswer, WriteAnswer, least_used, overflows, victim, new_group, Steps, writer_for, first_by, first_asked, State, StepDone, Loader, Nobody, Writer, changed_to, Agrees}
+use Rattle.jc_world.proofs.Common.{◌≡◌, Bool, true, false, cond, ◌&&◌, List, is_some, is_none, ◌==◌, Some, None, Option, sym, refl, ap, ◌∙◌, subst, and_parts, nat_list_cmp_total, remove, len, get-remove, eq_by_cmp, Caller, Config, none_is, get-with_entry, Bytes, Cache, entry_at, with_entry, key_cmp, nothing_said, load_only, write_only, without_victim, without_own, loads_whole, found_in, holds, always_if, ask_if, write_ask, entry_without_fault, entry_after, Cause, Change, Delete, Write, LoadAnswer, Op, Out, ProcessAnswer, WriteAnswer, least_used, overflows, victim, new_group, Steps, writer_for, first_by, first_asked, State, StepDone, Loader, Nobody, Writer, changed_to, Agrees}
+use Rattle.jc_model.specs.declared.event.Op.TheVariants.{Clear, Get, GetAndPut, GetAndRemove, GetAndReplace, Invoke, LoadAll, Put, PutIfAbsent, Remove, RemoveIf, Replace, ReplaceIf}
+use Rattle.jc_world.proofs.Facts.{some_back}
 use Rattle.jc_world.proofs.Maps as map
 
 -- by cases on whether two keys are one
@@ -73,18 +75,14 @@ agrees_stepped old new caller key op out callers done q stored steps h =
 not_asked : (change : Change) (A : Type 0) → None ≡ Some change → A
 not_asked change A h = cc
 
--- two that are there and the same are of the same value
-same_some : {A : Type 0} (x y : A) → Some x ≡ Some y → x ≡ y
-same_some x y h = cc
-
 -- what is written on a condition
 writes_if : (b : Bool) (entry next : Option Bytes) (asks change : Change) → next ≡ changed_to asks → ask_if b asks ≡ Some change → cond b next entry ≡ changed_to change
-writes_if true entry next asks change e h = e ∙ ap changed_to (same_some asks change h)
+writes_if true entry next asks change e h = e ∙ ap changed_to (some_back asks change h)
 writes_if false entry next asks change e h = not_asked change _ h
 
 -- what the store holds after the change that was asked for
 to : (asks change : Change) → Some asks ≡ Some change → changed_to asks ≡ changed_to change
-to asks change h = ap changed_to (same_some asks change h)
+to asks change h = ap changed_to (some_back asks change h)
 
 -- if the writer did as it was asked, the operation leaves what the store then holds
 pub writes : (op : Op) (entry : Option Bytes) (change : Change) → write_ask op entry ProcessAnswer.NotAsked ≡ Some change → entry_without_fault op entry (write_only WriteAnswer.Done) ≡ changed_to change

@@ -1,11 +1,5 @@
 -- Worlds with one essence are alike.
-use Rattle.std.proofs.Common.{◌≡◌, List, [], ◌∷◌, length, map, Option, None, sym, ap, ◌∙◌, arith}
-use Rattle.jc_model.specs.declared.event.Event.{Event}
-use Rattle.jc_inflight.specs.declared.joiner.Joiner.{Joiner}
-use Rattle.jc_inflight.specs.declared.joiner.JoinState.{JoinState}
-use Rattle.jc_inflight.specs.declared.joiner.JoinState.TheVariants.{Waiting, Answered, Again}
-use Rattle.jc_stripe.specs.State.{State}
-use Rattle.jc_world.specs.World.{WorldState}
+use Rattle.jc_world.proofs.Common.{◌≡◌, List, [], ◌∷◌, length, map, Option, None, sym, ap, ◌∙◌, arith, Event, Joiner, JoinState, Waiting, Answered, Again, State, WorldState}
 use Rattle.jc_world.specs.Alike.{AgreeAt, Agree, IsLike, AreLike, WorldsAlike}
 use Rattle.jc_world.specs.Essence.{answer_in, StripeEssence, essence_of, WorldEssence, essence_of_world}
 

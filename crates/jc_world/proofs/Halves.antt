@@ -19,21 +19,8 @@ pub record HasJoins (w : WorldState) : Type 0 where
   pub called : (number : ℕ) (s : State) → slice_get w.stripes number ≡ Some s → AllCalled w number s.joiners
 
 pub sound : (w : WorldState) → HasOrder w → HasParts w → AllDue w.config w.parts → HasJoins w → Each (Sweeps w.config) w.calls → IsSoundWorld w
-sound w o p d j s = record {
-  shape = o.shape;
-  order = o.order;
-  numbers = o.numbers;
-  calls = o.calls;
-  sweeps = s;
-  held = p.held;
-  due = d;
-  owned = o.owned;
-  joins = j.joins;
-  called = j.called;
-  told = p.told;
-  cold = p.cold;
-  idle = p.idle;
-}
+sound w o p d j s =
+    record { shape = o.shape; order = o.order; numbers = o.numbers; calls = o.calls; owned = o.owned; held = p.held; told = p.told; cold = p.cold; idle = p.idle; due = d; joins = j.joins; called = j.called; sweeps = s }
 
 pub order_half : (w : WorldState) → IsSoundWorld w → HasOrder w
 order_half w h = record { shape = h.shape; order = h.order; numbers = h.numbers; calls = h.calls; owned = h.owned }

@@ -8,7 +8,7 @@
 --     IsStart, may_of           it is the start of a call at a key; in a sound world the call may start there
 --     Move                      the same, as far as configuration, stripes and order go
 use Rattle.jc_world.proofs.Asked.{asked_new}
-use Rattle.jc_world.proofs.Common.{cond, None, Change, FitsAsked, IsDueIn, ◌≡◌, ℕ, Bool, true, false, ◌++◌, slice_set, Some, Option, sym, refl, ap, ◌∙◌, inl, inr, Caller, Config, Refusal, Bytes, is_load_given, Op, Begins, Commits, Withdraws, PicksUp, State, is_reserved, new_reservation, with_reservation, TicketClaim, JoinClaim, Begun, Picked, First, Loader, Nobody, Processor, Writer, Reservation, Outcome, Part, JoinAnswer, PartProgress, Shown, Stepped, WorldEvent, CallState, new_call, op_at, with_stripe, with_phase, step_of, not_over, shown_begun, fault_in, with_settled, new_progress, with_new_part, without_part, with_join, without_join, ReservesAs, Starts, Ends, Picks, Happens, Step, fits, after_reopening, is_reopening, ends_load, is_answer_at, Agrees, ProgressAgrees, IsSoundWorld, WorldState, home, stripe_for, open_call, part_of, out_of, join_of}
+use Rattle.jc_world.proofs.Common.{cond, None, Change, FitsAsked, IsDueIn, ◌≡◌, ℕ, Bool, true, false, ◌++◌, slice_set, Some, Option, sym, refl, ap, ◌∙◌, inl, inr, Caller, Config, Refusal, Bytes, is_load_given, Op, Begins, Commits, Withdraws, PicksUp, State, is_reserved, new_reservation, with_reservation, TicketClaim, JoinClaim, Begun, Polled, First, Loader, Nobody, Processor, Writer, Reservation, Outcome, Part, JoinAnswer, PartProgress, Shown, Stepped, WorldEvent, CallState, new_call, op_at, with_stripe, with_phase, step_of, not_over, shown_begun, fault_in, with_settled, new_progress, with_new_part, without_part, with_join, without_join, ReservesAs, Starts, Ends, Picks, Happens, Step, fits, after_reopening, is_reopening, ends_load, is_answer_at, Agrees, ProgressAgrees, IsSoundWorld, WorldState, home, stripe_for, open_call, part_of, out_of, join_of}
 use Rattle.jc_world.proofs.Beginning.{MayStart, may_start_at}
 use Rattle.jc_world.proofs.Shares.{added}
 use Rattle.jc_world.proofs.NewCalls.{begun_cases}
@@ -58,9 +58,9 @@ pub data KeyChange (w new : WorldState) (e : WorldEvent) (key : Bytes) (seen : S
       → new ≡ without_part (with_settled (with_phase w key from to) call key (fault_in x.reply)) key → seen.outcome ≡ Outcome.Stepped x → KeyChange w new e key seen
   by_withdrawal : (call : ℕ) (part : Part) (from to : State) → e ≡ WorldEvent.Withdraw call key → part_of w call key ≡ Some part → stripe_for w key ≡ Some from → Withdraws from part.reservation to
       → new ≡ without_part (with_stripe w key to) key → seen ≡ not_over Outcome.Withdrawn → KeyChange w new e key seen
-  by_answer : (call : ℕ) (join : JoinClaim) (from to : State) (x : JoinAnswer) → e ≡ WorldEvent.PickUp call key → join_of w call key ≡ Some join → stripe_for w key ≡ Some from → PicksUp from join (Picked.Answer x.reply x.place x.shared) to → x.stripe ≡ home w key
+  by_answer : (call : ℕ) (join : JoinClaim) (from to : State) (x : JoinAnswer) → e ≡ WorldEvent.PickUp call key → join_of w call key ≡ Some join → stripe_for w key ≡ Some from → PicksUp from join (Polled.Answer x.reply x.place x.shared) to → x.stripe ≡ home w key
       → new ≡ with_settled (without_join (with_stripe w key to) call key) call key (fault_in x.reply) → seen.outcome ≡ Outcome.PickedUp x → EndsNone e seen → KeyChange w new e key seen
-  by_retry : (call : ℕ) (join : JoinClaim) (from to : State) → e ≡ WorldEvent.PickUp call key → join_of w call key ≡ Some join → stripe_for w key ≡ Some from → PicksUp from join Picked.Again to
+  by_retry : (call : ℕ) (join : JoinClaim) (from to : State) → e ≡ WorldEvent.PickUp call key → join_of w call key ≡ Some join → stripe_for w key ≡ Some from → PicksUp from join Polled.Again to
       → new ≡ without_join (with_stripe w key to) call key → seen.outcome ≡ Outcome.Again → EndsNone e seen → KeyChange w new e key seen
 
 -- nothing was told yet of a key that was just reserved
@@ -71,14 +71,12 @@ new_untold (Writer change) stored entry agrees = record { written = λ e. absurd
 new_untold (Processor seen may_load) stored entry agrees = record { loaded = tt; unwritten = agrees }
 
 new_due : (config : Config) (first : First) → IsDueIn config first (new_progress first)
-new_due config Nobody = tt
-new_due config Loader = tt
-new_due config (Writer change) = tt
 new_due config (Processor entry may_load) = no_ask config.write_through
   where
     no_ask : (on : Bool) → ◌≡◌ {A = Option Change} None (cond on None None)
     no_ask true = refl
     no_ask false = refl
+new_due config first = tt
 
 -- a key is reserved
 reserved_change : (w new : WorldState) (e : WorldEvent) (u : CallState) (key : Bytes) (op : Op) (from to : State) (o : Outcome) (s : Shown) → AnswersNone s.outcome → EndsNone e s → IsStart w e key u op → stripe_for w key ≡ Some from

@@ -27,6 +27,7 @@ pub mod Dues
 pub mod Kept
 pub mod KeyChanges
 pub mod Maps
+pub mod CallerLemmas
 pub mod Numbered
 pub mod Returns
 pub mod Beside

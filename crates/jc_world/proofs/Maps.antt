@@ -1,21 +1,13 @@
 -- The maps of a world: what is so of all finite maps whose keys are ordered, and the order of calls and keys.
+--     exact_joins                 only equal calls and keys tie
 --     joins_ordered               the order of calls and keys is one of keys
 --     is_join_key, joins_tied     the test of calls and keys, and that it is of their order
-use Rattle.std.proofs.Common.{◌≡◌, ◌==◌, ◌&&◌, Bool, ap, ◌∙◌}
-use Rattle.std.specs.Ordering.{eq_by_cmp, is_eq, nat_cmp}
-use Rattle.std.specs.Cmp.{Equal-is, tied_then, both_tied, then_total, on_total, unsigned_ties}
-use Rattle.std.specs.Cmp.Lexicographic.{pointwise, texts_ties}
-use Rattle.std.specs.FinMap.{IsAntisymmetric, nat_cmp-IsAntisymmetric}
-use Rattle.std.proofs.lemmas.Bool.{and_parts}
-use Rattle.std.proofs.lemmas.Cmp.{nat_cmp_total, nat_list_cmp_total}
-use Rattle.std.proofs.lemmas.Map.Lookups.{exact_bytes}
-use Rattle.jc_model.specs.Cache.{key_cmp}
+use Rattle.jc_world.proofs.Common.{◌≡◌, ◌==◌, ◌&&◌, Bool, ap, ◌∙◌, eq_by_cmp, is_eq, nat_cmp, Equal-is, tied_then, both_tied, then_total, on_total, unsigned_ties, pointwise, texts_ties, IsAntisymmetric, nat_cmp-IsAntisymmetric, and_parts, nat_cmp_total, nat_list_cmp_total, exact_bytes, key_cmp, JoinKey, join_cmp}
 use Rattle.jc_outside.proofs.CallerLemmas.{IsKeyOrder}
-use Rattle.jc_world.specs.World.{JoinKey, join_cmp}
 pub use Rattle.jc_outside.proofs.CallerLemmas.{keys_ordered, tied, split, get-here, get-gone, get-beside, get-left, still-there, each_put, each_left, insert-there, insert-back}
 pub use Rattle.jc_outside.proofs.CallerLemmas.{find-entries, put-entries, remove-entries, popped, nothing_at}
 
-exact_joins : IsAntisymmetric join_cmp
+pub exact_joins : IsAntisymmetric join_cmp
 exact_joins p q e =
     let parts = and_parts (is_eq (nat_cmp p.0 q.0)) (is_eq (key_cmp p.1 q.1)) (tied_then (nat_cmp p.0 q.0) (key_cmp p.1 q.1) ∙ ap is_eq e) in
     let call = nat_cmp-IsAntisymmetric p.0 q.0 ((Equal-is (nat_cmp p.0 q.0)).0 parts.0) in

@@ -7,7 +7,7 @@
 --     merged_length      there are as many events as turns
 use Rattle.std.proofs.Common.{Fits, w64}
 use Rattle.std.proofs.lemmas.List.Sums.{count_by-le-length}
-use Rattle.jc_world.proofs.Common.{◌≡◌, ℕ, zero, suc, ◌+◌, ◌-◌, ◌<◌, ◌≤◌, Bool, true, false, cond, List, [], ◌∷◌, ◌++◌, length, get_or, take, drop, replicate, IsSomeAnd, ◌==◌, slice_get, slice_set, Some, Option, vec_len, Ok, sym, refl, ap, ◌∙◌, subst, append_assoc, append-nil, arith, length-append, drop-append_seam, eqb-true, nat_tests, nat_eq_equiv, take-append-drop, get_or-set_same, get_or-set_other, take_more, sum_by-cons, sum_by-append, count_by_more_yes, count_by_more_no, slice_get_read, check, Config, STRIPES_MAX, Event, Extends, PicksUp, State, JoinClaim, Picked, Inside, history_in, history_at, turns_of, after_turn, merge, OrderedStripes, IsPhase, IsQuietPhase, ordered_stripes, AreTurns, IsMergeable, empty_stripes}
+use Rattle.jc_world.proofs.Common.{◌≡◌, ℕ, zero, suc, ◌+◌, ◌-◌, ◌<◌, ◌≤◌, Bool, true, false, cond, List, [], ◌∷◌, ◌++◌, length, get_or, take, drop, replicate, IsSomeAnd, ◌==◌, slice_get, slice_set, Some, Option, vec_len, Ok, sym, refl, ap, ◌∙◌, subst, append_assoc, append-nil, arith, length-append, drop-append_seam, eqb-true, nat_tests, nat_eq_equiv, take-append-drop, get_or-set_same, get_or-set_other, take_more, sum_by-cons, sum_by-append, count_by_more_yes, count_by_more_no, slice_get_read, check, Config, STRIPES_MAX, Event, Extends, PicksUp, State, JoinClaim, Polled, Inside, history_in, history_at, turns_of, after_turn, merge, OrderedStripes, IsPhase, IsQuietPhase, ordered_stripes, AreTurns, IsMergeable, empty_stripes}
 use Rattle.jc_world.proofs.Lemmas.{empty_count, stripe_put, few_stripes, within, at_index}
 
 -- 1. Turns.
@@ -233,8 +233,8 @@ quiet_made s now number from to phase next is at same made stripes_are order_are
     subst P is (record { from = from; at = at; to = to; made = made; stripes_are = stripes_are; order_is = order_are ∙ stays_merged s.items.items s.turns.items number from to at same })
 
 -- a pick-up appends nothing
-pub picked_same : (from to : State) (join : JoinClaim) (p : Picked) → PicksUp from join p to → to.history ≡ from.history
-picked_same from to join Picked.Again h = ap (λ (s : State). s.history) h.2
+pub picked_same : (from to : State) (join : JoinClaim) (p : Polled) → PicksUp from join p to → to.history ≡ from.history
+picked_same from to join Polled.Again h = ap (λ (s : State). s.history) h.2
 picked_same from to join p h = ap (λ (s : State). s.history) h.3
 
 -- 7. Empty stripes.

@@ -93,17 +93,8 @@ sound_start config fits = sound_opening (start config) (opens_start config fits)
 
 -- a fresh one stays so with a value more in its store
 opens_stored : (w : WorldState) (key value : Bytes) → w.is_fresh ≡ true → IsOpeningWorld w → IsOpeningWorld (with_stored w key value)
-opens_stored w key value fresh h = record {
-  config_fits = h.config_fits;
-  count = h.count;
-  each = h.each;
-  order = h.order;
-  calls = h.calls;
-  parts = h.parts;
-  joins = h.joins;
-  cold = h.cold;
-  coherent = λ hold q unchanged. if_none (cached_entry w q) _ (h.cold fresh q);
-}
+opens_stored w key value fresh h =
+    record { config_fits = h.config_fits; count = h.count; each = h.each; order = h.order; calls = h.calls; parts = h.parts; joins = h.joins; cold = h.cold; coherent = λ hold q unchanged. if_none (cached_entry w q) _ (h.cold fresh q) }
 
 stays_fresh : (config : Config) (stored : List (Bytes × Bytes)) → (start_with config stored).is_fresh ≡ true
 stays_fresh config [] = refl

@@ -1,5 +1,5 @@
 -- What the machine of a world does in a first and a last phase is what the definitions say.
-use Rattle.jc_world.proofs.Common.{◌≡◌, ℕ, zero, suc, true, false, cond, List, [], ◌∷◌, ◌++◌, length, drop, is_some, IsSomeAnd, slice_get, slice_set, Some, None, Option, sym, refl, ap, ◌∙◌, subst, subst₂, append-nil, and_parts, get, insert, remove, Config, Refusal, Bytes, Event, Op, Played, MayBegin, Commits, Withdraws, PicksUp, reserves, State, IsOut, IsJoined, TicketClaim, JoinClaim, Begun, Picked, StepDone, First, Loader, Nobody, Processor, Writer, Reservation, Outcome, Over, Part, JoinAnswer, PartProgress, Shown, Stepped, WorldEvent, puts_off, CallState, op_at, settle, over_settled, step_of, not_over, fault_in, over_by, asks_as, new_progress, new_part, with_new_part, BeginsAs, ReservesAs, Starts, RefusesAs, Happens, is_free, may_start, fits, IsDue, IsHeld, IsSoundWorld, OrderedStripes, IsPhase, IsQuietPhase, Parts, join_key, WorldState, home, stripe_for, open_call, part_of, out_of, join_of}
+use Rattle.jc_world.proofs.Common.{◌≡◌, ℕ, zero, suc, true, false, cond, List, [], ◌∷◌, ◌++◌, length, drop, is_some, IsSomeAnd, slice_get, slice_set, Some, None, Option, sym, refl, ap, ◌∙◌, subst, subst₂, append-nil, and_parts, get, insert, remove, Config, Refusal, Bytes, Event, Op, Played, MayBegin, Commits, Withdraws, PicksUp, reserves, State, IsOut, IsJoined, TicketClaim, JoinClaim, Begun, Polled, StepDone, First, Loader, Nobody, Processor, Writer, Reservation, Outcome, Over, Part, JoinAnswer, PartProgress, Shown, Stepped, WorldEvent, puts_off, CallState, op_at, settle, over_settled, step_of, not_over, fault_in, over_by, asks_as, new_progress, new_part, with_new_part, BeginsAs, ReservesAs, Starts, RefusesAs, Happens, is_free, may_start, fits, IsDue, IsHeld, IsSoundWorld, OrderedStripes, IsPhase, IsQuietPhase, Parts, join_key, WorldState, home, stripe_for, open_call, part_of, out_of, join_of}
 use Rattle.jc_world.proofs.Lemmas.{missing, join_at, may_start_at, begins_at, was_free, some_of}
 use Rattle.jc_world.proofs.Holding.{is_part}
 use Rattle.jc_world.proofs.Kept.{unheld, stripe_at}
@@ -237,33 +237,33 @@ joiner_at v call key join number is home_is sound =
     rw (ap (home v) h.1 ∙ sym home_is) at h.2.out
 
 -- a pick-up of this join
-abbrev pub PicksAs : JoinClaim → Picked → State → State → Type 0
+abbrev pub PicksAs : JoinClaim → Polled → State → State → Type 0
 PicksAs join p from to = PicksUp from join p to
 
 -- the answer was there
 pub picked_answer : (v next : WorldState) (call : ℕ) (key : Bytes) (join : JoinClaim) (number : ℕ) (seen : JoinAnswer) (over : Option Over) (stripes : List State) → join_of v call key ≡ Some join → number ≡ home v key → seen.stripe ≡ number
-    → Changed v number (PicksAs join (Picked.Answer seen.reply seen.place seen.shared)) stripes
+    → Changed v number (PicksAs join (Polled.Answer seen.reply seen.place seen.shared)) stripes
     → over ≡ over_settled call key (fault_in seen.reply) v.calls
     → next ≡ record v { stripes = stripes; joins = remove v.joins (call, key); calls = settle call key (fault_in seen.reply) v.calls } → Happens v (WorldEvent.PickUp call key) (record { outcome = Outcome.PickedUp seen; over = over }) next
 picked_answer v next call key join number seen over stripes is home_is stripe_is p over_is next_is =
-    let q = changed_here v key number (PicksAs join (Picked.Answer seen.reply seen.place seen.shared)) stripes home_is p in
+    let q = changed_here v key number (PicksAs join (Polled.Answer seen.reply seen.place seen.shared)) stripes home_is p in
     let left = next_is ∙ (λ i. record v { stripes = q.stripes_are i; joins = remove v.joins (call, key); calls = settle call key (fault_in seen.reply) v.calls }) in
     (join, is, q.from, q.at, q.to, (q.made, stripe_is ∙ home_is, left), over_is)
 
 -- the load was withdrawn
 pub picked_again : (v next : WorldState) (call : ℕ) (key : Bytes) (join : JoinClaim) (number : ℕ) (stripes : List State) → join_of v call key ≡ Some join → number ≡ home v key
-    → Changed v number (PicksAs join Picked.Again) stripes
+    → Changed v number (PicksAs join Polled.Again) stripes
     → next ≡ record v { stripes = stripes; joins = remove v.joins (call, key) } → Happens v (WorldEvent.PickUp call key) (not_over Outcome.Again) next
 picked_again v next call key join number stripes is home_is p next_is =
-    let q = changed_here v key number (PicksAs join Picked.Again) stripes home_is p in
+    let q = changed_here v key number (PicksAs join Polled.Again) stripes home_is p in
     (join, is, q.from, q.at, q.to, (q.made, next_is ∙ (λ i. record v { stripes = q.stripes_are i; joins = remove v.joins (call, key) })), refl)
 
 -- the load isn't over
 pub picked_nothing : (v next : WorldState) (call : ℕ) (key : Bytes) (join back : JoinClaim) (number : ℕ) (stripes : List State) → join_of v call key ≡ Some join → number ≡ home v key
-    → Changed v number (PicksAs join (Picked.NotYet back)) stripes
+    → Changed v number (PicksAs join (Polled.NotYet back)) stripes
     → next ≡ record v { stripes = stripes } → Happens v (WorldEvent.PickUp call key) (not_over Outcome.Waits) next
 picked_nothing v next call key join back number stripes is home_is p next_is =
-    let q = changed_here v key number (PicksAs join (Picked.NotYet back)) stripes home_is p in
-    let made : PicksUp q.from join (Picked.NotYet join) q.to = (q.made.0, q.made.1, refl, q.made.3) in
+    let q = changed_here v key number (PicksAs join (Polled.NotYet back)) stripes home_is p in
+    let made : PicksUp q.from join (Polled.NotYet join) q.to = (q.made.0, q.made.1, refl, q.made.3) in
     let same = q.stripes_are ∙ same_set v.stripes (home v key) q.from q.to q.at q.made.3 in
     (join, is, q.from, q.at, q.to, (made, next_is ∙ (λ i. record v { stripes = same i })), refl)

@@ -2,10 +2,9 @@
 --     cached_reopened     each key has the entry that it had, or none if it is dropped
 --     coherent_opened     if the world is coherent, so is its opening
 --     is_reopened         the whole
-use Rattle.jc_world.proofs.Common.{◌≡◌, ℕ, zero, suc, Bool, true, false, cond, List, [], ◌∷◌, slice_get, Some, None, IfSome, is_none, sym, refl, ap, ◌∙◌, subst, inl, inr, and_parts, and_from, nat_list_eq_equiv, list_all, nat_list_cmp_total, get-empty, get-from_entries, stripe_of, Config, Bytes, Cache, entry_at, key_cmp, State, Shown, WorldEvent, Happens, Step, fits, stripes_reopened, after_reopening, holds, is_stored, opens_coherent, Coherent, has_progress, has_changed, IsOpeningWorld, is_dropped, IsReopened, IsSoundWorld, WorldState, entry_in, cached_entry}
+use Rattle.jc_world.proofs.Common.{◌≡◌, ℕ, zero, suc, Bool, true, false, cond, List, [], ◌∷◌, slice_get, Some, None, IfSome, is_none, sym, refl, ap, ◌∙◌, subst, inl, inr, and_parts, and_from, nat_list_eq_equiv, list_all, nat_list_cmp_total, get-empty, get-from_entries, stripe_of, Config, Bytes, Cache, entry_at, key_cmp, State, Shown, WorldEvent, Happens, Step, fits, stripes_reopened, after_reopening, holds, is_stored, opens_coherent, Coherent, has_progress, has_changed, IsOpeningWorld, is_dropped, IsReopened, IsSoundWorld, WorldState, entry_in, cached_entry, none_is}
 use Rattle.std.specs.FinMap as map
 use Rattle.jc_model.specs.Listed.{has_distinct_keys}
-use Rattle.jc_model.proofs.CallerLemmas.{none_is}
 use Rattle.jc_stripe.specs.Reopening.{all_entries, kept}
 use Rattle.jc_world.proofs.DroppedKeys.{found_kept, found_in_all}
 use Rattle.jc_world.proofs.Lemmas.{split, tied}

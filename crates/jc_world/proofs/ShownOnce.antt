@@ -4,7 +4,7 @@
 --     Gives          a phase raises that by one at the places that it answers, and leaves it at the others
 --     gives_done, gives_commit, gives_picked and so on      what each kind of phase answers
 --     owed_run        so a run raises it by the answers that it shows
-use Rattle.jc_world.proofs.Common.{◌≡◌, ℕ, zero, suc, ◌+◌, Bool, true, false, cond, ◌&&◌, List, [], ◌∷◌, ◌++◌, map, length, ◌==◌, slice_get, slice_set, Some, None, count_by, Option, sym, refl, ap, ◌∙◌, inl, inr, arith, and-false, eqb-suc-suc, eqb-suc-zero, eqb-zero-suc, eqb-true, eqb-false, eq-eqb, and_parts, sum_by-cons, list_all, Caller, Config, Bytes, Group, nothing_said, victim_events, evicted_events, step_event, shared_event, step_place, events_of, of_stripe, Cause, Event, LoadAnswer, Op, Get, Out, Reply, callers_of, Joiner, joined_parks, withdrawn_parks, beginner_parks, commit_parks, committer_parks, sharers_park, picker_parks, picked_parks, others_park, again_parks_same, Extends, Grows, is_parked, MayBegin, new_group, Steps, Begins, after_commit, Commits, without_joiner, PicksUp, IsReached, State, JoinClaim, Begun, Picked, StepDone, Reservation, Outcome, Shown, WorldEvent, step_of, Step, Run, fits, IsOpeningWorld, is_reopening, reopens, is_answer_at, joiners_in, joiners_at, times_shown, IsSoundWorld, WorldState, home, stripe_for, out_of}
+use Rattle.jc_world.proofs.Common.{◌≡◌, ℕ, zero, suc, ◌+◌, Bool, true, false, cond, ◌&&◌, List, [], ◌∷◌, ◌++◌, map, length, ◌==◌, slice_get, slice_set, Some, None, count_by, Option, sym, refl, ap, ◌∙◌, inl, inr, arith, and-false, eqb-suc-suc, eqb-suc-zero, eqb-zero-suc, eqb-true, eqb-false, eq-eqb, and_parts, sum_by-cons, list_all, Caller, Config, Bytes, Group, nothing_said, victim_events, evicted_events, step_event, shared_event, step_place, events_of, of_stripe, Cause, Event, LoadAnswer, Op, Get, Out, Reply, callers_of, Joiner, joined_parks, withdrawn_parks, beginner_parks, commit_parks, committer_parks, sharers_park, picker_parks, picked_parks, others_park, again_parks_same, Extends, Grows, is_parked, MayBegin, new_group, Steps, Begins, after_commit, Commits, without_joiner, PicksUp, IsReached, State, JoinClaim, Begun, Polled, StepDone, Reservation, Outcome, Shown, WorldEvent, step_of, Step, Run, fits, IsOpeningWorld, is_reopening, reopens, is_answer_at, joiners_in, joiners_at, times_shown, IsSoundWorld, WorldState, home, stripe_for, out_of}
 use Rattle.jc_world.proofs.Lemmas.{added, share_stays, begins_with, stripe_put, AnswersNone, KeyChange, by_nothing, by_refusal, by_step, by_reservation, by_join, by_commit, by_withdrawal, by_answer, by_retry, StripeChange, by_key, beside_stripes, by_reopening, change_of, may_of}
 use Rattle.jc_world.proofs.Merging.{other_set}
 use Rattle.jc_world.proofs.Loads.{one_if}
@@ -107,7 +107,7 @@ gives_commit from to r out done reached commits =
     (committer_parks from r done.place reached commits.0) (sharers_park from r done.place reached commits.0)
 
 -- a pick-up that is answered
-gives_picked : (from to : State) (join : JoinClaim) (reply : Reply) (place shared : ℕ) → IsReached from → PicksUp from join (Picked.Answer reply place shared) to → Gives from to (λ p. place == p)
+gives_picked : (from to : State) (join : JoinClaim) (reply : Reply) (place shared : ℕ) → IsReached from → PicksUp from join (Polled.Answer reply place shared) to → Gives from to (λ p. place == p)
 gives_picked from to join reply place shared reached h p =
     let next = without_joiner from join in
     let step = h.2 in

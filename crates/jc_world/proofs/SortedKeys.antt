@@ -1,17 +1,11 @@
 -- Two sorted lists of the same keys are one list.
-use Rattle.std.proofs.Common.{◌≡◌, ℕ, suc, ◌+◌, List, [], ◌∷◌, Bool, true, false, cond, refl, sym, ap, ◌∙◌, arith, true≢false}
-use Rattle.std.specs.declared.cmp.Ordering.{Ordering}
-use Rattle.std.specs.declared.cmp.Ordering.TheVariants.{Less, Equal, Greater}
+use Rattle.jc_world.proofs.Common.{◌≡◌, ℕ, suc, ◌+◌, List, [], ◌∷◌, Bool, true, false, cond, refl, sym, ap, ◌∙◌, arith, true≢false, Ordering, Less, Equal, Greater, IsTotalOrder, sum_by-cons, Bytes, key_cmp, same_key}
 use Rattle.std.specs.Ordering.{is_lt, is_eq, is_gt, ordering_reverse}
-use Rattle.std.specs.Cmp.{IsTotalOrder}
 use Rattle.std.specs.List.{sum_by}
 use Rattle.std.specs.List.Sorted.{IsPermutation, IsSorted}
 use Rattle.std.proofs.lemmas.Cmp.{nat_list_cmp_total, upto, tied_itself}
 use Rattle.std.proofs.lemmas.List.Sorted.{sum_by-IsPermutation}
-use Rattle.std.proofs.lemmas.List.Sums.{sum_by-cons}
 use native.Mathlib.Numerals.{unary_clauses}
-use Rattle.jc_model.specs.Cache.{Bytes, key_cmp}
-use Rattle.jc_model.proofs.CallerLemmas.{same_key}
 
 keys_total : IsTotalOrder key_cmp
 keys_total = nat_list_cmp_total

@@ -275,8 +275,6 @@ stands_silent : (w : WorldState) (shows : List (WorldEvent × Shown)) (e : World
 stands_silent w shows e (Outcome.Stepped x) none = let t : true ≡ false = sym (and_from _ _ (nat_eq_equiv.refl x.stripe) (nat_eq_equiv.refl x.place)) ∙ none x.stripe x.place in cc
 stands_silent w shows e (Outcome.PickedUp x) none = let t : true ≡ false = sym (and_from _ _ (nat_eq_equiv.refl x.stripe) (nat_eq_equiv.refl x.place)) ∙ none x.stripe x.place in cc
 stands_silent w shows (WorldEvent.Start call key) seen none = tt
-stands_silent w shows (WorldEvent.Commit call key) seen none = tt
-stands_silent w shows (WorldEvent.PickUp call key) seen none = tt
 stands_silent w shows e seen none = tt
 
 -- the stripe of a key, once a phase has set it

@@ -76,13 +76,12 @@ use Rattle.jc_outside.specs.declared.done.Origin.TheVariants.{Played}
 use Rattle.jc_mutentry.specs.Done.{ProcessResult}
 use Rattle.jc_mutentry.specs.Playing.{played_answers, played_load, played_outcome}
 use Rattle.jc_stripe.specs.Effects.{change_due}
-use Rattle.jc_stripe.specs.declared.begun.StepDone.{StepDone}
-use Rattle.jc_stripe.specs.declared.begun.Begun.{Begun}
-use Rattle.jc_stripe.specs.declared.begun.Begun.TheVariants as begun
+use Rattle.jc_stripe.specs.Outcomes.{StepDone, Begun}
+use Rattle.jc_stripe.specs.Outcomes as begun
 use Rattle.jc_stripe.specs.declared.ticket.First.{First}
 use Rattle.jc_stripe.specs.declared.ticket.First.TheVariants.{Nobody, Loader, Writer, Processor}
 use Rattle.jc_stripe.specs.declared.ticket.Reservation.{Reservation}
-use Rattle.jc_stripe.specs.declared.begun.Picked.TheVariants as picked
+use Rattle.jc_stripe.specs.Polled as polled
 use Rattle.jc_stripe.specs.Tickets.{TicketClaim, Claim, claim_of, change_asked, JoinClaim, entry_seen, is_loadable}
 use Rattle.jc_stripe.specs.State.{State}
 use Rattle.jc_stripe.specs.Keys.{AreKeys}
@@ -245,13 +244,13 @@ Ends old call key part from to o new = ⊥
 -- of a call that has joined the load of a key: its answer, with which the key is settled, or that it is to retry, or nothing yet
 abbrev pub Picks : WorldState → ℕ → Bytes → JoinClaim → State → State → Outcome → WorldState → Type 0
 Picks old call key join from to (outcome.PickedUp seen) new =
-    PicksUp from join (picked.Answer seen.reply seen.place seen.shared) to
+    PicksUp from join (polled.Answer seen.reply seen.place seen.shared) to
     × (seen.stripe ≡ home old key)
     × (new ≡ with_settled (without_join (with_stripe old key to) call key) call key (fault_in seen.reply))
 Picks old call key join from to outcome.Again new =
-    PicksUp from join picked.Again to × (new ≡ without_join (with_stripe old key to) call key)
+    PicksUp from join polled.Again to × (new ≡ without_join (with_stripe old key to) call key)
 Picks old call key join from to outcome.Waits new =
-    PicksUp from join (picked.NotYet join) to × (new ≡ old)
+    PicksUp from join (polled.NotYet join) to × (new ≡ old)
 Picks old call key join from to o new = ⊥
 
 -- 3. Outside answers.

@@ -25,13 +25,13 @@ use Rattle.std.specs.Result.{is_ok}
 use Rattle.std.specs.FinMap.{get}
 use Rattle.jc_types.specs.Limits.{check, is_session}
 use Rattle.jc_model.specs.declared.event.Op.{Op}
-use Rattle.jc_model.specs.declared.event.Op.TheVariants.{Get, ContainsKey, Put, GetAndPut, PutIfAbsent, Remove, RemoveIf, GetAndRemove, Replace, ReplaceIf, GetAndReplace, Clear, LoadAll, Invoke}
+use Rattle.jc_model.specs.declared.event.OpKind.TheVariants as kind
 use Rattle.jc_model.specs.Cache.{Bytes}
-use Rattle.jc_model.specs.Table.{is_load_given}
+use Rattle.jc_model.specs.Table.{op_kind, is_load_given}
 use Rattle.jc_world.specs.declared.command.Command.{Command}
 use Rattle.jc_world.specs.declared.command.Command.TheVariants as command
 use Rattle.jc_world.specs.declared.command.CallKind.{CallKind}
-use Rattle.jc_world.specs.declared.command.CallKind.TheVariants as kind
+use Rattle.jc_world.specs.declared.command.CallKind.TheVariants as call_kind
 use Rattle.jc_world.specs.declared.event.Part.{Part}
 use Rattle.jc_world.specs.declared.event.WorldEvent.{WorldEvent}
 use Rattle.jc_world.specs.declared.event.WorldEvent.TheVariants as event
@@ -42,20 +42,14 @@ use Rattle.jc_world.specs.World.{WorldState, is_busy, is_idle, open_call, of_cal
 
 -- the operations that are calls by themselves: the others are keys of a bulk call
 abbrev pub is_single : Op → Bool
-is_single Get = true
-is_single ContainsKey = true
-is_single (Put value) = true
-is_single (GetAndPut value) = true
-is_single (PutIfAbsent value) = true
-is_single Remove = true
-is_single (RemoveIf old) = true
-is_single GetAndRemove = true
-is_single (Replace value) = true
-is_single (ReplaceIf old value) = true
-is_single (GetAndReplace value) = true
-is_single Clear = false
-is_single (LoadAll replace) = false
-is_single Invoke = true
+is_single op = elim (op_kind op) [
+  | kind.Get ↦ true
+  | kind.ContainsKey ↦ true
+  | kind.Write ↦ true
+  | kind.Invoke ↦ true
+  | kind.Clear ↦ false
+  | kind.LoadAll replace ↦ false
+]
 
 -- each call of many keys is played
 abbrev pub is_playable : Command → Bool
@@ -102,9 +96,9 @@ is_in_batch batch.All part = waits_for_report part
 
 -- an `invokeAll` has its writes and its deletes asked for apart, and neither before its processors have run
 abbrev pub batch_of : CallKind → Bool → Bool → WriterBatch
-batch_of kind.Single to_process to_write = batch.All
-batch_of kind.Batch to_process to_write = batch.All
-batch_of kind.InvokeAll to_process to_write =
+batch_of call_kind.Single to_process to_write = batch.All
+batch_of call_kind.Batch to_process to_write = batch.All
+batch_of call_kind.InvokeAll to_process to_write =
     if to_process then batch.Nothing else if to_write then batch.Writes else batch.All
 
 abbrev pub writer_batch : Parts → ℕ → CallState → WriterBatch

@@ -1,4 +1,4 @@
-//! What a world holds, as an audit shows it.
+//! Audits of a world.
 ghost use Rattle.std.specs.Prelude.{◌≡◌, IfOk, OnOk, None};
 ghost use Rattle.std.specs.FinMap as map;
 ghost use Rattle.jc_model.specs.Cache.{Bytes, key_cmp, entry_at};
@@ -9,12 +9,12 @@ use jc_stripe::Stripe;
 use jc_types::{Key, Value};
 use std::alloc::{AllocError, Global};
 
-/// What an audit shows. Entries and keys are in the byte order of the keys.
+/// The result of an audit. Entries and keys are in the byte order of the keys.
 #[derive(Drop)]
 pub struct Audit {
-    /// What is cached, over all stripes.
+    /// The cached entries, over all stripes.
     pub cache: Vec<(Key, Value)>,
-    /// What the store holds.
+    /// The entries of the store.
     pub store: Vec<(Key, Value)>,
     /// The keys whose cached value isn't the store's, but for those whose writer has changed the store and isn't committed.
     pub differing: Vec<Key>,
@@ -35,7 +35,7 @@ fn add_entries(all: &mut Contents, entries: &[(Key, Value)]) -> Result<(), Alloc
     Ok(())
 }
 
-/// What the stripes cache, in one map.
+/// The cached entries of the stripes, in one map.
 pub(crate) fn gather(alloc: Global, stripes: &[Stripe]) -> Result<Contents, AllocError>
     ensures { IfOk result (λ all. (key : Bytes)
         → entry_at all key ≡ found_after None stripes.now key) }

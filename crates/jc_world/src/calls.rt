@@ -13,7 +13,7 @@ ghost use Rattle.jc_world.specs.declared.event.Outcome.TheVariants as outcome;
 use crate::command::{CallKind, Command};
 use crate::event::{Outcome, Over, Shown, show, show_end};
 use crate::open_call::OpenCall;
-use jc_model::{Op, Reply};
+use jc_model::{Op, OpKind, Reply};
 use jc_types::{Caller, Key, Refusal};
 use std::alloc::{AllocError, Global};
 
@@ -21,20 +21,9 @@ use std::alloc::{AllocError, Global};
 fn is_single(op: &Op) -> bool
     ensures { result ≡ is_single op.now }
 {
-    match op {
-        Op::Get
-        | Op::ContainsKey
-        | Op::Put(_)
-        | Op::GetAndPut(_)
-        | Op::PutIfAbsent(_)
-        | Op::Remove
-        | Op::RemoveIf(_)
-        | Op::GetAndRemove
-        | Op::Replace(_)
-        | Op::ReplaceIf { .. }
-        | Op::GetAndReplace(_)
-        | Op::Invoke => true,
-        Op::Clear | Op::LoadAll { .. } => false,
+    match op.kind() {
+        OpKind::Get | OpKind::ContainsKey | OpKind::Write | OpKind::Invoke => true,
+        OpKind::Clear | OpKind::LoadAll { .. } => false,
     }
 }
 
@@ -98,7 +87,7 @@ fn place_of(calls: &[OpenCall], call: u64) -> Option<usize>
 /// A call begins. It is then under way, unless it has too many keys or none. An `Err` says that an allocation failed, and then no call
 /// has begun.
 ///
-/// A call of one key, as most are, is made in its place in the list. Any other is made first, and then moved there.
+/// A call of one key, the most frequent kind, is made in its place in the list. Any other call is made first and then moved there.
 pub(crate) fn begin(
     alloc: Global,
     calls: &mut Vec<OpenCall>,
@@ -121,7 +110,7 @@ pub(crate) fn begin(
     begin_any(alloc, calls, caller, command, seen)
 }
 
-/// The same, of any command. It is a function of its own, so that a call of one key doesn't clear the room of its values.
+/// Begins a call with any command. It is a function of its own because a call of one key needn't clear the room of its values.
 #[inline(never)]
 fn begin_any(
     alloc: Global,

@@ -1,4 +1,4 @@
-//! What calls do.
+//! The commands of calls.
 ghost use Rattle.std.specs.Prelude.{◌≡◌, [], is_some, length, option_map};
 ghost use Rattle.jc_world.specs.Calls.{kind_of, sweep_of, is_bulk, cause_after, puts_off, tasks, has_too_many};
 
@@ -8,7 +8,7 @@ use jc_model::Op;
 use jc_types::{BULK_KEYS_MAX, Key, Refusal, Value};
 use std::alloc::Global;
 
-/// What a call does: one operation on one key, or one operation on each of many keys, in their order.
+/// The command of a call: one operation on one key, or one operation on each of many keys, in their order.
 #[derive(Drop)]
 pub enum Command {
     /// One operation on one key, as `get` and `put` are.
@@ -71,7 +71,7 @@ impl Command {
         }
     }
 
-    /// What is done at each key that is cached, if the command takes the keys that are cached, whichever they are.
+    /// The operation at each cached key, if the command takes the cached keys, whichever they are.
     fn sweep_op(&self) -> Option<Op>
         ensures { sweep_of self.now ≡ option_map (λ op. record { op = op; looked = [] }) result }
     {

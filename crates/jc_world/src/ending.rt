@@ -5,11 +5,12 @@ ghost use Rattle.jc_world.specs.Held.{parts_of, joins_of};
 
 use crate::held_keys::{HeldKeys, take_any};
 use crate::joined::{Joins, take_any_join};
+use jc_model::Reply;
 use jc_stripe::phase_laws::stays_reached;
 use jc_stripe::{Picked, Stripe};
 use jc_types::{Config, stripe_of};
 
-/// Ends all reservations: what was answered is committed, and all else is given back.
+/// Ends all reservations: an answered one is committed, and every other one is given back.
 pub(crate) fn end_all(
     config: &Config,
     stripes: &mut Vec<Stripe>,
@@ -45,9 +46,9 @@ pub(crate) fn pick_all(config: &Config, stripes: &mut Vec<Stripe>, joins: &mut J
     'picking: while let Some(join) = take_any_join(joins) {
         let number = stripe_of(join.key(), config.stripes);
         let stripe = &mut stripes[number];
-        match stripe.pick_up(join) {
+        let mut reply = Reply::Unit;
+        match stripe.pick_up(join, &mut reply) {
             Picked::Answer {
-                reply: _,
                 place: _,
                 shared_with: _,
             }

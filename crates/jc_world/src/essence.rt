@@ -1,4 +1,4 @@
-//! What a world does next doesn't depend on all of its past: worlds that differ only in the rest stay alike.
+//! A world's next outcomes depend on its essence alone: worlds that differ only in the rest stay alike.
 ghost use Rattle.jc_world.specs.Alike.{WorldsGoOnAlike};
 ghost use Rattle.jc_world.specs.Essence.{EssencesTell};
 

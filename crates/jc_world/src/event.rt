@@ -1,4 +1,4 @@
-//! What may happen in a world, what is shown of it, and what a world keeps of its calls.
+//! The events of a world, their outcomes, and a world's record of its calls.
 ghost use Rattle.std.specs.Prelude.{◌≡◌};
 ghost use Rattle.jc_world.specs.declared.event.Outcome.TheVariants as outcome;
 ghost use Rattle.jc_world.specs.Events.{not_over};
@@ -27,7 +27,7 @@ pub enum WorldEvent {
         call: u64,
         /// The session, from 1 to [`SESSIONS_MAX`](jc_types::SESSIONS_MAX).
         session: u32,
-        /// What the call does.
+        /// The call's command.
         command: Command,
     },
     /// A call that takes the keys that are cached, as `clear` does, takes those of one stripe, in byte order: they are then keys of
@@ -64,7 +64,7 @@ pub enum WorldEvent {
         call: u64,
         /// The key that the call has reserved.
         key: Key,
-        /// What the loader answers: anything but `NotAsked`.
+        /// The loader's answer: anything but `NotAsked`.
         answer: LoadAnswer,
     },
     /// The writer changes the store, as it was asked. It fits if the writer is asked and hasn't returned, also once more.
@@ -180,10 +180,10 @@ pub struct JoinAnswer {
     pub shared: u32,
 }
 
-/// What an event has shown: what happened, and whether a call of many keys is over with it.
+/// An event as it is shown: its outcome, and whether a call of many keys is over with it.
 #[derive(Drop)]
 pub struct Shown {
-    /// What happened.
+    /// The outcome.
     pub outcome: Outcome,
     /// The call of many keys that is over with the event, if one is. A call that leaves, or is refused whole, isn't over but given
     /// up, and a call of one key is over with the reply or refusal that the outcome says.
@@ -201,7 +201,7 @@ pub struct Over {
     pub cause: Option<Refusal>,
 }
 
-/// What happened with an event.
+/// The outcome of an event.
 #[derive(Drop)]
 pub enum Outcome {
     /// The call has begun.
@@ -285,22 +285,22 @@ pub struct Part {
     /// The reservation: who reserved the key, for what, and whom the call asked first. It is the loader, the writer for a
     /// change, or the entry processor.
     pub reservation: Reservation,
-    /// What the one who was asked has done and answered so far.
+    /// The answers for it so far, and what was done.
     pub progress: PartProgress,
 }
 
-/// What was done and answered so far for a reserved key.
+/// The answers so far for a reserved key, and what was done.
 #[derive(Clone, Copy, Debug, PartialEq, Eq)]
 pub struct PartProgress {
-    /// What the writer is asked for, if it is: first, or after the entry processor.
+    /// The change that the writer is asked for, if it is: first, or after the entry processor.
     pub change: Option<Change>,
-    /// What was answered outside. Who has not answered yet is `NotAsked`, as is who isn't asked.
+    /// The outside answers. One that hasn't come yet is `NotAsked`, and so is one that nobody waits for.
     pub out: Out,
     /// Whether the writer has changed the store.
     pub is_changed: bool,
 }
 
-/// What has held, since the world was opened last, of loaders, writers and other programs, and of that opening.
+/// The premises of coherence, and whether each has held since the world was opened last.
 #[derive(Clone, Copy, Debug, PartialEq, Eq)]
 pub struct Premises {
     /// Honest writers: for each key each report said that it was written exactly if the writer had changed the store.

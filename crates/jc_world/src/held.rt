@@ -4,7 +4,7 @@ ghost use Rattle.jc_model.specs.declared.event.Out.{Out};
 ghost use Rattle.jc_model.specs.declared.event.Change.{Change};
 ghost use Rattle.jc_model.specs.Cache.{with_entry};
 ghost use Rattle.jc_model.specs.Table.{is_load_given, is_write_given};
-ghost use Rattle.jc_stripe.specs.declared.begun.StepDone.{StepDone};
+ghost use Rattle.jc_stripe.specs.Outcomes.{StepDone};
 ghost use Rattle.jc_stripe.specs.State.{IsOut};
 ghost use Rattle.jc_stripe.specs.Phases.{Commits, Withdraws, with_reply};
 ghost use Rattle.jc_stripe.specs.Effects.{change_due};
@@ -20,8 +20,8 @@ ghost use Rattle.jc_world.specs.Sound.{IsDue};
 use crate::event::{Part, PartProgress};
 use crate::outside::entry_after;
 use crate::reports::{ReportedKey, WriterBatch};
-use crate::run::{RunShown, change_due, commit_run, new_progress, progress_after};
-use jc_model::{Change, Contents, EntryAnswer, EntryCall, LoadAnswer, Reply, WriteAnswer};
+use crate::run::{RunPlan, RunShown, change_due, commit_run, new_progress, progress_after};
+use jc_model::{Change, Contents, EntryAnswer, LoadAnswer, Reply, WriteAnswer};
 use jc_mutentry::played_process;
 use jc_stripe::{
     Appended, Ask, First, ProcDone, Reservation, Stripe, Ticket, played_load, played_write,
@@ -54,7 +54,7 @@ impl Model for HeldKey {
 }
 
 impl HeldKey {
-    /// A key that was just reserved: the one whom its ticket asks first is to be asked.
+    /// A key that was just reserved: its ticket's first request is due.
     pub(crate) fn new(ticket: Ticket) -> HeldKey
         requires reserves { reserves ticket.reservation.first ≡ true }
         requires unasked { ticket.asked ≡ false }
@@ -90,7 +90,7 @@ impl HeldKey {
         self.reservation().caller.call
     }
 
-    /// What was asked and answered, as data.
+    /// The key's part, as data.
     pub(crate) fn part(&self) -> Part
         ensures { result ≡ self.now }
     {
@@ -100,7 +100,7 @@ impl HeldKey {
         }
     }
 
-    /// Whether nobody who was asked has answered.
+    /// Whether nothing was answered yet.
     fn is_unanswered(&self) -> bool
         ensures { result ≡ is_unanswered self.now.progress.out }
     {
@@ -183,29 +183,28 @@ impl HeldKey {
         self.progress.out.load = answer;
     }
 
-    /// The entry processor runs: it makes these calls, and its loader answers so if it is asked. What each call was answered is
-    /// appended to `answers`, for which there is room. Then the writer is asked for the net effect, if that is due.
+    /// The entry processor runs as planned. What each of its calls was answered is appended to `answers`, for which there is room.
+    /// Then the writer is asked for the net effect, if that is due.
     pub(crate) fn process(
         &mut self,
         config: &Config,
-        load: LoadAnswer,
-        calls: &[EntryCall],
-        fail: Option<u32>,
+        plan: &RunPlan<'_>,
         answers: &mut Vec<EntryAnswer>,
     ) -> RunShown
         requires waits { waits_for_process self.old ≡ true }
-        requires given { is_load_given load ≡ true }
-        requires room { vec_len answers.old + length calls.now ≤ vec_capacity answers.old }
-        ensures answers { answers.new.items ≡ answers.old.items ++ run_answers self.old.reservation load calls.now }
-        ensures load { result.load ≡ (run_result self.old.reservation load calls.now fail).load }
-        ensures change { result.change ≡ change_due config.now (run_result self.old.reservation load calls.now fail) }
+        requires given { is_load_given plan.now.load ≡ true }
+        requires room { vec_len answers.old + length plan.now.calls.now ≤ vec_capacity answers.old }
+        ensures answers { answers.new.items ≡ answers.old.items ++ run_answers self.old.reservation plan.now.load plan.now.calls.now }
+        ensures load { result.load ≡ (run_result self.old.reservation plan.now.load plan.now.calls.now plan.now.fail).load }
+        ensures change { result.change
+            ≡ change_due config.now (run_result self.old.reservation plan.now.load plan.now.calls.now plan.now.fail) }
         ensures run { self.new ≡ record self.old {
           progress = progress_after
-              (change_due config.now (run_result self.old.reservation load calls.now fail))
-              (run_result self.old.reservation load calls.now fail);
+              (change_due config.now (run_result self.old.reservation plan.now.load plan.now.calls.now plan.now.fail))
+              (run_result self.old.reservation plan.now.load plan.now.calls.now plan.now.fail);
         } }
     {
-        let done = played_process(self.ticket.ask(), calls, fail, load, answers);
+        let done = played_process(self.ticket.ask(), plan.calls, plan.fail, plan.load, answers);
         let load = *done.load();
         let change = change_due(config, &done);
         self.progress = progress_after(&change, &done);
@@ -234,7 +233,7 @@ impl HeldKey {
         }
     }
 
-    /// What a return of the writer shows of this key, if it is among those for which the writer is asked at once.
+    /// This key as the writer's return shows it, if it is among those for which the writer is asked at once.
     pub(crate) fn reported(&self, key: &Key, batch: WriterBatch) -> Option<ReportedKey>
         ensures { result ≡ reported_part batch key.now self.now }
     {
@@ -251,7 +250,7 @@ impl HeldKey {
         }
     }
 
-    /// The writer returns with this for the key. Says whether it had changed the store.
+    /// The writer returns with this for the key. The result tells whether it had changed the store.
     pub(crate) fn report(&mut self, report: WriteAnswer) -> bool
         requires waits { waits_for_report self.old ≡ true }
         requires given { is_write_given report ≡ true }

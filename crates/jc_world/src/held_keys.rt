@@ -20,11 +20,9 @@ ghost use Rattle.jc_world.specs.Held.{parts_of};
 use crate::event::{Part, Shown, show};
 use crate::held::HeldKey;
 use crate::reports::{ReportedKey, WriterBatch};
-use crate::run::{RunShown, asks_as};
+use crate::run::{RunPlan, RunShown, asks_as};
 use indexmap::IndexMap;
-use jc_model::{
-    Change, Contents, EntryAnswer, EntryCall, LoadAnswer, Op, ProcessAnswer, WriteAnswer,
-};
+use jc_model::{Change, Contents, EntryAnswer, LoadAnswer, Op, ProcessAnswer, WriteAnswer};
 use jc_stripe::{First, Ticket};
 use jc_types::{Config, Key};
 use std::alloc::{AllocError, Global};
@@ -72,14 +70,14 @@ pub(crate) fn hold(held: &mut HeldKeys, ticket: Ticket, seen: &mut Shown)
     put_reserved(held, &key, HeldKey::new(ticket));
 }
 
-/// What is held of a key. An empty map is asked for nothing: to hash a key costs time, and most calls hold none.
+/// The held key, if it is held. An empty map isn't searched, because hashing a key takes time and most calls hold none.
 pub(crate) fn held_at<'a>(held: &'a HeldKeys, key: &Key) -> Option<&'a HeldKey>
     ensures { option_copied result ≡ map.get (parts_of held.now) key.now }
 {
     if held.is_empty() { None } else { held.get(key) }
 }
 
-/// What a call holds of a key.
+/// The held key, if a call holds it.
 pub(crate) fn held_by<'a>(held: &'a HeldKeys, call: u64, key: &Key) -> Option<&'a HeldKey>
     ensures { option_copied result ≡ of_call call (map.get (parts_of held.now) key.now) }
 {
@@ -89,7 +87,7 @@ pub(crate) fn held_by<'a>(held: &'a HeldKeys, call: u64, key: &Key) -> Option<&'
     }
 }
 
-/// What was asked and answered for each key, in the order of the map.
+/// The parts of all held keys, in the order of the map.
 pub(crate) fn list_parts(alloc: Global, held: &HeldKeys) -> Result<Vec<(Key, Part)>, AllocError>
     ensures { IfOk result (λ parts. map.from_entries parts.items ≡ parts_of held.now) }
 {
@@ -163,7 +161,7 @@ pub(crate) fn is_asked(held: &HeldKeys, call: u64, key: &Key, batch: WriterBatch
     }
 }
 
-/// What a return of the writer shows of a key of a call, if it is among those for which the writer is asked at once.
+/// A key of a call as the writer's return shows it, if it is among those for which the writer is asked at once.
 pub(crate) fn reported_key(
     held: &HeldKeys,
     call: u64,
@@ -198,27 +196,26 @@ pub(crate) fn process(
     held: &mut HeldKeys,
     config: &Config,
     key: &Key,
-    load: LoadAnswer,
-    calls: &[EntryCall],
-    fail: Option<u32>,
+    plan: &RunPlan<'_>,
     answers: &mut Vec<EntryAnswer>,
 ) -> RunShown
     requires waits { has_progress waits_for_process (map.get (parts_of held.old) key.now) ≡ true }
-    requires given { is_load_given load ≡ true }
-    requires room { vec_len answers.old + length calls.now ≤ vec_capacity answers.old }
+    requires given { is_load_given plan.now.load ≡ true }
+    requires room { vec_len answers.old + length plan.now.calls.now ≤ vec_capacity answers.old }
     ensures { (part : Part) × (map.get (parts_of held.old) key.now ≡ Some part)
-        × (answers.new.items ≡ answers.old.items ++ run_answers part.reservation load calls.now)
-        × (result.load ≡ (run_result part.reservation load calls.now fail).load)
-        × (result.change ≡ change_due config.now (run_result part.reservation load calls.now fail))
+        × (answers.new.items ≡ answers.old.items ++ run_answers part.reservation plan.now.load plan.now.calls.now)
+        × (result.load ≡ (run_result part.reservation plan.now.load plan.now.calls.now plan.now.fail).load)
+        × (result.change
+        ≡ change_due config.now (run_result part.reservation plan.now.load plan.now.calls.now plan.now.fail))
         × (parts_of held.new ≡ map.insert (parts_of held.old) key.now
         (record part {
           progress = progress_after
-              (change_due config.now (run_result part.reservation load calls.now fail))
-              (run_result part.reservation load calls.now fail);
+              (change_due config.now (run_result part.reservation plan.now.load plan.now.calls.now plan.now.fail))
+              (run_result part.reservation plan.now.load plan.now.calls.now plan.now.fail);
         })) }
 {
     match held.get_mut(key) {
-        Some(one) => one.process(config, load, calls, fail, answers),
+        Some(one) => one.process(config, plan, answers),
         None => unreachable!(),
     }
 }

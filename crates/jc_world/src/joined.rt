@@ -14,7 +14,7 @@ use std::marker::Model;
 /// The joins, each by its call's number and its key.
 pub(crate) type Joins = IndexMap<(u64, Key), Join>;
 
-/// A call that has joined the load of its key and hasn't its answer, as data.
+/// A call that has joined the load of its key and has no answer yet, as data.
 #[derive(Clone, Copy)]
 pub struct JoinedLoad {
     caller: Caller,
@@ -33,7 +33,7 @@ impl Model for JoinedLoad {
 }
 
 impl JoinedLoad {
-    /// What a join is, as data.
+    /// The join, as data.
     fn new(join: &Join) -> JoinedLoad
         ensures { result ≡ join.now }
     {

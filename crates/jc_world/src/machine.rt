@@ -1,4 +1,4 @@
-//! The machine below a world: what each kind of event does.
+//! The machine below a world, with a function for each kind of event.
 ghost use Rattle.std.specs.Prelude.{◌≡◌, true, false, Ok, IfOk, OnErr, OnOk, Option, None, Some};
 ghost use Rattle.jc_types.specs.Limits.{check};
 ghost use Rattle.jc_model.specs.Cache.{entry_at};
@@ -84,7 +84,7 @@ impl Machine {
         })
     }
 
-    /// Makes the machine as `new` makes it in its present shape. What is out in it is ended first, as by `close`.
+    /// Makes the machine as `new` makes it in its present shape. Reservations and joins that are out are ended first, as by `close`.
     pub(crate) fn restart(&mut self)
         requires { IsSoundWorld self.old }
         ensures { self.new ≡ start self.old.config }
@@ -103,7 +103,7 @@ impl Machine {
         self.is_fresh = true;
     }
 
-    /// What the store holds.
+    /// The store's value of a key.
     fn stored(&self, key: &Key) -> Option<Value>
         ensures { result ≡ entry_at self.now.store key.now }
     {
@@ -118,7 +118,7 @@ impl Machine {
         self.store.set(key, Some(*value))
     }
 
-    /// One event, and what it shows. One that doesn't fit is shown as such, and changes nothing.
+    /// Plays one event and shows it. An event that doesn't fit is shown as unfit, and changes nothing.
     pub(crate) fn step(&mut self, event: &WorldEvent, seen: &mut Shown) -> Result<(), AllocError>
         requires { IsSoundWorld self.old }
         ensures step { OnOk result (Step self.old event.now seen.new self.new) }
@@ -131,8 +131,8 @@ impl Machine {
         self.apply(event, seen)
     }
 
-    /// One event that fits. Each kind has a function of its own, in the machine code too: there a function clears the room of all
-    /// its values when it begins, and an event is to clear its own alone.
+    /// Plays one event that fits. Each kind has a function of its own, in the machine code too, because a function clears the room
+    /// of all its values when it begins, and an event is to clear only its own.
     fn apply(&mut self, event: &WorldEvent, seen: &mut Shown) -> Result<(), AllocError>
         requires sound { IsSoundWorld self.old }
         requires fits { fits self.old event.now ≡ true }
@@ -147,14 +147,8 @@ impl Machine {
             } => self.begin_call(*call, *session, command, seen),
             WorldEvent::Look { call, stripe } => self.look(*call, *stripe, seen),
             WorldEvent::Start { call, key } => self.start(*call, key, seen),
-            WorldEvent::Read { call, key } => {
-                self.read(*call, key, seen);
-                Ok(())
-            }
-            WorldEvent::Say { call, key, answer } => {
-                self.say(*call, key, answer, seen);
-                Ok(())
-            }
+            WorldEvent::Read { call, key } => Ok(self.read(*call, key, seen)),
+            WorldEvent::Say { call, key, answer } => Ok(self.say(*call, key, answer, seen)),
             WorldEvent::Change { call, key } => self.change(*call, key, seen),
             WorldEvent::Report { call, left, fault } => {
                 self.writer_returns(*call, left, *fault, seen)
@@ -167,14 +161,8 @@ impl Machine {
                 fail,
             } => self.process(*call, key, load, calls, *fail, seen),
             WorldEvent::Commit { call, key } => self.commit(*call, key, seen),
-            WorldEvent::Withdraw { call, key } => {
-                self.withdraw(*call, key, seen);
-                Ok(())
-            }
-            WorldEvent::Leave { call } => {
-                self.leave(*call, seen);
-                Ok(())
-            }
+            WorldEvent::Withdraw { call, key } => Ok(self.withdraw(*call, key, seen)),
+            WorldEvent::Leave { call } => Ok(self.leave(*call, seen)),
             WorldEvent::PickUp { call, key } => self.pick_up(*call, key, seen),
             WorldEvent::Foreign { key, value } => self.foreign_write(key, value, seen),
             WorldEvent::Reopen { config } => self.reopen(config, seen),
@@ -289,9 +277,9 @@ impl Machine {
         make_join_room(&mut self.joins)?;
         let stripe = stripe_of(key, self.config.stripes);
         let join = take_join(&mut self.joins, call, key);
-        match self.stripes.pick_up(stripe, join) {
+        let mut reply = Reply::Unit;
+        match self.stripes.pick_up(stripe, join, &mut reply) {
             Picked::Answer {
-                reply,
                 place: step,
                 shared_with: shared,
             } => {
@@ -313,7 +301,7 @@ impl Machine {
         Ok(())
     }
 
-    /// Ends the machine: what was answered is committed, the other reservations are given back, and the joins are picked up.
+    /// Ends the machine: answered reservations are committed, the others are given back, and the joins are picked up.
     pub(crate) fn close(self)
         requires { IsSoundWorld self }
     {
@@ -337,7 +325,7 @@ impl Machine {
     }
 }
 
-/// Shows that an event doesn't fit. It is a function of its own, as the kinds of event are.
+/// Shows that an event doesn't fit. Like each kind of event, it has a function of its own.
 #[inline(never)]
 fn show_unfit(seen: &mut Shown)
     ensures { seen.new ≡ not_over outcome.Unfit }

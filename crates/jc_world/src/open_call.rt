@@ -67,7 +67,7 @@ impl OpenCall {
         })
     }
 
-    /// The call of a `get` on one key, of which [`set_single`](Self::set_single) makes one of any operation. It takes no memory.
+    /// A `get` of one key, which [`set_single`](Self::set_single) turns into a call of any operation. It takes no memory.
     pub(crate) fn get(caller: Caller, key: &Key) -> Self
         ensures { result ≡ new_call caller.call caller.session (command.Single Get key.now) }
     {
@@ -130,7 +130,7 @@ impl OpenCall {
         self.cause
     }
 
-    /// What the call does at each key that it still finds, if it is to look at a stripe.
+    /// The operation of the call at each key that it still finds, if it has to look at a stripe.
     pub fn op_found(&self) -> Option<Op>
         ensures { result ≡ op_found self.now.sweep }
     {

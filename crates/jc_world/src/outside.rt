@@ -1,4 +1,4 @@
-//! What loaders and writers say, and whether they are honest.
+//! The answers of loaders and writers, and whether they are honest.
 ghost use Rattle.std.specs.Prelude.{◌≡◌};
 ghost use Rattle.jc_world.specs.Premises.{read_answer, changed_to, report_of, is_true_load, is_done, is_true_report};
 
@@ -19,7 +19,7 @@ pub(crate) fn is_honest_load(answer: LoadAnswer, stored: Option<Value>) -> bool
     }
 }
 
-/// What a loader that reads the store answers.
+/// The answer of a loader that reads the store.
 pub(crate) fn answer_of(stored: Option<Value>) -> LoadAnswer
     ensures { result ≡ read_answer stored }
 {
@@ -56,7 +56,7 @@ pub(crate) fn is_honest_report(report: &WriteAnswer, is_changed: bool) -> bool
     is_changed == is_done(report)
 }
 
-/// What the store holds at a key once the writer did as it was asked.
+/// The store's value of a key once the writer has made the change that it was asked for.
 pub(crate) fn entry_after(change: &Change) -> Option<Value>
     ensures { result ≡ changed_to change.now }
 {

@@ -1,4 +1,4 @@
-//! What a call that has joined a load is told, as a law over every run.
+//! The answer to a call that has joined a load, as a law over every run.
 ghost use Rattle.jc_world.specs.PickUps.{AnswersJoins};
 
 use jc_stripe::phase_laws::{keeps_reserved, stays_reached};

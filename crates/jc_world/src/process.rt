@@ -12,7 +12,7 @@ use std::marker::Model;
 /// How the loader answers if an entry processor's calls ask it.
 #[derive(Clone, Copy, Debug, PartialEq, Eq)]
 pub enum LoadSource {
-    /// What the store holds when the processor runs.
+    /// The store's value when the processor runs.
     Store,
     /// This value, or none, whatever the store holds.
     Stated(Option<Value>),
@@ -21,7 +21,7 @@ pub enum LoadSource {
 }
 
 impl LoadSource {
-    /// What the loader answers, with this in the store.
+    /// The loader's answer, with this in the store.
     pub(crate) fn answer(&self, stored: Option<Value>) -> LoadAnswer
         ensures { result ≡ load_from self.now stored }
     {
@@ -84,16 +84,16 @@ impl EntryCalls {
     }
 }
 
-/// What is shown of an entry processor that has run.
+/// An entry processor's run, as it is shown.
 #[derive(Drop)]
 pub struct Processed {
-    /// What each of its calls was answered, in their order. A failed load is the last answer: no call follows it.
+    /// The answers to its calls, in their order. A failed load is the last answer: no call follows it.
     pub answers: ReadOnlyList<EntryAnswer>,
-    /// What the loader answered: `NotAsked` if no call asked it. It was asked by the first `getValue`.
+    /// The loader's answer: `NotAsked` if no call asked it. The first `getValue` asks it.
     pub load: LoadAnswer,
     /// The code with which the processor failed, if it did.
     pub fault: Option<u32>,
-    /// What the writer is asked for now, if it is: with write-through on the net effect of the calls, unless the loader or the
-    /// processor failed.
+    /// The change that the writer is asked for now, if it is: with write-through on the net effect of the calls, unless the loader
+    /// or the processor failed.
     pub change: Option<Change>,
 }

@@ -1,4 +1,4 @@
-//! What callers were shown, as laws over every run.
+//! The answers that callers were shown, as laws over every run.
 ghost use Rattle.jc_world.specs.Replies.{RepliesStand, StepsShownOnce};
 
 use jc_stripe::phase_laws::{grows, keeps_reserved, stays_reached};

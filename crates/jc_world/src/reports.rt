@@ -1,4 +1,4 @@
-//! The return of a writer in a world: what it leaves of its collection, and what is shown of the keys that it was asked for.
+//! The return of a writer in a world: the keys that it leaves, and the keys of its request as they are shown.
 ghost use Rattle.std.specs.Prelude.{◌≡◌, ◌∷◌, [], IfOk};
 ghost use Rattle.jc_model.specs.Batches.{is_among};
 ghost use Rattle.jc_world.specs.Premises.{report_for};
@@ -95,13 +95,13 @@ pub enum WriterBatch {
 pub struct ReportedKey {
     /// The key.
     pub key: Key,
-    /// What the writer was asked for.
+    /// The change that the writer was asked for.
     pub change: Change,
     /// Whether it had changed the store.
     pub is_changed: bool,
 }
 
-/// What a writer's return shows.
+/// A writer's return, as it is shown.
 #[derive(Drop)]
 pub struct Reported {
     /// The keys of the call that the writer was asked for together, and hadn't returned for before, in the order of the call.

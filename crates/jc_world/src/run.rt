@@ -11,20 +11,31 @@ ghost use Rattle.jc_world.specs.Events.{asks_as, new_progress, progress_after};
 ghost use Rattle.jc_world.specs.Sound.{change_in};
 
 use crate::event::{Outcome, PartProgress};
-use jc_model::{Change, LoadAnswer, Out, Reply, WriteAnswer};
+use jc_model::{Change, EntryCall, LoadAnswer, Out, Reply, WriteAnswer};
 use jc_stripe::{Appended, Ask, First, ProcDone, Stripe, Ticket, played_write};
 use jc_types::Config;
 
-/// What a processor's run shows, but for the answers to its calls and its own code.
+/// An entry processor's run as its event states it.
+#[derive(Clone, Copy)]
+pub(crate) struct RunPlan<'a> {
+    /// The answer of its loader if it is asked.
+    pub(crate) load: LoadAnswer,
+    /// The calls that it makes.
+    pub(crate) calls: &'a [EntryCall],
+    /// The code with which it fails, if it does.
+    pub(crate) fail: Option<u32>,
+}
+
+/// A processor's run as it is shown, without the answers to its calls and its own code.
 #[derive(Clone, Copy)]
 pub(crate) struct RunShown {
-    /// What its loader answered.
+    /// The answer of its loader.
     pub(crate) load: LoadAnswer,
-    /// What the writer is asked for.
+    /// The change that the writer is asked for.
     pub(crate) change: Option<Change>,
 }
 
-/// What is shown of a key that was just reserved: whom its call asks first.
+/// The outcome of a reservation: it shows whether the loader, the writer or the processor is asked first.
 pub(crate) fn asks_as(first: &First) -> Outcome
     ensures { result ≡ asks_as first.now }
 {
@@ -47,7 +58,7 @@ pub(crate) fn new_progress(first: &First) -> PartProgress
     }
 }
 
-/// What the writer is asked for first, if it is.
+/// The change that the writer is asked for first, if it is.
 fn change_asked(first: &First) -> Option<Change>
     ensures { result ≡ change_asked first.now }
 {
@@ -57,7 +68,7 @@ fn change_asked(first: &First) -> Option<Change>
     }
 }
 
-/// What the writer is to be asked for after a processor: its net effect, with write-through on.
+/// The change that the writer has to be asked for after a processor: with write-through on, its net effect.
 pub(crate) fn change_due(config: &Config, done: &ProcDone<Ask>) -> Option<Change>
     ensures { result ≡ change_due config.now done.now }
 {

@@ -4,7 +4,7 @@ ghost use Rattle.std.specs.Prelude.{ℕ, replicate, vec_len, vec_capacity, slice
 ghost use Rattle.jc_types.specs.declared.limits.TheConstants.{STEP_PLACES, JOINERS_MAX, STRIPES_MAX};
 ghost use Rattle.jc_types.specs.Limits.{check};
 ghost use Rattle.jc_stripe.specs.State.{IsOut, IsJoined};
-ghost use Rattle.jc_stripe.specs.Phases.{MayBegin, begun_with, with_reply, Commits, Withdraws, PicksUp};
+ghost use Rattle.jc_stripe.specs.Phases.{MayBegin, begun_with, with_reply, Commits, Withdraws, PicksUp, polled_with};
 ghost use Rattle.jc_outside.specs.declared.done.Origin.TheVariants.{Played};
 ghost use Rattle.jc_world.specs.World.{out_of, is_answered, is_unanswered, empty_stripes};
 ghost use Rattle.jc_world.specs.Sound.{IsDue};
@@ -151,13 +151,13 @@ impl Stripes {
         held.withdraw(stripe);
     }
 
-    /// Asks for the answer of the load that a call has joined.
-    pub(crate) fn pick_up(&mut self, number: usize, join: Join) -> Picked
+    /// Asks for the answer of the load that a call has joined, and writes it to `reply`.
+    pub(crate) fn pick_up(&mut self, number: usize, join: Join, reply: &mut Reply) -> Picked
         requires { IsSomeAnd (slice_get self.old.stripes number) (λ s. IsJoined s join) }
-        ensures { IsQuietPhase self.old number (λ from to. PicksUp from join result to) self.new }
+        ensures { IsQuietPhase self.old number (λ from to. PicksUp from join (polled_with result reply.new) to) self.new }
     {
         let stripe = &mut self.items[number];
-        stripe.pick_up(join)
+        stripe.pick_up(join, reply)
     }
 
     /// How many events there are.
@@ -181,7 +181,7 @@ impl Stripes {
         &self.items
     }
 
-    /// The stripes, for anyone who ends them.
+    /// The stripes, to be ended.
     pub(crate) fn into_items(self) -> Vec<Stripe>
         ensures { result.items ≡ self.stripes }
     {
@@ -263,7 +263,7 @@ fn merge(alloc: Global, stripes: &[Stripe], turns: &[u8]) -> Result<Vec<Event>, 
     Ok(order)
 }
 
-/// What is shown of a step of a stripe that replies this.
+/// A stripe's step with this reply, as it is shown.
 pub(crate) fn shown_of(number: usize, done: Appended, reply: &Reply) -> Stepped
     ensures step { step_of result ≡ with_reply done reply.now }
     ensures stripe { result.stripe ≡ number }

@@ -33,7 +33,7 @@ impl Sweep {
         }
     }
 
-    /// What the call does at each key that it finds.
+    /// The operation of the call at each key that it finds.
     pub(crate) fn op(&self) -> &Op
         ensures { result.now ≡ self.now.op }
     {
@@ -71,7 +71,7 @@ impl Sweep {
     }
 }
 
-/// Whether each stripe is among these, of which there are `stripes`.
+/// Whether each of `stripes` stripes is in this list.
 fn has_looked_at_each(looked: &[usize], stripes: usize) -> bool
     ensures { result ≡ has_looked_at_each looked.now stripes }
 {

@@ -1,4 +1,4 @@
-//! What a call does at its keys, and which of them are open.
+//! The operations of a call at its keys, and which of them are open.
 ghost use Rattle.std.specs.Prelude.{◌≡◌, ◌==◌, ◌&&◌, ◌||◌, ◌+◌, ◌≤◌, ◌<◌, ◌++◌, ◌∷◌, [], true, Some, None, is_some, is_none, length, option_copied};
 ghost use Rattle.std.specs.Prelude.{slice_get, OnErr, OnOk, IfOk};
 ghost use Rattle.std.specs.List.{list_all, list_any, IsDistinct};
@@ -22,7 +22,7 @@ use jc_model::{Change, Op};
 use jc_types::{Key, Value};
 use std::alloc::{AllocError, Global};
 
-/// What a call does at its keys, in the order of its command. At a key that is settled it does nothing more.
+/// The operations of a call at its keys, in the order of its command. A settled key has none any more.
 #[derive(Drop)]
 pub(crate) enum Tasks {
     /// At one key. This takes no memory.
@@ -67,7 +67,7 @@ pub(crate) fn put_one(tasks: &mut Tasks, key: &Key, op: &Op)
     }
 }
 
-/// What a command does, at keys that are all open.
+/// The operations of a command, at keys that are all open.
 pub(crate) fn tasks_for(alloc: Global, command: &Command) -> Result<Tasks, AllocError>
     ensures tasks { IfOk result (λ t. tasks_of t ≡ tasks command.now) }
     ensures counted { IfOk result (λ t. IsCountKept t) }
@@ -143,7 +143,7 @@ fn put_values(
     Ok(())
 }
 
-/// No key is named twice. This does nothing: what it says is its contract.
+/// No key is named twice. This does nothing: its contract is the statement.
 pub(crate) fn names_each_once(tasks: &Tasks)
     ensures { IsDistinct (pointwise ◌==◌) (keys_of (tasks_of tasks.now)) }
 {
@@ -210,7 +210,7 @@ pub(crate) fn push_tasks(
     Ok(())
 }
 
-/// What is done at a key, if it is open.
+/// The operation at a key, if it is open.
 pub(crate) fn op_among<'a>(ops: &'a IndexMap<Key, Option<Op>>, key: &Key) -> Option<&'a Op>
     ensures { option_copied result ≡ op_in ops.now.entries key.now }
 {

@@ -193,7 +193,7 @@ impl World {
         self.machine.premises
     }
 
-    /// What the store holds, in the byte order of the keys. An `Err` says that an allocation failed.
+    /// The entries of the store, in the byte order of the keys. An `Err` says that an allocation failed.
     pub fn stored_entries(&self, alloc: Global) -> Result<Vec<(Key, Value)>, AllocError>
         ensures { IfOk result (λ entries. entries.items ≡ map.entries self.now.world.store) }
     {
@@ -238,7 +238,7 @@ impl World {
         find_call(&self.machine.calls, call)
     }
 
-    /// What a call has asked and heard for a key that it has reserved.
+    /// A key that a call has reserved, with the requests and the answers for it so far.
     pub fn part(&self, call: u64, key: &Key) -> Option<Part>
         ensures { result ≡ part_of self.now.world call key.now }
     {
@@ -334,7 +334,7 @@ impl World {
     }
 
     /// Makes the world as [`new`](World::new) makes it in its present shape: the cache and the store are empty, no call has begun, and
-    /// numbers count from the start. What is out is ended first, as [`close`](World::close) ends it.
+    /// numbers count from the start. Reservations and joins that are out are ended first, as [`close`](World::close) ends them.
     ///
     /// It takes no memory, so it doesn't fail.
     pub fn restart(&mut self)

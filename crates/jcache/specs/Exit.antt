@@ -14,6 +14,7 @@
 --     ExitOfThreads           a report on these threads was shown; or they were too much work; or an allocation failed, and
 --                             nothing was written
 --     ExitOfTask              a task was carried out, and the status tells how that ended
+--     Exits                   the same of these streams
 --     version_text            the output of `--version`
 --     ending_text             the end of the help: the meaning of the statuses, and the task of the repository's script
 --     IsHelp                  a text of help; `clap`'s contract leaves open the part before the ending
@@ -103,6 +104,11 @@ ExitOfTask task.Run played explored answered counted unread = played
 ExitOfTask task.Shell played explored answered counted unread = answered
 ExitOfTask (task.Explore states) played explored answered counted unread = explored states
 ExitOfTask (task.Threads plan) played explored answered counted unread = counted plan × unread
+
+abbrev pub Exits : (prompt : List ℕ) → Task → (status : ℕ) (before after old new : Option (List ℕ)) (kept saved : Option (List Saved)) (silent unread : Type 0) → Type 0
+Exits prompt asked status before after old new kept saved silent unread =
+    ExitOfTask asked (ExitOfPlay status before after old new silent) (λ states. ExitOfExplore states status before after old new silent)
+    (ExitOfShell prompt status before after old new kept saved) (λ plan. ExitOfThreads plan status old new silent) unread
 
 abbrev pub version_text : List ℕ
 version_text = codes "jcache 0.2.0\n"

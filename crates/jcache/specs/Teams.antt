@@ -3,7 +3,7 @@
 use Rattle.std.specs.Prelude.{◌≤◌, ℕ}
 use Rattle.jc_cache.specs.Caches.{CacheState}
 use Rattle.jc_cache.specs.Sessions.{MayCall}
-use Rattle.jc_cache.specs.declared.session.Session.{Session}
+use Rattle.jc_session.specs.declared.session.Session.{Session}
 
 pub record HasCounted {I J : Type 0} {D : I → Type 0} {E : J → Type 0} (cache : CacheState) (most : ℕ) (session : Session I J D E) : Type 0 where
   pub may : MayCall cache session

@@ -5,7 +5,7 @@ ghost use Rattle.std.specs.IoError.{error_kind};
 ghost use Rattle.jc_commands.specs.CommandLine.{Names, faults_at, subcommand_at};
 ghost use Rattle.clap.specs.Words.{kind_of};
 ghost use Rattle.jc_commands.specs.declared.commands.Task.TheVariants as tasks;
-ghost use Rattle.jcache.specs.Exit.{Exit, ExitOfExplore, ExitOfFault, ExitOfPlay, ExitOfShell, ExitOfTask, ExitOfThreads, FailsByStreams, IsHelp, ShowsReport};
+ghost use Rattle.jcache.specs.Exit.{Exit, ExitOfExplore, ExitOfFault, ExitOfPlay, ExitOfShell, ExitOfThreads, Exits, FailsByStreams, IsHelp, ShowsReport};
 ghost use Rattle.jcache.specs.Exit.{status_of, status_of_end, status_without_words};
 ghost use Rattle.jcache.specs.Reports.{IsReportOf};
 
@@ -357,15 +357,9 @@ fn carry_out<
 ) -> u8
     requires callable { (plan : _) → F.pre count plan }
     requires reports { (plan : _) (r : _) → F.post count plan r → IfOk r (IsReportOf plan.now) }
-    ensures done { ExitOfTask task.now
-        (ExitOfPlay result (R.remaining reader.old.inner) (R.remaining reader.new.inner) (W.contents out.old.inner)
-        (W.contents out.new.inner) (out.new ≡ out.old))
-        (λ states. ExitOfExplore states result (R.remaining reader.old.inner) (R.remaining reader.new.inner) (W.contents out.old.inner)
-        (W.contents out.new.inner) (out.new ≡ out.old))
-        (ExitOfShell console.old.prompt.now result (R.remaining reader.old.inner) (R.remaining reader.new.inner) (W.contents out.old.inner)
-        (W.contents out.new.inner) (S.saved console.old.saves) (S.saved console.new.saves))
-        (λ plan. ExitOfThreads plan result (W.contents out.old.inner) (W.contents out.new.inner) (out.new ≡ out.old))
-        (reader.new ≡ reader.old) }
+    ensures done { Exits console.old.prompt.now task.now result
+        (R.remaining reader.old.inner) (R.remaining reader.new.inner) (W.contents out.old.inner) (W.contents out.new.inner)
+        (S.saved console.old.saves) (S.saved console.new.saves) (out.new ≡ out.old) (reader.new ≡ reader.old) }
     ensures streams { reader.old.failed ≡ false → out.old.failed ≡ false
         → FailsByStreams result reader.new.failed out.new.failed (R.remaining reader.old.inner)
         ((task.now ≡ tasks.Shell) ⊎ (out.new ≡ out.old)) }
@@ -397,15 +391,9 @@ fn do_words<
     requires callable { (plan : _) → F.pre count plan }
     requires reports { (plan : _) (r : _) → F.post count plan r → IfOk r (IsReportOf plan.now) }
     ensures answered { Exit (faults_at (map string_bytes words.now)) (subcommand_at (map string_bytes words.now)) result
-        (λ task. ExitOfTask task
-        (ExitOfPlay result (R.remaining reader.old.inner) (R.remaining reader.new.inner) (W.contents out.old.inner)
-        (W.contents out.new.inner) (out.new ≡ out.old))
-        (λ states. ExitOfExplore states result (R.remaining reader.old.inner) (R.remaining reader.new.inner) (W.contents out.old.inner)
-        (W.contents out.new.inner) (out.new ≡ out.old))
-        (ExitOfShell console.old.prompt.now result (R.remaining reader.old.inner) (R.remaining reader.new.inner) (W.contents out.old.inner)
-        (W.contents out.new.inner) (S.saved console.old.saves) (S.saved console.new.saves))
-        (λ plan. ExitOfThreads plan result (W.contents out.old.inner) (W.contents out.new.inner) (out.new ≡ out.old))
-        (reader.new ≡ reader.old))
+        (λ task. Exits console.old.prompt.now task result
+        (R.remaining reader.old.inner) (R.remaining reader.new.inner) (W.contents out.old.inner) (W.contents out.new.inner)
+        (S.saved console.old.saves) (S.saved console.new.saves) (out.new ≡ out.old) (reader.new ≡ reader.old))
         (reader.new ≡ reader.old) (W.contents out.old.inner) (W.contents out.new.inner) (out.new ≡ out.old) }
     ensures streams { reader.old.failed ≡ false → out.old.failed ≡ false
         → FailsByStreams result reader.new.failed out.new.failed (R.remaining reader.old.inner)
@@ -460,15 +448,9 @@ pub fn exec<
     // The task of right words is carried out. For other words the error is written, or the text that they ask for is shown; then
     // nothing is read.
     ensures answered { IfOk words (λ w. Exit (faults_at (map string_bytes w.items)) (subcommand_at (map string_bytes w.items)) result
-        (λ task. ExitOfTask task
-        (ExitOfPlay result (R.remaining reader.old.inner) (R.remaining reader.new.inner) (W.contents out.old.inner)
-        (W.contents out.new.inner) (out.new ≡ out.old))
-        (λ states. ExitOfExplore states result (R.remaining reader.old.inner) (R.remaining reader.new.inner) (W.contents out.old.inner)
-        (W.contents out.new.inner) (out.new ≡ out.old))
-        (ExitOfShell console.old.prompt.now result (R.remaining reader.old.inner) (R.remaining reader.new.inner) (W.contents out.old.inner)
-        (W.contents out.new.inner) (S.saved console.old.saves) (S.saved console.new.saves))
-        (λ plan. ExitOfThreads plan result (W.contents out.old.inner) (W.contents out.new.inner) (out.new ≡ out.old))
-        (reader.new ≡ reader.old))
+        (λ task. Exits console.old.prompt.now task result
+        (R.remaining reader.old.inner) (R.remaining reader.new.inner) (W.contents out.old.inner) (W.contents out.new.inner)
+        (S.saved console.old.saves) (S.saved console.new.saves) (out.new ≡ out.old) (reader.new ≡ reader.old))
         (reader.new ≡ reader.old) (W.contents out.old.inner) (W.contents out.new.inner) (out.new ≡ out.old)) }
     // Without words nothing is read or written.
     ensures without_words { IfErr words (λ e. (result ≡ status_without_words (error_kind e)) × (reader.new ≡ reader.old) × (out.new ≡ out.old)) }

@@ -143,31 +143,54 @@ fn tells_a_fault(rt: HostRuntime) {
     );
 }
 
-#[test]
-fn answers_lines(rt: HostRuntime) {
-    let alloc = rt.alloc();
+/// Answers these lines with a prompt, to the end of the input.
+fn answers(
+    rt: &impl Abort,
+    alloc: Global,
+    input: &[u8],
+    shown: &str,
+    console: &mut Console<'_, Vec<u8>, Unwatched, Folder>,
+) {
     let count = |plan: &Plan| -> Result<Report, AllocError>
         ensures { IfOk result (IsReportOf plan.entry.now) }
     { Err(AllocError) };
-    let (mut out, mut console) = (Vec::new(alloc), unwatched(alloc));
+    let mut out = Vec::new(alloc);
     console.prompt = "> ";
-    let input =
-        b"open 1 2 100\nend 1\nbegin 1 s1 put a 1\nsave full\nsave here\nquit\naudit\n".as_slice();
     let status = exec(
         alloc,
         count,
-        Ok(words(&rt, alloc, "jcache shell")),
+        Ok(words(rt, alloc, "jcache shell")),
         &mut Noted::new(input),
         &mut Noted::new(&mut out),
-        &mut console,
+        console,
     );
-    assert_eq!(&rt; status, 0);
+    assert_eq!(rt; status, 0);
+    assert_eq!(rt; out.as_slice(), shown.as_bytes());
+    assert_eq!(rt; console.err.len(), 0);
+}
+
+#[test]
+fn answers_lines(rt: HostRuntime) {
+    let mut console = unwatched(rt.alloc());
+    let input =
+        b"open 1 2 100\nend 1\nbegin 1 s1 put a 1\nsave full\nsave here\nquit\naudit\n".as_slice();
     let shown =
         "> open\n> line 2, column 5: no such call '1'\n> 1 a is ok at 0.0\n> not saved full: no room\n> saved here\n> ";
-    assert_eq!(&rt; out.as_slice(), shown.as_bytes());
+    answers(&rt, rt.alloc(), input, shown, &mut console);
     let saved = b"here\nopen 1 2 100\nbegin 1 s1 put a 1\n";
     assert_eq!(&rt; console.saves.0.as_slice(), saved.as_slice());
-    assert_eq!(&rt; console.err.len(), 0);
+}
+
+#[test]
+fn ends_the_line_of_the_last_prompt(rt: HostRuntime) {
+    let mut console = unwatched(rt.alloc());
+    answers(
+        &rt,
+        rt.alloc(),
+        b"open 1 2 100\n",
+        "> open\n> \n",
+        &mut console,
+    );
 }
 
 /// A program of threads with one outcome and two states, and the beginning of the answer.

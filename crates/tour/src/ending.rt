@@ -1,5 +1,5 @@
 //! The numbers at the end, and the end of the cache.
-use jc_cache::{CacheOwner, Refusal};
+use jc_client::{CacheOwner, Refusal};
 use jc_store::{SharedCounts, SharedStore};
 use std::alloc::Global;
 use std::sync::Wait;

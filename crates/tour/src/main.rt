@@ -6,7 +6,9 @@ mod ending;
 mod visiting;
 mod working;
 
-use jc_cache::{CacheLoader, CacheOwner, CacheWriter, Client, Config, Key, Outside, Value};
+use jc_client::{
+    CacheLoader, CacheOwner, CacheWriter, Client, Config, Key, Outside, Value, clients,
+};
 use jc_store::{SharedCounts, SharedStore, Store};
 use std::alloc::Global;
 use std::sync::Wait;
@@ -67,7 +69,7 @@ fn tour<R: Print + Threads + Wait + Sync>(
 ) -> anyhow::Result<()> {
     let mut owner = CacheOwner::new(alloc, &CONFIG)?;
     let sessions = owner.enlist_all(alloc, outside)?;
-    let clients = owner.clients(alloc, sessions)?;
+    let clients = clients(&owner, alloc, sessions)?;
     call_all(rt, alloc, clients)?;
     ending::show(rt, alloc, store, counts)?;
     ending::end(rt, alloc, owner)

@@ -1,7 +1,7 @@
 //! The calls of one key, one after another, by one client.
 //!
 //! Functions that are lent a client have an empty condition: with it they are proved for whatever loader and writer the client has.
-use jc_cache::{Client, EntryProcessor, Key, Value};
+use jc_client::{Client, EntryProcessor, Key, Value};
 use jc_store::Increment;
 use std::alloc::Global;
 use std::sync::Wait;

@@ -1,6 +1,6 @@
 //! Workers, each with its own client, that call one cache, each on its own thread.
 use crate::NAMES;
-use jc_cache::{Client, EntryProcessor, Key, Refusal, Service, Value, work_all};
+use jc_client::{Client, EntryProcessor, Key, Refusal, Service, Value, work_all};
 use jc_store::Increment;
 use std::alloc::Global;
 use std::sync::Wait;
@@ -12,7 +12,7 @@ const ROUNDS: u32 = 25;
 /// The data that all workers share: a key for each of them, by its session's number, the keys that all of them use, and the value
 /// that each puts at its own key.
 #[derive(Drop)]
-struct Shared {
+struct SharedData {
     alloc: Global,
     names: Vec<Key>,
     plum: Key,
@@ -20,14 +20,14 @@ struct Shared {
     seven: Value,
 }
 
-impl Shared {
+impl SharedData {
     /// The keys and the value.
-    fn new(alloc: Global) -> anyhow::Result<Shared> {
+    fn new(alloc: Global) -> anyhow::Result<SharedData> {
         let mut names = Vec::new(alloc);
         for name in &NAMES {
             names.push(Key::new(name.as_bytes())?)?;
         }
-        Ok(Shared {
+        Ok(SharedData {
             alloc,
             names,
             plum: Key::new(b"plum")?,
@@ -37,7 +37,7 @@ impl Shared {
     }
 }
 
-impl<R: Wait> Service<R, Result<u64, Refusal>> for Shared {
+impl<R: Wait> Service<R, Result<u64, Refusal>> for SharedData {
     /// One worker's work. The keys that all get at first are loaded once, by the first worker that asks. It ends at the first
     /// call that is refused or fails, and returns the number of steps that the worker has made.
     fn work(&self, rt: &R, client: &mut Client<'_>) -> Result<u64, Refusal> {
@@ -62,14 +62,14 @@ pub fn work<R: Threads + Wait + Sync>(
     alloc: Global,
     clients: Vec<Client<'_>>,
 ) -> anyhow::Result<Vec<Result<u64, Refusal>>> {
-    let shared = Shared::new(alloc)?;
+    let shared = SharedData::new(alloc)?;
     Ok(work_all(rt, &shared, clients)?)
 }
 
 /// One round of a worker: it counts at a key that all use, and puts and gets at its own.
 fn make_round<R: Wait>(
     rt: &R,
-    shared: &Shared,
+    shared: &SharedData,
     name: &Key,
     client: &mut Client<'_>,
     increment: &mut Box<dyn EntryProcessor + Send + Drop>,

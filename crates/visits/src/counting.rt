@@ -1,6 +1,6 @@
 //! Workers that count visits.
 use itoa::Buffer;
-use jc_cache::{Client, EntryProcessor, Key, Refusal, Service, Value, work_all};
+use jc_client::{Client, EntryProcessor, Key, Refusal, Service, Value, work_all};
 use jc_plain::{Update, Updating};
 use std::alloc::Global;
 use std::str::from_utf8;
@@ -38,7 +38,7 @@ fn next(count: &Option<Value>) -> Option<Value> {
 
 /// The work of each worker: it counts a visit of each of these users.
 #[derive(Clone, Copy)]
-struct Counting<'a> {
+struct CountingVisits<'a> {
     alloc: Global,
     visitors: &'a [Key],
 }
@@ -52,7 +52,7 @@ struct Tally {
     refusal: Option<Refusal>,
 }
 
-impl<R: Wait> Service<R, Tally> for Counting<'_> {
+impl<R: Wait> Service<R, Tally> for CountingVisits<'_> {
     fn work(&self, rt: &R, client: &mut Client<'_>) -> Tally {
         let Ok(visit) = Box::new(self.alloc, Updating { processor: Visit }) else {
             return Tally {
@@ -84,7 +84,7 @@ pub fn count<R: Print + Threads + Wait + Sync>(
     workers: Vec<Client<'_>>,
     visitors: &[Key],
 ) -> anyhow::Result<()> {
-    let tallies = work_all(rt, &Counting { alloc, visitors }, workers)?;
+    let tallies = work_all(rt, &CountingVisits { alloc, visitors }, workers)?;
     show(rt, &tallies)?;
     check(&tallies)
 }

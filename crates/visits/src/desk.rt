@@ -1,7 +1,7 @@
 //! The desk, which enters new users, and reports. Each of its calls is for many users.
 use indexmap::{IndexMap, IndexSet};
 use jc_bulk::{get_all, put_all};
-use jc_cache::{Client, Key, Refusal, Service, Value};
+use jc_client::{Client, Key, Refusal, Service, Value};
 use std::alloc::Global;
 use std::sync::Wait;
 

@@ -6,7 +6,7 @@ mod counting;
 mod desk;
 
 use indexmap::IndexSet;
-use jc_cache::{CacheLoader, CacheOwner, CacheWriter, Client, Config, Key, Outside};
+use jc_client::{CacheLoader, CacheOwner, CacheWriter, Client, Config, Key, Outside, clients};
 use jc_sqlite::{Database, DatabaseLoader, DatabaseWriter};
 use std::alloc::Global;
 use std::sync::Wait;
@@ -83,7 +83,7 @@ fn serve<R: Print + Threads + Wait + Sync>(
 ) -> anyhow::Result<()> {
     let mut owner = CacheOwner::living(alloc, &CONFIG)?;
     let sessions = owner.enlist_all(alloc, outside)?;
-    let clients = owner.clients(alloc, sessions)?;
+    let clients = clients(&owner, alloc, sessions)?;
     call_all(rt, alloc, clients)?;
     match owner.end(alloc) {
         Ok(_) => Ok(()),

@@ -1,7 +1,8 @@
 //! Sessions side by side, on threads of their own.
 ghost use Rattle.std.specs.Prelude.{◌≡◌, true, false, All};
 ghost use Rattle.jc_cache.specs.Sessions.{IsOf, MayCall};
-ghost use Rattle.jc_stripe.specs.Tickets.{asks_writer};
+ghost use Rattle.jc_outside.specs.declared.done.Origin.TheVariants.{Live};
+ghost use Rattle.jc_stripe.specs.Tickets.{asks_writer, claim_of};
 
 use super::closing::closed;
 use super::lines::plays;
@@ -9,7 +10,7 @@ use super::outside::Outside;
 use super::stage::Stage;
 use super::words::{first_word, key, value};
 use super::*;
-use jc_cache::{ClosedStripe, First, Op, Reply, Started, Ticket};
+use jc_cache::{Ask, ClosedStripe, First, Op, Reply, Started, Ticket, WriteDone};
 use jc_stripe::phase_laws::own_numbers;
 use std::thread;
 use std::thread::Threads;
@@ -137,18 +138,36 @@ fn reserve<R: Abort + Wait>(
     }
 }
 
+/// The session's writer is called for a reservation.
+fn ask_writer<R: Abort + Wait>(
+    rt: &R,
+    cache: &Cache,
+    session: &mut Session,
+    ticket: &mut Ticket,
+) -> WriteDone<Ask>
+    requires own { IsOf cache.now session.old }
+    requires unasked { ticket.old.asked ≡ false }
+    ensures own { IsOf cache.now session.new }
+    ensures caller { session.new.agent.caller ≡ session.old.agent.caller }
+    ensures ticket { ticket.new.reservation ≡ ticket.old.reservation }
+    ensures first { asks_writer ticket.new.reservation.first ≡ true }
+    ensures done { (result.ask ≡ claim_of ticket.new.reservation) × (result.origin ≡ Live) }
+{
+    assert!(rt; cache.config().write_through, "write-through");
+    assert!(rt; is_writer(&ticket.reservation().first), "a write");
+    session.agent.ask_writer(rt, ticket.ask())
+}
+
 /// A put of `c`, phase by phase. It says that it has reserved its key, and holds it until the second session's writer was called.
 fn put_late<R: Abort + Wait>(rt: &R, outside: &Outside, cache: &Cache, session: &mut Session)
     requires { MayCall cache.now session.old }
     ensures { IsOf cache.now session.new }
 {
-    assert!(rt; cache.config().write_through, "write-through");
     let put = Op::Put(value(rt, "9"));
     let mut ticket = reserve(rt, cache, session, &key(rt, "c"), &put);
-    assert!(rt; is_writer(&ticket.reservation().first), "a write");
     outside.signals.raise_first();
     outside.signals.wait_for_second(rt);
-    let done = session.ask_writer(rt, ticket.ask());
+    let done = ask_writer(rt, cache, session, &mut ticket);
     let _step = cache.commit_write(rt, session, ticket, done, &mut Reply::Unit);
 }
 

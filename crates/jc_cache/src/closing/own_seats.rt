@@ -10,9 +10,9 @@ ghost use Rattle.jc_cache.specs.Closing.{AreIdle, HasFront, HasLookedOnce, all_l
 ghost use Rattle.jc_cache.specs.ClosingInside.{AreAtLocks, HasTaken, HaveTaken, IsFreeSeat, IsRowRefusal, IsTakeRefusal, KeepSeats, KeepsSeat, KeepsOwn, Looks, OwnsSeats, Whatever};
 
 use crate::closing::ClosedStripe;
-use crate::session::Session;
 use jc_lock::{HistLock, Seat};
 use jc_outside::Outside;
+use jc_session::Session;
 use jc_types::Refusal;
 
 /// Tests that nothing is out at the stripe, and nobody else holds it. It is given back as it was.

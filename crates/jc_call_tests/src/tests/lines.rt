@@ -120,7 +120,7 @@ impl Desk {
             "counts" => is(rt, cache.statistics(rt, session), statistics(rt, rest)),
             "ends" => ends(rt, alloc, cache, session, rest),
             "own" => is(rt, Some(session.own()), rest.parse().ok()),
-            "skip" => session.skip_to(rest.parse().ok().expect(rt, rest)),
+            "skip" => cache.skip_to(session, rest.parse().ok().expect(rt, rest)),
             "withdraw" => self.withdraw(rt, cache, session, rest),
             "await" => self.signals.wait_for_ask(rt),
             "raise" => self.signals.raise(),

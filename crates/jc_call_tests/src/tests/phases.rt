@@ -113,7 +113,7 @@ pub fn ask_loader<R: Abort + Wait>(
     ensures done { (result.ask ≡ claim_of ticket.new.reservation) × (result.origin ≡ Live) }
 {
     assert!(rt; is_loader(&ticket.reservation().first), "a load");
-    session.ask_loader(rt, ticket.ask())
+    session.agent.ask_loader(rt, ticket.ask())
 }
 
 /// The session's writer is called for a reservation.
@@ -133,7 +133,7 @@ pub fn ask_writer<R: Abort + Wait>(
 {
     assert!(rt; cache.config().write_through, "write-through");
     assert!(rt; is_writer(&ticket.reservation().first), "a write");
-    session.ask_writer(rt, ticket.ask())
+    session.agent.ask_writer(rt, ticket.ask())
 }
 
 /// A processor runs for a reservation.
@@ -154,7 +154,9 @@ pub fn run<R: Abort + Wait>(
     ensures done { (result.ask ≡ claim_of ticket.new.reservation) × (result.origin ≡ Live) }
 {
     assert!(rt; is_processor(&ticket.reservation().first), "a processor");
-    session.run_processor(rt, ticket.ask(), processor, &[])
+    session
+        .agent
+        .run_processor(rt, ticket.ask(), processor, &[])
 }
 
 /// The session's writer is called for what a processor did, if there is anything to write.
@@ -177,7 +179,7 @@ pub fn report<R: Abort + Wait>(
         return None;
     }
     match done.change() {
-        Some(_change) => Some(session.ask_writer(rt, ticket.ask_writer(done))),
+        Some(_change) => Some(session.agent.ask_writer(rt, ticket.ask_writer(done))),
         None => None,
     }
 }
@@ -202,7 +204,8 @@ pub fn is_to_retry<R: Abort + Wait>(rt: &R, cache: &Cache, session: &mut Session
     ensures { MayCall cache.now session.new }
 {
     own_steps();
-    match cache.pick_up(rt, session, join) {
+    let mut reply = Reply::Unit;
+    match cache.pick_up(rt, session, join, &mut reply) {
         Picked::Again => {}
         _other => panic!(rt; "the load wasn't given up"),
     }
@@ -217,7 +220,7 @@ pub fn not_yet<R: Abort + Wait>(rt: &R, cache: &Cache, session: &mut Session, jo
     ensures own { IsOf cache.now session.new }
     ensures caller { result.caller.session ≡ session.new.agent.caller.session }
 {
-    match cache.pick_up(rt, session, join) {
+    match cache.pick_up(rt, session, join, &mut Reply::Unit) {
         Picked::NotYet(join) => join,
         Picked::Answer { .. } | Picked::Again => panic!(rt; "the load is over"),
     }
@@ -236,9 +239,9 @@ pub fn picks<R: Abort + Wait>(
     requires caller { join.caller.session ≡ session.old.agent.caller.session }
     ensures { IsOf cache.now session.new }
 {
-    match cache.pick_up(rt, session, join) {
+    let mut reply = Reply::Unit;
+    match cache.pick_up(rt, session, join, &mut reply) {
         Picked::Answer {
-            reply,
             place: _own,
             shared_with,
         } => {

@@ -4,7 +4,7 @@
 //! session on another thread that reads what was counted, which appends nothing. With both options off and no key reserved, nothing
 //! else makes these calls `Busy`.
 use super::*;
-use jc_cache::work_all;
+use jc_client::{clients, work_all};
 use std::sync::atomic::AtomicBool;
 use std::sync::atomic::Ordering::SeqCst;
 use std::thread::yield_now;
@@ -126,7 +126,7 @@ fn tries_are_busy_while_another_session_has_the_stripe(rt: HostRuntime) {
     let mut owner = CacheOwner::new(alloc, &LONG).expect(&rt, "a cache");
     let outside = nothing(&rt, alloc, 2);
     let sessions = owner.enlist_all(alloc, outside).expect(&rt, "sessions");
-    let clients = owner.clients(alloc, sessions).expect(&rt, "clients");
+    let clients = clients(&owner, alloc, sessions).expect(&rt, "clients");
     for is_so in work_all(&rt, &trial, clients).expect(&rt, "memory") {
         is(&rt, is_so, true);
     }

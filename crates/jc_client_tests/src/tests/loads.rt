@@ -1,7 +1,7 @@
 //! A `loadAll` by clients side by side, before a loader of numbers.
 use super::*;
 use indexmap::IndexSet;
-use jc_cache::CacheLoader;
+use jc_client::{CacheLoader, clients};
 use jc_loadall::{LoadAllFault, load_all_by_clients};
 use jc_plain::{Listen, Listening, Load, Loading};
 use std::thread::Threads;
@@ -170,7 +170,7 @@ fn loads_side_by_side(rt: HostRuntime) {
     let mut owner = CacheOwner::new(alloc, &config).expect(&rt, "a cache");
     let outside = with_loaders!(rt, alloc, 3);
     let sessions = owner.enlist_all(alloc, outside).expect(&rt, "sessions");
-    let clients = owner.clients(alloc, sessions).expect(&rt, "clients");
+    let clients = clients(&owner, alloc, sessions).expect(&rt, "clients");
     load_each(&rt, alloc, clients);
     is(&rt, puts(&rt, alloc, owner), 0);
 }
@@ -194,7 +194,7 @@ fn no_client(rt: HostRuntime) {
     let mut owner = CacheOwner::new(alloc, &CONFIG).expect(&rt, "a cache");
     let outside = nothing(&rt, alloc, 0);
     let sessions = owner.enlist_all(alloc, outside).expect(&rt, "sessions");
-    let clients = owner.clients(alloc, sessions).expect(&rt, "clients");
+    let clients = clients(&owner, alloc, sessions).expect(&rt, "clients");
     load_by_nobody(&rt, alloc, clients);
     is(&rt, puts(&rt, alloc, owner), 0);
 }

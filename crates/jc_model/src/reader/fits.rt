@@ -12,6 +12,17 @@ use crate::reader::Stage;
 use crate::same::{is_load_only, is_same_reply};
 use jc_types::{Config, Key, Value};
 
+/// A step that is read, without its caller and its reply.
+#[derive(Clone, Copy)]
+pub(super) struct ReadStep<'a> {
+    /// The operation.
+    pub(super) op: &'a Op,
+    /// The key.
+    pub(super) key: &'a Key,
+    /// The outside answers.
+    pub(super) out: &'a Out,
+}
+
 /// The entry at a key once the victim, if any, is evicted.
 pub(super) fn entry_before(contents: &Contents, victim: &Option<Key>, key: &Key) -> Option<Value>
     ensures { result ≡ entry_at (without_victim contents.now victim.now) key.now }
@@ -40,21 +51,19 @@ fn does_victim_fit(
     config: &Config,
     contents: &Contents,
     victim: &Option<Key>,
-    op: &Op,
-    key: &Key,
-    out: &Out,
+    step: &ReadStep,
 ) -> bool
     ensures { (reply : _) → result ≡ victim_fits config.now contents.now
-        (read_group victim.now (record { session = 0; call = 0 }) op.now key.now out.now reply) victim.now }
+        (read_group victim.now (record { session = 0; call = 0 }) step.now.op.now step.now.key.now step.now.out.now reply) victim.now }
 {
-    let entry = entry_before(contents, victim, key);
+    let entry = entry_before(contents, victim, step.key);
     match victim {
         None => true,
         Some(victim) => {
             contents.len() == config.capacity
                 && contents.get(victim).is_some()
-                && *victim != *key
-                && does_insert(&entry, op, out)
+                && *victim != *step.key
+                && does_insert(&entry, step.op, step.out)
         }
     }
 }
@@ -73,16 +82,15 @@ fn does_start(
     config: &Config,
     contents: &Contents,
     victim: &Option<Key>,
-    op: &Op,
-    key: &Key,
-    out: &Out,
+    step: &ReadStep,
     reply: &Reply,
 ) -> bool
     ensures { IsTrue result ↔ IsLawfulStep config.now contents.now
-        (read_group victim.now (record { session = 0; call = 0 }) op.now key.now out.now reply.now) }
+        (read_group victim.now (record { session = 0; call = 0 }) step.now.op.now step.now.key.now step.now.out.now reply.now) }
 {
-    is_made(config, entry_before(contents, victim, key), op, out, reply)
-        && does_victim_fit(config, contents, victim, op, key, out)
+    let entry = entry_before(contents, victim, step.key);
+    is_made(config, entry, step.op, step.out, reply)
+        && does_victim_fit(config, contents, victim, step)
 }
 
 /// Whether a step that shares a load may come next.
@@ -125,7 +133,13 @@ pub(super) fn does_fit(config: &Config, contents: &Contents, stage: &Stage, even
         } => match shared_with {
             None => {
                 stage.is_within(config, contents)
-                    && does_start(config, contents, &stage.victim(), op, key, out, reply)
+                    && does_start(
+                        config,
+                        contents,
+                        &stage.victim(),
+                        &ReadStep { op, key, out },
+                        reply,
+                    )
             }
             Some(place) => does_shared_fit(stage, op, key, out, *place, reply),
         },

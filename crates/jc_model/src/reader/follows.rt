@@ -4,8 +4,8 @@ ghost use Rattle.jc_model.specs.Group.{cache_after_step};
 ghost use Rattle.jc_model.specs.Reader.{read_group, opened_group, then_stage, then_cache};
 
 use crate::contents::Contents;
-use crate::event::{Event, Op, Out};
-use crate::reader::fits::{does_insert, entry_before};
+use crate::event::Event;
+use crate::reader::fits::{ReadStep, does_insert, entry_before};
 use crate::reader::{Opened, Stage};
 use jc_types::{Config, Key};
 use std::alloc::AllocError;
@@ -16,23 +16,21 @@ fn opened_group(
     contents: &Contents,
     place: usize,
     victim: &Option<Key>,
-    op: &Op,
-    key: &Key,
-    out: &Out,
+    step: &ReadStep,
 ) -> Opened
     ensures { (reply : _) → result ≡ opened_group config.now contents.now place
-        (read_group victim.now (record { session = 0; call = 0 }) op.now key.now out.now reply) }
+        (read_group victim.now (record { session = 0; call = 0 }) step.now.op.now step.now.key.now step.now.out.now reply) }
 {
-    let entry = entry_before(contents, victim, key);
+    let entry = entry_before(contents, victim, step.key);
     Opened {
         place,
-        key: *key,
-        load: out.load,
+        key: *step.key,
+        load: step.out.load,
         is_joinable: config.read_through
-            && op.loads_whole()
+            && step.op.loads_whole()
             && entry.is_none()
-            && out.load.is_given(),
-        is_inserted: does_insert(&entry, op, out),
+            && step.out.load.is_given(),
+        is_inserted: does_insert(&entry, step.op, step.out),
         was_full: contents.len() == config.capacity && victim.is_none(),
     }
 }
@@ -41,19 +39,17 @@ fn opened_group(
 fn make_step(
     contents: &mut Contents,
     victim: &Option<Key>,
-    op: &Op,
-    key: &Key,
-    out: &Out,
+    step: &ReadStep,
 ) -> Result<(), AllocError>
     ensures { (reply : _) → OnOk result (contents.new ≡ cache_after_step contents.old
-        (read_group victim.now (record { session = 0; call = 0 }) op.now key.now out.now reply)) }
+        (read_group victim.now (record { session = 0; call = 0 }) step.now.op.now step.now.key.now step.now.out.now reply)) }
 {
     if let Some(victim) = victim {
         contents.remove(victim);
     }
-    let entry = contents.get(key);
-    let left = op.entry_after(entry, out).copied();
-    contents.set(key, left)?;
+    let entry = contents.get(step.key);
+    let left = step.op.entry_after(entry, step.out).copied();
+    contents.set(step.key, left)?;
     Ok(())
 }
 
@@ -79,8 +75,9 @@ pub(super) fn go_over(
             Some(_) => Ok(*stage),
             None => {
                 let victim = stage.victim();
-                let kept = opened_group(config, contents, place, &victim, op, key, out);
-                make_step(contents, &victim, op, key, out)?;
+                let step = ReadStep { op, key, out };
+                let kept = opened_group(config, contents, place, &victim, &step);
+                make_step(contents, &victim, &step)?;
                 Ok(Stage::Inside(kept))
             }
         },

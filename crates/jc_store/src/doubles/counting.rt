@@ -1,5 +1,5 @@
 //! Loaders and writers that count their calls.
-use crate::doubles::counts::{Call, Counts};
+use crate::doubles::counts::{Call, CallCounts};
 use indexmap::{IndexMap, IndexSet};
 use jc_outside::{Answers, CacheLoader, CacheWriter};
 use jc_types::{Key, Value};
@@ -9,18 +9,18 @@ use std::sync::{Arc, Mutex, Wait};
 /// Counts behind a lock. All handles made from one `SharedCounts` count together, and read the same counts.
 #[derive(Drop)]
 pub struct SharedCounts {
-    counts: Arc<Mutex<Counts>, Global>,
+    counts: Arc<Mutex<CallCounts>, Global>,
 }
 
 impl SharedCounts {
     /// Counts that are all 0. An `Err` says that an allocation failed.
     pub fn new(alloc: Global) -> Result<Self, AllocError> {
-        let counts = Arc::new(alloc, Mutex::new(Counts::ZERO))?;
+        let counts = Arc::new(alloc, Mutex::new(CallCounts::ZERO))?;
         Ok(SharedCounts { counts })
     }
 
     /// The counts so far. It waits for the lock.
-    pub fn now<R: Wait>(&self, rt: &R) -> Counts {
+    pub fn now<R: Wait>(&self, rt: &R) -> CallCounts {
         *self.counts.lock(rt)
     }
 
@@ -42,7 +42,7 @@ impl SharedCounts {
 #[derive(Drop)]
 pub struct Counting<T, R: Wait + Drop> {
     rt: R,
-    counts: Arc<Mutex<Counts>, Global>,
+    counts: Arc<Mutex<CallCounts>, Global>,
     inner: T,
 }
 

@@ -22,7 +22,7 @@ pub enum Call {
 /// How often a loader and a writer were called, by method. A call for many keys counts as one call. A count that has reached
 /// `u64::MAX` stays there.
 #[derive(Clone, Copy, Debug, PartialEq, Eq)]
-pub struct Counts {
+pub struct CallCounts {
     /// Calls of `load`.
     pub loads: u64,
     /// Calls of `load_all`.
@@ -37,9 +37,9 @@ pub struct Counts {
     pub delete_batches: u64,
 }
 
-impl Counts {
+impl CallCounts {
     /// All counts are 0.
-    pub const ZERO: Self = Counts {
+    pub const ZERO: Self = CallCounts {
         loads: 0,
         load_batches: 0,
         writes: 0,

@@ -246,15 +246,8 @@ impl Desk {
             return PickUpAnswer::Misuse;
         }
         let _ = self.stripe.events_len();
-        match self.stripe.pick_up(join) {
-            Picked::Answer {
-                reply,
-                place,
-                shared_with,
-            } => {
-                *told = reply;
-                PickUpAnswer::Answer { place, shared_with }
-            }
+        match self.stripe.pick_up(join, told) {
+            Picked::Answer { place, shared_with } => PickUpAnswer::Answer { place, shared_with },
             Picked::Again => PickUpAnswer::Again,
             Picked::NotYet(back) => {
                 back.spend();

@@ -10,16 +10,15 @@ ghost use Rattle.jc_model.specs.Cache.{entry_at};
 ghost use Rattle.jc_model.specs.Group.{nothing_said};
 ghost use Rattle.jc_stripe.specs.State.{new_reservation, with_reservation};
 ghost use Rattle.jc_stripe.specs.Refusals.{has_room, first_refusal, first_asked, load_joined, needs_reservation};
-ghost use Rattle.jc_stripe.specs.Finding.{found_at};
 ghost use Rattle.jc_stripe.specs.Phases.{MayBegin, Steps, Begins, begun_with, with_joiner, with_reply};
 ghost use Rattle.jc_stripe.specs.Hitting.{IsHit};
 ghost use Rattle.jc_stripe.specs.declared.ticket.First.TheVariants.{Nobody};
-ghost use Rattle.jc_stripe.specs.declared.begun.Begun.TheVariants.{Done};
+ghost use Rattle.jc_stripe.specs.Outcomes.{Done};
 
 use super::Stripe;
 use crate::appending::{NewGroup, append_group, apply_to_entries};
 use crate::begun::{Appended, Started};
-use crate::call_rules::{Found, places_needed, write_first_asked};
+use crate::call_rules::{answers_at_once, places_needed, write_first_asked};
 use crate::ticket::{Join, Ticket};
 use jc_model::statistics::statistics_laws;
 use jc_model::{Op, Out, Reply};
@@ -146,7 +145,7 @@ impl Stripe {
         if found.asks {
             return Started::Asks(self.reserve(caller, key, op, entry));
         }
-        self.finish_now(caller, key, op, entry, &found, reply)
+        self.finish_now(caller, key, op, entry, reply)
     }
 
     /// Makes a `get` if it finds its entry, and returns whether it did. One look-up finds the entry and makes it the most
@@ -232,17 +231,15 @@ impl Stripe {
         key: &Key,
         op: &Op,
         entry: &Option<Value>,
-        found: &Found,
         reply: &mut Reply,
     ) -> Started
         requires entry { entry.now ≡ entry_at self.old.cache key.now }
-        requires found { found.now ≡ found_at self.old key.now op.now }
         requires free { first_refusal self.old caller key.now op.now ≡ None }
         requires asks { first_asked self.old.config op.now (entry_at self.old.cache key.now) ≡ Nobody }
         requires begins { MayBegin self.old caller key.now }
         ensures { Begins self.old caller key.now op.now (begun_with result reply.new) self.new }
     {
-        Started::Done(self.finish(caller, key, op, entry, found, reply))
+        Started::Done(self.finish(caller, key, op, entry, reply))
     }
 
     /// The step of a call that asks nobody.
@@ -252,18 +249,16 @@ impl Stripe {
         key: &Key,
         op: &Op,
         entry: &Option<Value>,
-        found: &Found,
         reply: &mut Reply,
     ) -> Appended
         requires entry { entry.now ≡ entry_at self.old.cache key.now }
-        requires found { found.now ≡ found_at self.old key.now op.now }
         requires free { first_refusal self.old caller key.now op.now ≡ None }
         requires asks { first_asked self.old.config op.now (entry_at self.old.cache key.now) ≡ Nobody }
         requires begins { MayBegin self.old caller key.now }
         ensures { Steps self.old caller key.now op.now nothing_said [] (with_reply result reply.new) self.new }
     {
         statistics_laws();
-        let kept = places_needed(found.needs_free_key);
+        let kept = places_needed(!answers_at_once(&self.config, op, entry));
         let _ = self.history.promise(kept);
         let pinned = self.reservations.keys();
         let out = Out::nothing_said();

@@ -1,4 +1,4 @@
-//! What loaders, writers and others do.
+//! The events of loaders, writers and other programs.
 ghost use Rattle.std.specs.Prelude.{◌≡◌, true, false, Ok, OnOk, OnErr, Option, None, Some, option_map};
 ghost use Rattle.jc_model.specs.Table.{is_load_given, is_write_given};
 ghost use Rattle.jc_types.specs.declared.refusal.Refusal.TheVariants.{WriterFailed};
@@ -164,7 +164,7 @@ impl Machine {
     }
 }
 
-/// What a call meets by the writer's fault, if it failed.
+/// The fault that a call meets if the writer failed.
 fn fault_of(fault: Option<u32>) -> Option<Refusal>
     ensures { result ≡ option_map WriterFailed fault }
 {

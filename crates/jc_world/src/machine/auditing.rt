@@ -1,4 +1,4 @@
-//! What there is to see of a machine.
+//! The audit of a machine.
 ghost use Rattle.std.specs.Prelude.{IsTrue, ◌≡◌, ◌&&◌, [], true, false, Ok, IfOk, Option, None, Some};
 ghost use Rattle.std.specs.FinMap as map;
 ghost use Rattle.jc_world.specs.Premises.{is_stored};
@@ -15,7 +15,7 @@ use jc_types::{Key, Value};
 use std::alloc::{AllocError, Global};
 
 impl Machine {
-    /// What there is to see of the world.
+    /// The audit of the world.
     pub(crate) fn audit(&self, alloc: Global) -> Result<Audit, AllocError>
         requires { IsSoundWorld self.now }
         ensures audit { IfOk result (λ a.

@@ -1,4 +1,4 @@
-//! What entry processors do.
+//! The events of entry processors.
 ghost use Rattle.std.specs.Prelude.{◌≡◌, true, Ok, Some, OnErr, OnOk};
 ghost use Rattle.jc_model.specs.Table.{is_load_given};
 ghost use Rattle.jc_model.specs.Cache.{entry_at};
@@ -14,6 +14,7 @@ use crate::machine::Machine;
 use crate::outside::is_honest_load;
 use crate::process::{EntryCalls, LoadSource, Processed};
 use crate::read_only::ReadOnlyList;
+use crate::run::RunPlan;
 use jc_model::LoadAnswer;
 use jc_types::Key;
 use std::alloc::AllocError;
@@ -41,7 +42,7 @@ impl Machine {
         Ok(())
     }
 
-    /// The entry processor of a call runs, and its loader answers so if it is asked.
+    /// The entry processor of a call runs. Its loader gives this answer if it is asked.
     fn run(
         &mut self,
         call: u64,
@@ -59,15 +60,12 @@ impl Machine {
     {
         let calls = calls.as_slice();
         let mut answers = Vec::with_capacity(self.alloc, calls.len())?;
-        let ran = process(
-            &mut self.held,
-            &self.config,
-            key,
-            answer,
+        let plan = RunPlan {
+            load: answer,
             calls,
             fail,
-            &mut answers,
-        );
+        };
+        let ran = process(&mut self.held, &self.config, key, &plan, &mut answers);
         let honest = is_honest_load(ran.load, self.stored(key));
         self.premises.loaders &= honest;
         Ok(Processed {

@@ -47,7 +47,7 @@ impl Machine {
     }
 }
 
-/// What these stripes cache, stripe by stripe, the most recently used first.
+/// The cached entries of these stripes, stripe by stripe, the most recently used first.
 fn all_entries(alloc: Global, stripes: &[Stripe]) -> Result<Vec<(Key, Value)>, AllocError>
     ensures { IfOk result (λ entries. entries.items ≡ all_entries stripes.now) }
 {

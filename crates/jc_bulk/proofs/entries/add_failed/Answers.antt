@@ -1,8 +1,4 @@
-use Rattle.std.proofs.Common.{◌++◌, [], option_map, ap, ◌∙◌, arith}
-use Rattle.std.specs.List.{cons_option}
-use Rattle.jc_rounds.specs.KeyProgress.{failure_at, refusal_in}
-use Rattle.jc_rounds.specs.Targets.{ops_of}
-use Rattle.jc_rounds.proofs.CallerLemmas.{entries_more, entries_new, entries_whole, told_failed}
+use Rattle.jc_bulk.proofs.Common.{entries_more, entries_new, entries_whole, told_failed, failure_at, refusal_in, ops_of, ◌++◌, [], option_map, ap, ◌∙◌, arith, cons_option}
 use Rattle.jc_bulk.proofs.entries.add_failed.Goals as goal
 
 pub insert_some-requires-clause-new : goal.insert_some-requires-clause-new

@@ -1,7 +1,4 @@
-use Rattle.std.proofs.Common.{◌≡◌, ◌≤◌, ◌+◌, length, take}
-use Rattle.indexmap.specs.IndexMap.{spare}
-use Rattle.jc_rounds.specs.Ends.{failed_entries, key_ends}
-use Rattle.jc_rounds.specs.Targets.{ops_of}
+use Rattle.jc_bulk.proofs.Common.{spare, failed_entries, key_ends, ops_of, ◌≡◌, ◌≤◌, ◌+◌, length, take}
 use Rattle.jc_bulk.proofs.entries.add_failed.Given as goal
 
 -- the keys before this place were added

@@ -1,8 +1,4 @@
-use Rattle.std.proofs.Common.{◌++◌, [], option_map, ap, ◌∙◌, arith}
-use Rattle.std.specs.List.{cons_option}
-use Rattle.jc_rounds.specs.Ends.{reply_value, value_at}
-use Rattle.jc_rounds.specs.Targets.{ops_of}
-use Rattle.jc_rounds.proofs.CallerLemmas.{entries_more, entries_new, entries_whole, told_found}
+use Rattle.jc_bulk.proofs.Common.{entries_more, entries_new, entries_whole, told_found, reply_value, value_at, ops_of, ◌++◌, [], option_map, ap, ◌∙◌, arith, cons_option}
 use Rattle.jc_bulk.proofs.entries.add_found.Goals as goal
 
 pub insert_some-requires-clause-new : goal.insert_some-requires-clause-new

@@ -1,7 +1,4 @@
-use Rattle.std.proofs.Common.{◌≡◌, ◌≤◌, ◌+◌, length, take}
-use Rattle.indexmap.specs.IndexMap.{spare}
-use Rattle.jc_rounds.specs.Ends.{found_entries, key_ends}
-use Rattle.jc_rounds.specs.Targets.{ops_of}
+use Rattle.jc_bulk.proofs.Common.{spare, found_entries, key_ends, ops_of, ◌≡◌, ◌≤◌, ◌+◌, length, take}
 use Rattle.jc_bulk.proofs.entries.add_found.Given as goal
 
 -- the keys before this place were added

@@ -1,7 +1,4 @@
-use Rattle.std.proofs.Common.{◌≡◌}
-use Rattle.jc_rounds.specs.Running.{HasRun}
-use Rattle.jc_rounds.specs.Underway.{Past}
-use Rattle.jc_bulk.specs.RoundsRun.{IsReady, RunsOn}
+use Rattle.jc_bulk.proofs.Common.{bulk_behavior, IsReady, RunsOn, HasRun, Past, ◌≡◌}
 use Rattle.jc_bulk.proofs.rounds.run_rounds.Given as goal
 
 -- rounds were made, and the next one may ask with this
@@ -10,7 +7,7 @@ invariant-loop g l = record {
   kind : l.next.kind ≡ l.kind;
   ready : IsReady l.call l.next;
   runs : (past : Past) → HasRun l.fn.cache past l.fn.session l.fn.call
-      → RunsOn (λ v. (goal.CacheLoader-dyn g v).loads_all v.1) (λ v. (goal.CacheLoader-dyn g v).load_state v.1)
-      (λ v. (goal.CacheWriter-dyn g v).writes_all v.1) (λ v. (goal.CacheWriter-dyn g v).deletes_all v.1) (λ v. (goal.CacheWriter-dyn g v).write_state v.1)
+      → RunsOn (bulk_behavior (λ v. (goal.CacheLoader-dyn g v).loads_all v.1) (λ v. (goal.CacheLoader-dyn g v).load_state v.1)
+      (λ v. (goal.CacheWriter-dyn g v).writes_all v.1) (λ v. (goal.CacheWriter-dyn g v).deletes_all v.1) (λ v. (goal.CacheWriter-dyn g v).write_state v.1))
       l.fn.cache past l.fn.session l.fn.call l.session l.call;
 }

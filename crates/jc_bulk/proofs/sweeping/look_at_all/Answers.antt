@@ -1,9 +1,5 @@
-use Rattle.std.proofs.Common.{◌==◌, ◌+◌, ◌∙◌, nat_lt, length, refl, sym, ap, subst, arith, le_refl}
+use Rattle.jc_bulk.proofs.Common.{none_twice, stripe_of, ◌==◌, ◌+◌, ◌∙◌, nat_lt, length, refl, sym, ap, subst, arith, le_refl, pointwise, IsDistinct, list_all}
 use Rattle.std.proofs.lemmas.Nat.{row_fits}
-use Rattle.std.specs.List.{IsDistinct, list_all}
-use Rattle.std.specs.Cmp.Lexicographic.{pointwise}
-use Rattle.jc_types.specs.Stripes.{stripe_of}
-use Rattle.jc_stripe.proofs.CallerLemmas.{none_twice}
 use Rattle.jc_bulk.proofs.Looking.{apart_next, elsewhere, look_told, looked_next, looked_none, looks_at, looks_itself, looks_on, may_still}
 use Rattle.jc_bulk.proofs.sweeping.look_at_all.Goals as goal
 

@@ -1,10 +1,4 @@
-use Rattle.std.proofs.Common.{ℕ, ◌≡◌, ◌==◌, ◌≤◌, ◌*◌, true, nat_lt, vec_capacity, vec_len}
-use Rattle.std.specs.List.{IsDistinct, list_all}
-use Rattle.std.specs.Cmp.Lexicographic.{pointwise}
-use Rattle.jc_types.specs.Stripes.{stripe_of}
-use Rattle.jc_cache.specs.Sessions.{MayCall}
-use Rattle.jc_bulk.specs.Bulk.{HasLooked, OnlyLooks}
-use Rattle.jc_rounds.specs.Seats.{view_at}
+use Rattle.jc_bulk.proofs.Common.{HasLooked, OnlyLooks, MayCall, view_at, stripe_of, ℕ, ◌≡◌, ◌==◌, ◌≤◌, ◌*◌, true, nat_lt, vec_capacity, vec_len, pointwise, IsDistinct, list_all}
 use Rattle.jc_bulk.proofs.sweeping.look_at_all.Given as goal
 
 -- the stripes before this one were looked at, and no other ones; their keys differ, and belong to them

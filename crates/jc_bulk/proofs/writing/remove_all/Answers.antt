@@ -1,7 +1,4 @@
-use Rattle.std.proofs.Common.{refl, ap, arith}
-use Rattle.jc_model.specs.declared.event.Op.TheVariants.{Remove}
-use Rattle.jc_bulk.specs.declared.outside.Kind.TheVariants.{Delete}
-use Rattle.jc_bulk.specs.Targets.{remove_ops}
+use Rattle.jc_bulk.proofs.Common.{remove_ops, Delete, Remove, refl, ap, arith}
 use Rattle.jc_bulk.proofs.CarriedOut.{few_of}
 use Rattle.jc_bulk.proofs.Returning.{each_asks}
 use Rattle.jc_bulk.proofs.writing.remove_all.Goals as goal
@@ -9,7 +6,10 @@ use Rattle.jc_bulk.proofs.writing.remove_all.Goals as goal
 pub call_all-requires-clause-keys : goal.call_all-requires-clause-keys
 call_all-requires-clause-keys g c = each_asks Delete Remove c.as_slice.result.now c.args.keys.now.keys refl c.as_slice.ensures.keys c.as_slice.ensures.unique
 
-pub returns-clause-ended : goal.returns-clause-ended
-returns-clause-ended g c =
-    few_of _ _ _ _ _ c.args.cache.now c.args.session.now c.call_all.new.session (remove_ops c.as_slice.result.now) (remove_ops c.args.keys.now.keys) _ c.call_all.result (ap remove_ops c.as_slice.ensures.keys)
-    (omega (arith, c.if-len-gt-BULK_KEYS_MAX.false, c.len.ensures.len)) c.call_all.ensures.ended
+pub returns : goal.returns
+returns g c =
+    record {
+      may = c.call_all.ensures.may;
+      call = few_of _ c.args.cache.now c.args.session.now c.call_all.new.session (remove_ops c.as_slice.result.now) (remove_ops c.args.keys.now.keys) _ c.call_all.result (ap remove_ops c.as_slice.ensures.keys)
+          (omega (arith, c.if-len-gt-BULK_KEYS_MAX.false, c.len.ensures.len)) c.call_all.ensures.call;
+    }

@@ -1,6 +1,4 @@
-use Rattle.std.proofs.Common.{◌≡◌, take}
-use Rattle.std.specs.List.{fold}
-use Rattle.jc_explore.specs.Keys.{print_with}
+use Rattle.jc_explore.proofs.Common.{◌≡◌, take, fold, print_with}
 use Rattle.jc_explore.proofs.key.with_bytes.Given as goal
 
 abbrev pub invariant-loop-byte : goal.invariant-loop-byte

@@ -1,6 +1,4 @@
-use Rattle.std.proofs.Common.{◌≡◌, take}
-use Rattle.std.specs.List.{fold}
-use Rattle.jc_explore.specs.Keys.{print_with_reply}
+use Rattle.jc_explore.proofs.Common.{◌≡◌, take, fold, print_with_reply}
 use Rattle.jc_explore.proofs.key.with_replies.Given as goal
 
 abbrev pub invariant-loop-reply : goal.invariant-loop-reply

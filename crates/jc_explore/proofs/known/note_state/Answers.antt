@@ -1,11 +1,4 @@
-use Rattle.std.proofs.Common.{◌≡◌, List, length, refl, sym, subst}
-use Rattle.std.specs.List.{All, AllPairs}
-use Rattle.std.proofs.lemmas.List.Elements.{All-push}
-use Rattle.std.proofs.lemmas.List.Quantifiers.{all_pairs_push}
-use Rattle.jc_explore.specs.declared.known.KnownState.{KnownState}
-use Rattle.jc_explore.specs.Schedule.{state_of}
-use Rattle.jc_explore.specs.Keys.{HaveOneKey}
-use Rattle.jc_explore.specs.Search.{AreAsLong, IsKnown, IsKnownBy}
+use Rattle.jc_explore.proofs.Common.{◌≡◌, List, length, refl, sym, subst, All, AllPairs, All-push, all_pairs_push, KnownState, state_of, HaveOneKey, AreAsLong, IsKnown, IsKnownBy}
 use Rattle.jc_explore.proofs.Keys.{known-stay}
 use Rattle.jc_explore.proofs.Searching.{known-before, known-last, grows-refl, places-push, prints-push}
 use Rattle.jc_explore.proofs.Shortest.{adds-none, adds-one}

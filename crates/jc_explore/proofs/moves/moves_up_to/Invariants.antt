@@ -1,5 +1,4 @@
-use Rattle.std.proofs.Common.{◌≡◌}
-use Rattle.jc_explore.specs.Moves.{moves_up_to}
+use Rattle.jc_explore.proofs.Common.{◌≡◌, moves_up_to}
 use Rattle.jc_explore.proofs.moves.moves_up_to.Given as goal
 
 abbrev pub invariant-loop-thread : goal.invariant-loop-thread

@@ -1,5 +1,4 @@
-use Rattle.std.proofs.Common.{◌≡◌, drop}
-use Rattle.jc_explore.specs.Schedule.{replies_after}
+use Rattle.jc_explore.proofs.Common.{◌≡◌, drop, replies_after}
 use Rattle.jc_explore.proofs.replies.put_replies.Given as goal
 
 abbrev pub invariant-loop-one : goal.invariant-loop-one

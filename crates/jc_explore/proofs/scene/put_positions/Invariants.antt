@@ -1,5 +1,4 @@
-use Rattle.std.proofs.Common.{◌≡◌, replicate}
-use Rattle.jc_explore.specs.Schedule.{unbegun}
+use Rattle.jc_explore.proofs.Common.{◌≡◌, replicate, unbegun}
 use Rattle.jc_explore.proofs.scene.put_positions.Given as goal
 
 abbrev pub invariant-loop-thread : goal.invariant-loop-thread

@@ -1,5 +1,4 @@
-use Rattle.std.proofs.Common.{◌≡◌, drop, true}
-use Rattle.jc_explore.specs.Schedule.{with_all_stored}
+use Rattle.jc_explore.proofs.Common.{◌≡◌, drop, true, with_all_stored}
 use Rattle.jc_explore.proofs.scene.put_stored.Given as goal
 
 abbrev pub invariant-loop-key : goal.invariant-loop-key

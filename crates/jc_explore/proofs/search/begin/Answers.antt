@@ -1,10 +1,4 @@
-use Rattle.std.proofs.Common.{[], List, length, sym, subst, arith}
-use Rattle.jc_explore.specs.declared.known.KnownState.{KnownState}
-use Rattle.jc_explore.specs.declared.moves.Move.{Move}
-use Rattle.jc_explore.specs.declared.program.Program.{Program}
-use Rattle.jc_explore.specs.declared.search.Finding.{Finding}
-use Rattle.jc_explore.specs.Explored.{AreDistinct, AreWitnessed}
-use Rattle.jc_explore.specs.Search.{AreAsLong, IsKnown}
+use Rattle.jc_explore.proofs.Common.{[], List, length, sym, subst, arith, KnownState, Move, Program, Finding, AreDistinct, AreWitnessed, AreAsLong, IsKnown}
 use Rattle.jc_explore.proofs.Searching.{none-known}
 use Rattle.jc_explore.proofs.search.begin.Goals as goal
 

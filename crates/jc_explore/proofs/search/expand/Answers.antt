@@ -1,9 +1,4 @@
-use Rattle.std.proofs.Common.{◌≡◌, ◌+◌, length, sym, ◌∙◌, arith, get_or, true≢false}
-use Rattle.std.proofs.lemmas.Bool.{or_parts}
-use Rattle.jc_explore.specs.declared.known.KnownState.{KnownState}
-use Rattle.jc_explore.specs.declared.moves.Act.TheVariants.{Begin}
-use Rattle.jc_explore.specs.declared.moves.Move.{Move}
-use Rattle.jc_explore.specs.Search.{WasFollowed, StaysAt}
+use Rattle.jc_explore.proofs.Common.{◌≡◌, ◌+◌, length, sym, ◌∙◌, arith, get_or, true≢false, or_parts, KnownState, Begin, Move, WasFollowed, StaysAt}
 use Rattle.jc_explore.proofs.Searching.{grows-refl, grows-twice, below_one-more, followed-grown, followed-at, stays-at, there-at, or_goes}
 use Rattle.jc_explore.proofs.Shortest.{adds-none, adds-twice}
 use Rattle.jc_explore.proofs.search.expand.Goals as goal

@@ -1,6 +1,4 @@
-use Rattle.std.proofs.Common.{◌≡◌, ◌+◌, ◌<◌, ℕ, length, true, false}
-use Rattle.jc_explore.specs.Schedule.{Plays, opening, state_of}
-use Rattle.jc_explore.specs.Search.{AreAsLong, AreKnown, GoesOn, Grows, StaysAt, WasFollowed}
+use Rattle.jc_explore.proofs.Common.{◌≡◌, ◌+◌, ◌<◌, ℕ, length, true, false, Plays, opening, state_of, AreAsLong, AreKnown, GoesOn, Grows, StaysAt, WasFollowed}
 use Rattle.jc_explore.proofs.search.expand.Given as goal
 
 abbrev pub invariant-loop-step : goal.invariant-loop-step

@@ -1,16 +1,14 @@
-use Rattle.std.proofs.Common.{◌≡◌, ℕ, ◌+◌, ◌++◌, ◌∷◌, [], length, length-append, sym, subst, true≢false}
-use Rattle.jc_explore.specs.Schedule.{opening, state_of}
-use Rattle.jc_explore.specs.declared.known.KnownState.{KnownState}
-use Rattle.jc_explore.specs.Search.{AreAsLong, IsKnown}
+use Rattle.jc_explore.proofs.Common.{◌≡◌, ℕ, ◌+◌, ◌++◌, ◌∷◌, [], length, length-append, sym, subst, true≢false, opening, state_of, KnownState, AreAsLong, IsKnown}
 use Rattle.jc_explore.proofs.AllMoves.{sessions-push}
-use Rattle.jc_explore.proofs.Runs.{plays-determined}
+use Rattle.jc_explore.proofs.Runs.{plays-determined, plays-push, plays-stops}
 use Rattle.jc_explore.proofs.Searching.{grows-refl}
 use Rattle.jc_explore.proofs.Shortest.{adds-none}
 use Rattle.jc_explore.proofs.search.follow.Goals as goal
 
 pub returns-then-not-moved : goal.returns-then-not-moved
 returns-then-not-moved c =
-    let stays = c.in_ok-moved.ensures.stays c.if-not-moved.true in
+    let p = c.args.program.now in
+    let stays = plays-stops c.runs_are_determined.ensures p (opening p) _ c.args.schedule.now c.args.step c.requires.there (c.in_ok-moved.ensures.stays c.if-not-moved.true) in
     record {
       known = c.requires.known;
       kept = grows-refl c.args.known.now.list.items;
@@ -20,20 +18,24 @@ returns-then-not-moved c =
       stays = λ _. stays;
     }
 
+pub note_next-requires-clause-plays : goal.note_next-requires-clause-plays
+note_next-requires-clause-plays c =
+    plays-push c.args.program.now _ _ _ c.args.schedule.now c.args.step c.requires.there (c.in_ok-moved.ensures.moved c.if-not-moved.false)
+
 pub note_next-requires-clause-sessions : goal.note_next-requires-clause-sessions
 note_next-requires-clause-sessions c = sessions-push c.args.schedule.now c.args.step c.requires.sessions c.requires.session
 
 pub returns : goal.returns
 returns c =
     let p = c.args.program.now in
-    let here = c.in_ok-moved.ensures.moved c.if-not-moved.false in
+    let here = plays-push p _ _ _ c.args.schedule.now c.args.step c.requires.there (c.in_ok-moved.ensures.moved c.if-not-moved.false) in
     let note = c.in_ok-note_next.ensures in
     record {
       known = note.known;
       kept = note.kept;
       added = subst (λ (n : ℕ). AreAsLong n c.args.known.now.list.items c.note_next.new.known.list.items) (length-append c.args.schedule.now (c.args.step ∷ [])) note.added;
       all = λ s plays. subst (IsKnown p c.note_next.new.known.list.items)
-          (plays-determined c.runs_are_determined.ensures p (opening p) (state_of c.attempt.new.scene) s (c.args.schedule.now ++ c.args.step ∷ []) here plays) note.there;
-      goes = λ _. (state_of c.attempt.new.scene, here);
+          (plays-determined c.runs_are_determined.ensures p (opening p) (state_of c.step.new.self) s (c.args.schedule.now ++ c.args.step ∷ []) here plays) note.there;
+      goes = λ _. (state_of c.step.new.self, here);
       stays = λ f. absurd (true≢false f);
     }

@@ -1,6 +1,4 @@
-use Rattle.std.proofs.Common.{◌≡◌, ◌<◌, ℕ, get_or}
-use Rattle.jc_explore.specs.declared.search.Finding.{Finding}
-use Rattle.jc_explore.specs.Final.{final_of}
+use Rattle.jc_explore.proofs.Common.{◌≡◌, ◌<◌, ℕ, get_or, Finding, final_of}
 use Rattle.jc_explore.proofs.search.is_found.Given as goal
 
 abbrev pub invariant-loop-one : goal.invariant-loop-one

@@ -1,8 +1,4 @@
-use Rattle.std.proofs.Common.{◌≡◌, ◌<◌, ◌+◌, ℕ, List, true, sym, subst, get_or, arith}
-use Rattle.std.proofs.lemmas.Option.{slice_get_within}
-use Rattle.jc_explore.specs.declared.moves.Act.TheVariants.{Begin}
-use Rattle.jc_explore.specs.declared.moves.Move.{Move}
-use Rattle.jc_explore.specs.Schedule.{have_sessions, state_of}
+use Rattle.jc_explore.proofs.Common.{◌≡◌, ◌<◌, ◌+◌, ℕ, List, true, sym, subst, get_or, arith, slice_get_within, Begin, Move, have_sessions, state_of}
 use Rattle.jc_explore.proofs.Searching.{KeptAt, below_one-more, kept-at, kept-grown, kept-sessions, session-at, there-at}
 use Rattle.jc_explore.proofs.search.keep_moves.Goals as goal
 

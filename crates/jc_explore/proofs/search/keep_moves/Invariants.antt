@@ -1,5 +1,4 @@
-use Rattle.std.proofs.Common.{◌≡◌, ◌<◌, ℕ, true}
-use Rattle.jc_explore.specs.Schedule.{have_sessions, state_of}
+use Rattle.jc_explore.proofs.Common.{◌≡◌, ◌<◌, ℕ, true, have_sessions, state_of}
 use Rattle.jc_explore.proofs.Searching.{KeptAt}
 use Rattle.jc_explore.proofs.search.keep_moves.Given as goal
 

@@ -1,13 +1,4 @@
-use Rattle.std.proofs.Common.{◌≡◌, ◌∙◌, List, ap, sym, subst}
-use Rattle.std.specs.List.{All}
-use Rattle.std.proofs.lemmas.List.Elements.{All-push}
-use Rattle.std.proofs.lemmas.List.Quantifiers.{Any-push, all_pairs_push}
-use Rattle.jc_explore.specs.declared.moves.Move.{Move}
-use Rattle.jc_explore.specs.declared.search.Finding.{Finding}
-use Rattle.jc_explore.specs.Explored.{IsFound, IsWhole, AreWitnessed, AreDistinct}
-use Rattle.jc_explore.specs.Final.{FinalValue, final_of}
-use Rattle.jc_explore.specs.Schedule.{Plays, opening, state_of}
-use Rattle.jc_explore.specs.Search.{AreNew}
+use Rattle.jc_explore.proofs.Common.{◌≡◌, ◌∙◌, List, ap, sym, subst, All, All-push, Any-push, all_pairs_push, Move, Finding, IsFound, IsWhole, AreWitnessed, AreDistinct, FinalValue, final_of, Plays, opening, state_of, AreNew}
 use Rattle.jc_explore.proofs.Finals.{final-unique}
 use Rattle.jc_explore.proofs.Searching.{grows-refl}
 use Rattle.jc_explore.proofs.Shortest.{adds-none, adds-one}

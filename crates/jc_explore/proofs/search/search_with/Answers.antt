@@ -1,5 +1,4 @@
-use Rattle.std.proofs.Common.{◌∙◌, ◌<◌, ◌≤◌, ◌⊎◌, ℕ, length, sym, subst}
-use Rattle.jc_explore.specs.declared.search.TheConstants.{OUTCOMES_MAX}
+use Rattle.jc_explore.proofs.Common.{◌∙◌, ◌<◌, ◌≤◌, ◌⊎◌, ℕ, length, sym, subst, OUTCOMES_MAX}
 use Rattle.jc_explore.proofs.Counting.{are-counted}
 use Rattle.jc_explore.proofs.search.search_with.Goals as goal
 

@@ -1,10 +1,4 @@
-use Rattle.std.proofs.Common.{◌≡◌, List, length, true, sym, subst}
-use Rattle.jc_explore.specs.declared.moves.Move.{Move}
-use Rattle.jc_explore.specs.declared.search.Finding.{Finding}
-use Rattle.jc_explore.specs.Explored.{IsFound}
-use Rattle.jc_explore.specs.Final.{final_of}
-use Rattle.jc_explore.specs.Schedule.{have_sessions, state_of}
-use Rattle.jc_explore.specs.Search.{KeepsMoves}
+use Rattle.jc_explore.proofs.Common.{◌≡◌, List, length, true, sym, subst, Move, Finding, IsFound, final_of, have_sessions, state_of, KeepsMoves}
 use Rattle.jc_explore.proofs.AllMoves.{sessions-moves}
 use Rattle.jc_explore.proofs.Closing.{Laws, closed-goes, on-no-end, stays-end, end-found}
 use Rattle.jc_explore.proofs.Searching.{grows-refl}

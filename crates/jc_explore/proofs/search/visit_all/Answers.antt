@@ -1,12 +1,4 @@
-use Rattle.std.proofs.Common.{◌≡◌, ℕ, eqb, ◌+◌, ◌<◌, List, Some, get_or, length, slice_get, ◌∙◌, ap, subst, arith, true, true≢false, sym, inl, inr}
-use borrow.Author.Tests.{eqb-true, eqb-false}
-use Rattle.std.proofs.Common.{length-append}
-use Rattle.jc_explore.specs.declared.known.KnownState.{KnownState}
-use Rattle.jc_explore.specs.declared.moves.Move.{Move}
-use Rattle.jc_explore.specs.declared.search.Finding.{Finding}
-use Rattle.jc_explore.specs.declared.search.TheConstants.{OUTCOMES_MAX}
-use Rattle.jc_explore.specs.Schedule.{opening}
-use Rattle.jc_explore.specs.Search.{AreAsLong, AreNew, IsClosedAt, IsClosedUpTo}
+use Rattle.jc_explore.proofs.Common.{◌≡◌, ℕ, eqb, ◌+◌, ◌<◌, List, Some, get_or, length, slice_get, ◌∙◌, ap, subst, arith, true, true≢false, sym, inl, inr, eqb-true, eqb-false, length-append, KnownState, Move, Finding, OUTCOMES_MAX, opening, AreAsLong, AreNew, IsClosedAt, IsClosedUpTo}
 use Rattle.jc_explore.proofs.Closing.{closed-more, each-known, has-each}
 use Rattle.jc_explore.proofs.Searching.{known-grown, same-at, there-at}
 use Rattle.jc_explore.proofs.Shortest.{first-breadth, more-breadth}

@@ -1,6 +1,4 @@
-use Rattle.std.proofs.Common.{◌≤◌, length}
-use Rattle.jc_explore.specs.Schedule.{opening}
-use Rattle.jc_explore.specs.Search.{IsClosedUpTo, IsKnown, IsSearchOf}
+use Rattle.jc_explore.proofs.Common.{◌≤◌, length, opening, IsClosedUpTo, IsKnown, IsSearchOf}
 use Rattle.jc_explore.proofs.Shortest.{IsBreadthFirst}
 use Rattle.jc_explore.proofs.search.visit_all.Given as goal
 

@@ -1,8 +1,4 @@
-use Rattle.std.proofs.Common.{◌≤◌, ap, sym, subst}
-use Rattle.indexmap.specs.IndexMap.{spare}
-use Rattle.jc_rounds.specs.Targets.{ops_of}
-use Rattle.jc_rounds.specs.Underway.{AreRooms, IsNew}
-use Rattle.jc_invoke.specs.RoundRooms.{IsRoomFor}
+use Rattle.jc_invoke.proofs.Common.{spare, IsRoomFor, ops_of, AreRooms, IsNew, ◌≤◌, ap, sym, subst}
 use Rattle.jc_invoke.proofs.invoking.memory_for.Goals as goal
 
 pub end-progress-requires : goal.end-progress-requires

@@ -1,24 +1,25 @@
-use Rattle.std.proofs.Common.{◌≡◌, Some, slice_get, sym, ap, ◌∙◌, arith}
-use Rattle.std.proofs.lemmas.Option.{slice_get-get_or}
-use Rattle.jc_model.specs.declared.event.Op.TheVariants.{Invoke}
-use Rattle.jc_rounds.specs.Targets.{ops_with}
+use Rattle.jc_invoke.proofs.Common.{Invoke, same_keys, ops_with, ◌≡◌, Some, slice_get, sym, ap, ◌∙◌, arith, slice_get-get_or}
 use Rattle.jc_invoke.proofs.KeyResults.{as_many, keys_distinct, results_more, results_new, results_whole}
-use Rattle.jc_rounds.proofs.CallerLemmas.{same_keys}
 use Rattle.jc_invoke.proofs.results.fill_results.Goals as goal
 
-pub insert_result-requires-clause-new : goal.insert_result-requires-clause-new
-insert_result-requires-clause-new c =
+pub insert_result-requires : goal.insert_result-requires
+insert_result-requires c =
     let near = c.loop-place-test.true in
-    let many = c.requires.many in
+    let many = c.requires.keys.1 in
     let there : slice_get c.args.keys.now c.loop-place.place ≡ Some c.index-keys-place.result = slice_get-get_or c.args.keys.now c.loop-place.place c.index-keys-place.result (omega arith) ∙ ap Some (sym c.index-keys-place.is) in
-    results_new (ops_with Invoke c.args.keys.now) c.args.progress.now c.loop-place.place c.index-keys-place.result c.loop-place.results.entries (keys_distinct Invoke c.args.keys.now c.requires.distinct)
-    (ap (λ ks. slice_get ks c.loop-place.place) (same_keys Invoke c.args.keys.now) ∙ there) c.loop-place.invariant.filled
+    record {
+      new = (
+        results_new (ops_with Invoke c.args.keys.now) c.args.progress.now c.loop-place.place c.index-keys-place.result c.loop-place.results.entries (keys_distinct Invoke c.args.keys.now c.requires.keys.0)
+            (ap (λ ks. slice_get ks c.loop-place.place) (same_keys Invoke c.args.keys.now) ∙ there) c.loop-place.invariant.filled,
+        omega (arith, c.loop-place.invariant.room, many, near),
+      );
+    }
 
 pub loop-place-preserved : goal.loop-place-preserved
 loop-place-preserved c =
     let old = c.loop-place.invariant in
     let near = c.loop-place-test.true in
-    let many = c.requires.many in
+    let many = c.requires.keys.1 in
     let there : slice_get c.args.keys.now c.loop-place.place ≡ Some c.index-keys-place.result = slice_get-get_or c.args.keys.now c.loop-place.place c.index-keys-place.result (omega arith) ∙ ap Some (sym c.index-keys-place.is) in
     record {
       filled = c.insert_result.ensures.entries
@@ -29,4 +30,4 @@ loop-place-preserved c =
 
 pub returns : goal.returns
 returns c =
-    results_whole (ops_with Invoke c.args.keys.now) c.args.progress.now c.loop-place.place c.loop-place.results.entries (c.requires.many ∙ sym (as_many Invoke c.args.keys.now)) (omega (arith, c.loop-place-test.false)) c.loop-place.invariant.filled
+    results_whole (ops_with Invoke c.args.keys.now) c.args.progress.now c.loop-place.place c.loop-place.results.entries (c.requires.keys.1 ∙ sym (as_many Invoke c.args.keys.now)) (omega (arith, c.loop-place-test.false)) c.loop-place.invariant.filled

@@ -1,9 +1,4 @@
-use Rattle.std.proofs.Common.{◌≡◌, ◌≤◌, ◌+◌, length, take}
-use Rattle.indexmap.specs.IndexMap.{spare}
-use Rattle.jc_model.specs.declared.event.Op.TheVariants.{Invoke}
-use Rattle.jc_rounds.specs.Ends.{key_ends}
-use Rattle.jc_invoke.specs.Invoke.{result_entries}
-use Rattle.jc_rounds.specs.Targets.{ops_with}
+use Rattle.jc_invoke.proofs.Common.{spare, result_entries, Invoke, key_ends, ops_with, ◌≡◌, ◌≤◌, ◌+◌, length, take}
 use Rattle.jc_invoke.proofs.results.fill_results.Given as goal
 
 -- the keys before this place were filled in

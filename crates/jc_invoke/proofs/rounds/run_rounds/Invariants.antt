@@ -1,7 +1,4 @@
-use Rattle.std.proofs.Common.{◌≡◌}
-use Rattle.jc_rounds.specs.Running.{HasRun}
-use Rattle.jc_rounds.specs.Underway.{Past}
-use Rattle.jc_invoke.specs.InvokeRounds.{IsReady, RunsOn}
+use Rattle.jc_invoke.proofs.Common.{IsReady, RunsOn, KeepsProcessing, run_behavior, HasRun, Past}
 use Rattle.jc_invoke.proofs.rounds.run_rounds.Given as goal
 
 -- rounds were made, and the next one has this memory
@@ -9,10 +6,9 @@ abbrev pub invariant-loop : goal.invariant-loop
 invariant-loop g l = record {
   ready : IsReady l.fn.cache.config l.call l.next;
   runs : (past : Past) → HasRun l.fn.cache past l.fn.session l.fn.call
-      → RunsOn (λ p. (goal.CacheLoader-dyn g p).loads p.1) (λ p. (goal.CacheLoader-dyn g p).load_state p.1)
+      → RunsOn (run_behavior (λ p. (goal.CacheLoader-dyn g p).loads p.1) (λ p. (goal.CacheLoader-dyn g p).load_state p.1)
       (λ p. (goal.CacheWriter-dyn g p).writes_all p.1) (λ p. (goal.CacheWriter-dyn g p).deletes_all p.1) (λ p. (goal.CacheWriter-dyn g p).write_state p.1)
-      (λ b. (goal.EntryProcessor-dyn g (b.vtable, b.value)).processes b.value) (λ b. (goal.EntryProcessor-dyn g (b.vtable, b.value)).process_state b.value)
+      (λ b. (goal.EntryProcessor-dyn g (b.vtable, b.value)).processes b.value) (λ b. (goal.EntryProcessor-dyn g (b.vtable, b.value)).process_state b.value))
       l.fn.processing.args.now l.fn.cache past l.fn.session l.fn.call l.fn.processing.processor.now l.session l.call l.processing.processor.now;
-  same_processor : l.processing.processor.ghost_name ≡ l.fn.processing.processor.ghost_name;
-  same_args : l.processing.args ≡ l.fn.processing.args;
+  same : KeepsProcessing l.fn.processing l.processing;
 }

@@ -1,6 +1,4 @@
-use Rattle.std.proofs.Common.{◌≡◌, ◌++◌, take}
-use Rattle.std.specs.List.{flat_map}
-use Rattle.jc_litmus.specs.Outcomes.{verdict_line}
+use Rattle.jc_litmus.proofs.Common.{◌≡◌, ◌++◌, take, flat_map, verdict_line}
 use Rattle.jc_litmus.proofs.answer.put_verdicts.Given as goal
 
 abbrev pub invariant-loop-expectation : goal.invariant-loop-expectation

@@ -1,6 +1,4 @@
-use Rattle.std.proofs.Common.{◌∙◌, ap, append_assoc, ◌++◌, List, ℕ}
-use Rattle.std.specs.Prelude.{codes}
-use Rattle.jc_litmus.specs.Outcomes.{counts_text}
+use Rattle.jc_litmus.proofs.Common.{◌∙◌, ap, append_assoc, ◌++◌, List, ℕ, codes, counts_text}
 use Rattle.jc_litmus.proofs.answer.put_whole_line.Goals as goal
 
 pub returns : goal.returns

@@ -1,5 +1,4 @@
-use Rattle.std.proofs.Common.{◌≡◌, drop, map}
-use Rattle.jc_litmus.specs.Atoms.{atoms_from}
+use Rattle.jc_litmus.proofs.Common.{◌≡◌, drop, map, atoms_from}
 use Rattle.jc_litmus.proofs.atoms.add_atoms.Given as goal
 
 abbrev pub invariant-loop-word : goal.invariant-loop-word

@@ -1,6 +1,4 @@
-use Rattle.std.proofs.Common.{◌≡◌, drop, map}
-use Rattle.std.specs.List.{list_all}
-use Rattle.jc_litmus.specs.Atoms.{is_atom}
+use Rattle.jc_litmus.proofs.Common.{◌≡◌, drop, map, list_all, is_atom}
 use Rattle.jc_litmus.proofs.atoms.all_atoms.Given as goal
 
 abbrev pub invariant-loop-word : goal.invariant-loop-word

@@ -1,5 +1,4 @@
-use Rattle.std.proofs.Common.{◌≡◌, ◌++◌, drop, map}
-use Rattle.std.specs.List.{flat_map}
+use Rattle.jc_litmus.proofs.Common.{◌≡◌, ◌++◌, drop, map, flat_map}
 use Rattle.jc_litmus.specs.Grammar.{after_space}
 use Rattle.jc_litmus.proofs.grammar.put_words.Given as goal
 

@@ -1,5 +1,4 @@
-use Rattle.std.proofs.Common.{◌≡◌, drop}
-use Rattle.jc_litmus.specs.Judging.{reply_of}
+use Rattle.jc_litmus.proofs.Common.{◌≡◌, drop, reply_of}
 use Rattle.jc_litmus.proofs.judge.reply_of.Given as goal
 
 abbrev pub invariant-loop-one : goal.invariant-loop-one

@@ -1,5 +1,4 @@
-use Rattle.std.proofs.Common.{◌≡◌, drop}
-use Rattle.jc_litmus.specs.Judging.{value_of_key}
+use Rattle.jc_litmus.proofs.Common.{◌≡◌, drop, value_of_key}
 use Rattle.jc_litmus.proofs.judge.value_of_key.Given as goal
 
 abbrev pub invariant-loop-entry : goal.invariant-loop-entry

@@ -1,5 +1,4 @@
-use Rattle.std.proofs.Common.{◌≡◌, ◌++◌, slice_get}
-use Rattle.jc_litmus.specs.Outcomes.{outcome_if, text_up_to}
+use Rattle.jc_litmus.proofs.Common.{◌≡◌, ◌++◌, slice_get, outcome_if, text_up_to}
 use Rattle.jc_litmus.proofs.outcome.put_outcomes.Given as goal
 
 abbrev pub invariant-loop-at : goal.invariant-loop-at

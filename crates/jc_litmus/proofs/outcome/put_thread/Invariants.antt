@@ -1,5 +1,4 @@
-use Rattle.std.proofs.Common.{◌≡◌, ◌++◌}
-use Rattle.jc_litmus.specs.Outcomes.{item_text, text_up_to}
+use Rattle.jc_litmus.proofs.Common.{◌≡◌, ◌++◌, item_text, text_up_to}
 use Rattle.jc_litmus.proofs.outcome.put_thread.Given as goal
 
 abbrev pub invariant-loop-at : goal.invariant-loop-at

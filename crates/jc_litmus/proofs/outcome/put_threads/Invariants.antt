@@ -1,5 +1,4 @@
-use Rattle.std.proofs.Common.{◌≡◌, ◌++◌, slice_get}
-use Rattle.jc_litmus.specs.Outcomes.{text_up_to, thread_at}
+use Rattle.jc_litmus.proofs.Common.{◌≡◌, ◌++◌, slice_get, text_up_to, thread_at}
 use Rattle.jc_litmus.proofs.outcome.put_threads.Given as goal
 
 abbrev pub invariant-loop-thread : goal.invariant-loop-thread

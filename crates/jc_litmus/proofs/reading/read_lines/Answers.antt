@@ -1,5 +1,4 @@
-use Rattle.std.proofs.Common.{◌∙◌, ap, arith, Bool, sym}
-use Rattle.jc_litmus.specs.Program.{ended}
+use Rattle.jc_litmus.proofs.Common.{◌∙◌, ap, arith, Bool, sym, ended}
 use Rattle.jc_litmus.proofs.ProgramLines.{at_fault, last_line, next_line}
 use Rattle.jc_litmus.proofs.reading.read_lines.Goals as goal
 

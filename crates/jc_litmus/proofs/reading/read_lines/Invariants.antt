@@ -1,6 +1,4 @@
-use Rattle.std.proofs.Common.{◌≡◌, ◌≤◌, ◌+◌, length}
-use Rattle.jc_script.specs.Transcript.{pieces_of}
-use Rattle.jc_litmus.specs.Program.{program_from}
+use Rattle.jc_litmus.proofs.Common.{◌≡◌, ◌≤◌, ◌+◌, length, pieces_of, program_from}
 use Rattle.jc_litmus.proofs.reading.read_lines.Given as goal
 
 abbrev pub invariant-loop-text : goal.invariant-loop-text

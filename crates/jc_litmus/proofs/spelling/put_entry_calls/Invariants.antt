@@ -1,6 +1,4 @@
-use Rattle.std.proofs.Common.{◌≡◌, ◌++◌, map, drop}
-use Rattle.jc_script.specs.ProcessWords.{call_text}
-use Rattle.jc_litmus.specs.Spaced.{spaced}
+use Rattle.jc_litmus.proofs.Common.{◌≡◌, ◌++◌, map, drop, call_text, spaced}
 use Rattle.jc_litmus.proofs.spelling.put_entry_calls.Given as goal
 
 abbrev pub invariant-loop-call : goal.invariant-loop-call

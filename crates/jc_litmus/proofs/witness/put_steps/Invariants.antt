@@ -1,5 +1,4 @@
-use Rattle.std.proofs.Common.{◌≡◌, ◌++◌, drop}
-use Rattle.jc_litmus.specs.Witness.{steps_text}
+use Rattle.jc_litmus.proofs.Common.{◌≡◌, ◌++◌, drop, steps_text}
 use Rattle.jc_litmus.proofs.witness.put_steps.Given as goal
 
 abbrev pub invariant-loop-step : goal.invariant-loop-step

@@ -1,6 +1,4 @@
-use Rattle.std.proofs.Common.{◌≡◌, ◌++◌, take}
-use Rattle.std.specs.List.{flat_map}
-use Rattle.jc_litmus.specs.Witness.{set_text}
+use Rattle.jc_litmus.proofs.Common.{◌≡◌, ◌++◌, take, flat_map, set_text}
 use Rattle.jc_litmus.proofs.witness.put_stored.Given as goal
 
 abbrev pub invariant-loop-entry : goal.invariant-loop-entry

@@ -1,4 +1,4 @@
-use Rattle.std.proofs.Common.{rules}
+use Rattle.jc_loadall.proofs.Common.{rules}
 use Rattle.jc_loadall.proofs.LoadedPieces.{ended, ended_same, on_return}
 use Rattle.jc_loadall.proofs.clients.load_all_by_clients.Goals as goal
 

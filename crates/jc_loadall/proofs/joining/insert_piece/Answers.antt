@@ -1,7 +1,4 @@
-use Rattle.std.proofs.Common.{◌*◌, ◌+◌, ◌-◌, ◌++◌, [], take, drop, option_map, sym, ap, subst, ◌∙◌, append_assoc, arith}
-use Rattle.std.specs.List.{cons_option}
-use Rattle.jc_loadall.specs.Notes.{AreWithin, entries_noted, refusal_noted}
-use Rattle.jc_loadall.specs.declared.limits.TheConstants.{PIECE_KEYS}
+use Rattle.jc_loadall.proofs.Common.{◌*◌, ◌+◌, ◌-◌, ◌++◌, [], take, drop, option_map, sym, ap, subst, ◌∙◌, append_assoc, arith, cons_option, AreWithin, entries_noted, refusal_noted, PIECE_KEYS}
 use Rattle.jc_loadall.proofs.JoinedNotes.{entries_more, fresh_place, wider, within_more}
 use Rattle.jc_loadall.proofs.PieceKeys.{one_more, whole_piece}
 use Rattle.jc_loadall.proofs.joining.insert_piece.Goals as goal

@@ -1,6 +1,4 @@
-use Rattle.std.proofs.Common.{◌≡◌, ◌-◌, ◌*◌, ◌++◌, take, drop}
-use Rattle.jc_loadall.specs.Notes.{MayAdd, entries_noted}
-use Rattle.jc_loadall.specs.declared.limits.TheConstants.{PIECE_KEYS}
+use Rattle.jc_loadall.proofs.Common.{◌≡◌, ◌-◌, ◌*◌, ◌++◌, take, drop, MayAdd, entries_noted, PIECE_KEYS}
 use Rattle.jc_loadall.proofs.joining.insert_piece.Given as goal
 
 abbrev pub invariant-loop-place : goal.invariant-loop-place

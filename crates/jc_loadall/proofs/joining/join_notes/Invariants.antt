@@ -1,7 +1,4 @@
-use Rattle.std.proofs.Common.{◌≡◌, ◌*◌}
-use Rattle.std.specs.List.{flat_map}
-use Rattle.jc_loadall.specs.Notes.{MayAdd, all_noted, first_noted, result_in}
-use Rattle.jc_loadall.specs.declared.limits.TheConstants.{PIECE_KEYS}
+use Rattle.jc_loadall.proofs.Common.{◌≡◌, ◌*◌, flat_map, MayAdd, all_noted, first_noted, result_in, PIECE_KEYS}
 use Rattle.jc_loadall.proofs.joining.join_notes.Given as goal
 
 abbrev pub invariant-loop-piece : goal.invariant-loop-piece

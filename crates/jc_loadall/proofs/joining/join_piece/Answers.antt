@@ -1,5 +1,4 @@
-use Rattle.std.proofs.Common.{◌+◌, ◌*◌, arith}
-use Rattle.jc_loadall.specs.declared.limits.TheConstants.{PIECE_KEYS}
+use Rattle.jc_loadall.proofs.Common.{◌+◌, ◌*◌, arith, PIECE_KEYS}
 use Rattle.jc_loadall.proofs.JoinedNotes.{wider}
 use Rattle.jc_loadall.proofs.joining.join_piece.Goals as goal
 

@@ -1,5 +1,4 @@
-use Rattle.std.proofs.Common.{sym, ap, ◌∙◌, arith}
-use Rattle.jc_loadall.specs.Notes.{find_note}
+use Rattle.jc_loadall.proofs.Common.{sym, ap, ◌∙◌, arith, find_note}
 use Rattle.jc_loadall.proofs.JoinedNotes.{found_here, found_next}
 use Rattle.jc_loadall.proofs.joining.result_of.Goals as goal
 

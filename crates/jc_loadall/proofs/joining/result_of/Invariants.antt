@@ -1,6 +1,4 @@
-use Rattle.std.proofs.Common.{◌≡◌, drop}
-use Rattle.std.specs.List.{flat_map}
-use Rattle.jc_loadall.specs.Notes.{find_note}
+use Rattle.jc_loadall.proofs.Common.{◌≡◌, drop, flat_map, find_note}
 use Rattle.jc_loadall.proofs.joining.result_of.Given as goal
 
 abbrev pub invariant-loop-worker : goal.invariant-loop-worker

@@ -1,5 +1,4 @@
-use Rattle.std.proofs.Common.{◌≡◌, drop}
-use Rattle.jc_loadall.specs.Notes.{find_note}
+use Rattle.jc_loadall.proofs.Common.{◌≡◌, drop, find_note}
 use Rattle.jc_loadall.proofs.notes.find_note.Given as goal
 
 abbrev pub invariant-loop-note : goal.invariant-loop-note

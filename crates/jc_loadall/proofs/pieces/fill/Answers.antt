@@ -1,10 +1,4 @@
-use Rattle.std.proofs.Common.{◌≡◌, ◌*◌, ◌+◌, ◌∷◌, [], ◌++◌, length, ◌==◌, ap, sym, subst, ◌∙◌, arith}
-use Rattle.std.proofs.lemmas.List.{length_push}
-use Rattle.std.specs.List.{IsDistinct}
-use Rattle.std.specs.Cmp.Lexicographic.{pointwise}
-use Rattle.jc_loadall.specs.Pieces.{piece_at}
-use Rattle.jc_model.specs.Batches.{is_among}
-use Rattle.jc_loadall.specs.declared.limits.TheConstants.{PIECE_KEYS}
+use Rattle.jc_loadall.proofs.Common.{◌≡◌, ◌*◌, ◌+◌, ◌∷◌, [], ◌++◌, length, ◌==◌, ap, sym, subst, ◌∙◌, arith, length_push, IsDistinct, pointwise, piece_at, is_among, PIECE_KEYS}
 use Rattle.jc_loadall.proofs.PieceKeys.{distinct_piece, few_keys, fresh_key, one_more, whole_piece}
 use Rattle.jc_loadall.proofs.pieces.fill.Goals as goal
 
@@ -30,4 +24,4 @@ pub returns-clause-few : goal.returns-clause-few
 returns-clause-few c =
     let few = few_keys c.args.keys.now c.args.piece in
     let same = ap length (filled c) in
-    (omega arith, subst (IsDistinct (pointwise ◌==◌)) (sym (filled c)) (distinct_piece c.args.keys.now c.args.piece c.requires.piece.1))
+    (omega arith, omega (arith, c.loop-place.invariant.room), subst (IsDistinct (pointwise ◌==◌)) (sym (filled c)) (distinct_piece c.args.keys.now c.args.piece c.requires.piece.1))

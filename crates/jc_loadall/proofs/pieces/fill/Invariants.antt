@@ -1,6 +1,4 @@
-use Rattle.std.proofs.Common.{◌≡◌, ◌-◌, ◌*◌, ◌+◌, ◌≤◌, length, take, drop}
-use Rattle.indexmap.specs.IndexSet.{spare}
-use Rattle.jc_loadall.specs.declared.limits.TheConstants.{PIECE_KEYS}
+use Rattle.jc_loadall.proofs.Common.{◌≡◌, ◌-◌, ◌*◌, ◌+◌, ◌≤◌, length, take, drop, spare, PIECE_KEYS}
 use Rattle.jc_loadall.proofs.pieces.fill.Given as goal
 
 abbrev pub invariant-loop-place : goal.invariant-loop-place

@@ -1,6 +1,4 @@
-use Rattle.std.proofs.Common.{◌≡◌, ◌≤◌, [], ◌∷◌, ◌++◌, All, vec_len, vec_capacity, sym, subst, rules}
-use Rattle.std.proofs.lemmas.List.Elements.{All-push}
-use Rattle.jc_loadall.specs.Working.{IsIdle}
+use Rattle.jc_loadall.proofs.Common.{◌≡◌, ◌≤◌, [], ◌∷◌, ◌++◌, All, vec_len, vec_capacity, sym, subst, rules, All-push, IsIdle}
 use Rattle.jc_loadall.proofs.team.hire.Goals as goal
 
 pub hiring-preserved : goal.hiring-preserved

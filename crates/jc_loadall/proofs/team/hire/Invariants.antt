@@ -1,5 +1,4 @@
-use Rattle.std.proofs.Common.{◌-◌, ◌≤◌, All, vec_len, vec_capacity}
-use Rattle.jc_loadall.specs.Working.{IsIdle}
+use Rattle.jc_loadall.proofs.Common.{◌-◌, ◌≤◌, All, vec_len, vec_capacity, IsIdle}
 use Rattle.jc_loadall.proofs.team.hire.Given as goal
 
 abbrev pub invariant-hiring : goal.invariant-hiring

@@ -1,7 +1,8 @@
 //! Calls of owners and clients in which an allocation is refused. Each is made once, on a cache that lives on.
 use super::*;
-use jc_cache::{
-    CacheOwner, Client, Closed, ClosedStripe, Event, Outside, Service, serve, work_all,
+use jc_client::{
+    CacheOwner, Client, Closed, ClosedStripe, Event, Outside, Service, clients, serve, sessions_of,
+    work_all,
 };
 use jc_types::Refusal;
 use std::sync::Wait;
@@ -51,7 +52,7 @@ fn makes_clients(rt: &(impl Abort + Print), alloc: Global) {
         .enlist_all(alloc, pair(rt, alloc))
         .expect(rt, "memory");
     say(rt, "> clients");
-    let is_made = owner.clients(alloc, sessions).is_ok();
+    let is_made = clients(&owner, alloc, sessions).is_ok();
     say(rt, "=");
     say_dropped(rt, is_made);
     let _closed = ends_well(rt, alloc, owner);
@@ -63,9 +64,9 @@ fn takes_sessions(rt: &(impl Abort + Print), alloc: Global) {
     let sessions = owner
         .enlist_all(alloc, pair(rt, alloc))
         .expect(rt, "memory");
-    let clients = owner.clients(alloc, sessions).expect(rt, "memory");
+    let clients = clients(&owner, alloc, sessions).expect(rt, "memory");
     say(rt, "> sessions_of");
-    let is_made = owner.sessions_of(alloc, clients).is_ok();
+    let is_made = sessions_of(&owner, alloc, clients).is_ok();
     say(rt, "=");
     say_dropped(rt, is_made);
     let _closed = ends_well(rt, alloc, owner);
@@ -98,7 +99,7 @@ fn works<R: Abort + Wait + Threads + Sync + Print>(rt: &R, alloc: Global) {
     let sessions = owner
         .enlist_all(alloc, pair(rt, alloc))
         .expect(rt, "memory");
-    let clients = owner.clients(alloc, sessions).expect(rt, "memory");
+    let clients = clients(&owner, alloc, sessions).expect(rt, "memory");
     say(rt, "> work_all");
     let worked = work_all(rt, &service, clients);
     say(rt, "=");
@@ -212,7 +213,7 @@ fn of_generations(rt: HostRuntime) {
     let sessions = owner
         .enlist_all(alloc, pair(&rt, alloc))
         .expect(&rt, "memory");
-    let clients = owner.clients(alloc, sessions).expect(&rt, "memory");
+    let clients = clients(&owner, alloc, sessions).expect(&rt, "memory");
     calls(&rt, alloc, clients);
     let closed = ends(&rt, alloc, owner);
     lists_events(&rt, alloc, closed.stripes.first().expect(&rt, "a stripe"));

@@ -1,5 +1,4 @@
-use Rattle.std.proofs.Common.{None}
-use Rattle.jc_script.specs.Transcript.{pieces_of}
+use Rattle.jc_script.proofs.Common.{None, pieces_of}
 use Rattle.jc_script.proofs.PrintedMemory.{transcript_tells}
 use Rattle.jc_script.proofs.determinism.memory_is_printed.Goals as goal
 

@@ -1,5 +1,4 @@
-use Rattle.std.proofs.Common.{None}
-use Rattle.jc_script.specs.Transcript.{pieces_of}
+use Rattle.jc_script.proofs.Common.{None, pieces_of}
 use Rattle.jc_script.proofs.OneTranscript.{transcript_same}
 use Rattle.jc_script.proofs.determinism.transcripts_are_determined.Goals as goal
 

@@ -1,5 +1,4 @@
-use Rattle.std.proofs.Common.{◌≡◌, ◌≤◌, ◌-◌, false, vec_len}
-use Rattle.std.specs.Io.KnownBytes.{Consumes}
+use Rattle.jc_script.proofs.Common.{◌≡◌, ◌≤◌, ◌-◌, false, vec_len, Consumes}
 use Rattle.jc_script.proofs.input.read_all.Given as goal
 
 abbrev pub invariant-loop-chunk : goal.invariant-loop-chunk

@@ -1,6 +1,4 @@
-use Rattle.std.proofs.Common.{◌≤◌, arith, rules, drop, length}
-use Rattle.std.proofs.lemmas.List.{take_rest, length-drop}
-use Rattle.std.proofs.Math.Seq.{take-add}
+use Rattle.jc_script.proofs.Common.{◌≤◌, arith, rules, drop, length, take_rest, length-drop, take-add}
 use Rattle.jc_script.proofs.Pieces.{appends-then}
 use Rattle.jc_script.proofs.input.write_out.Goals as goal
 

@@ -1,5 +1,4 @@
-use Rattle.std.proofs.Common.{◌≡◌, false, ◌≤◌, ◌-◌, length, take}
-use Rattle.std.specs.Io.KnownBytes.{Appends}
+use Rattle.jc_script.proofs.Common.{◌≡◌, false, ◌≤◌, ◌-◌, length, take, Appends}
 use Rattle.jc_script.proofs.input.write_out.Given as goal
 
 abbrev pub invariant-loop-at : goal.invariant-loop-at

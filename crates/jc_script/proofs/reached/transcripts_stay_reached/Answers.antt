@@ -1,5 +1,4 @@
-use Rattle.std.proofs.Common.{[], None, refl}
-use Rattle.jc_script.specs.Transcript.{pieces_of}
+use Rattle.jc_script.proofs.Common.{[], None, refl, pieces_of}
 use Rattle.jc_script.proofs.ReachedWorlds.{script_stays}
 use Rattle.jc_script.proofs.reached.transcripts_stay_reached.Goals as goal
 

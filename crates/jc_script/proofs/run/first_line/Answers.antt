@@ -1,5 +1,4 @@
-use Rattle.std.proofs.Common.{sym, arith, length, ◌+◌, ◌<◌}
-use Rattle.std.proofs.lemmas.List.{take_rest, length-drop}
+use Rattle.jc_script.proofs.Common.{sym, arith, length, ◌+◌, ◌<◌, take_rest, length-drop}
 use Rattle.jc_script.proofs.Pieces.{cut_at, uncut, within}
 use Rattle.jc_script.proofs.run.first_line.Goals as goal
 

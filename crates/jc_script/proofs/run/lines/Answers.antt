@@ -1,7 +1,4 @@
-use Rattle.std.proofs.Common.{◌≡◌, ◌∙◌, ap, ℕ, List, [], ◌++◌, length, rules, arith, append-nil}
-use Rattle.jc_script.specs.Transcript.{IsTranscript, pieces_of, opened_world}
-use Rattle.jc_script.specs.declared.run.RunEnd.TheVariants.{Clean, LineFault}
-use Rattle.jc_script.specs.Printing.{fault_line}
+use Rattle.jc_script.proofs.Common.{◌≡◌, ◌∙◌, ap, ℕ, List, [], ◌++◌, length, rules, arith, append-nil, IsTranscript, pieces_of, opened_world, Clean, LineFault, fault_line}
 use Rattle.jc_script.proofs.Pieces.{at_fault, at_end, after_line, at_next, explains}
 use Rattle.jc_script.proofs.run.lines.Goals as goal
 

@@ -1,6 +1,4 @@
-use Rattle.std.proofs.Common.{◌≡◌, ◌≤◌, ◌+◌, ◌++◌, ℕ, List, length}
-use Rattle.jc_script.specs.declared.run.RunEnd.{RunEnd}
-use Rattle.jc_script.specs.Transcript.{Transcript, IsTranscript, pieces_of, opened_world}
+use Rattle.jc_script.proofs.Common.{◌≡◌, ◌≤◌, ◌+◌, ◌++◌, ℕ, List, length, RunEnd, Transcript, IsTranscript, pieces_of, opened_world}
 use Rattle.jc_script.proofs.Pieces.{IsAt}
 use Rattle.jc_script.proofs.run.lines.Given as goal
 

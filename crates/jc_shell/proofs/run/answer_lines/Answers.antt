@@ -1,10 +1,7 @@
-use Rattle.std.proofs.Common.{◌≡◌, ◌∷◌, [], ◌++◌, refl, rules}
-use Rattle.jc_shell.specs.declared.words.Word.TheVariants.{Quit}
-use Rattle.jc_shell.specs.ShellWords.{word_of}
-use Rattle.jc_script.specs.Transcript.{pieces_of}
+use Rattle.jc_shell.proofs.Common.{◌≡◌, ◌∷◌, [], ◌++◌, refl, rules, Quit, word_of, pieces_of, appends-then}
 use Rattle.jc_shell.proofs.Lines.{first_is_whole, line_and_rest}
 use Rattle.jc_shell.proofs.Turns.{quit_word, saves_none, saves_then}
-use Rattle.jc_shell.proofs.Streams.{answered_one, answered_then, appends_none, appends_then, left_of, read_one, read_then, written_then}
+use Rattle.jc_shell.proofs.Streams.{answered_one, answered_then, appends_none, left_of, read_one, read_then, written_then}
 use Rattle.jc_shell.proofs.run.answer_lines.Goals as goal
 
 pub loop-line-init : goal.loop-line-init
@@ -30,7 +27,7 @@ loop-line-preserved g c =
             r.2,
             answered_then prompt p.0 (line ∷ []) p.1 (r.0 ++ prompt) p.2 r.1 a p.3 r.2 p.4 (answered_one prompt p.3 line r.0 r.1 r.2 whole r.4),
             read_then c.args.bytes.now rest after p.0 (line ∷ []) p.5 (read_one rest line after is),
-            appends_then _ _ _ p.1 (r.0 ++ prompt) p.6 r.5,
+            appends-then _ _ _ p.1 (r.0 ++ prompt) p.6 r.5,
             saves_then _ _ _ p.2 r.1 p.7 r.6,
             r.3,
           ),
@@ -69,7 +66,7 @@ returns-in-Err-clause-err g c =
       answered_then prompt p.0 r.0 p.1 r.1 p.2 r.3 a p.3 r.4 p.4 r.6,
       read_then c.args.bytes.now rest left.0 p.0 r.0 p.5 left.1,
       written_then _ p.1 r.1 r.2 r.7,
-      appends_then _ _ _ p.1 r.2 p.6 r.8,
+      appends-then _ _ _ p.1 r.2 p.6 r.8,
       saves_then _ _ _ p.2 r.3 p.7 r.9,
     )
 

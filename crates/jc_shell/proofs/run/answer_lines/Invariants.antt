@@ -1,9 +1,4 @@
-use Rattle.std.proofs.Common.{◌≡◌, ◌++◌, ℕ, List, false, length}
-use Rattle.std.specs.Io.KnownBytes.{Appends}
-use Rattle.jc_script.specs.Transcript.{opened_world}
-use Rattle.jc_shell.specs.Holding.{Holds}
-use Rattle.jc_shell.specs.Saving.{Saved, Saves}
-use Rattle.jc_shell.specs.Sessions.{Accepted, AreAnswered, script_of}
+use Rattle.jc_shell.proofs.Common.{◌≡◌, ◌++◌, ℕ, List, false, length, Appends, opened_world, Holds, Saved, Saves, Accepted, AreAnswered, script_of}
 use Rattle.jc_shell.proofs.run.answer_lines.Given as goal
 
 -- whatever was accepted before these bytes

@@ -1,5 +1,4 @@
-use Rattle.std.proofs.Common.{◌∙◌, rules}
-use Rattle.std.proofs.lemmas.List.{take_rest}
+use Rattle.jc_shell.proofs.Common.{◌∙◌, rules, take_rest}
 use Rattle.jc_shell.proofs.Streams.{err_then, ok_then, ran_out, ran_quit, stopped_answering, stopped_ending, stopped_first, stopped_reading, talked_next}
 use Rattle.jc_shell.proofs.run.converse.Goals as goal
 

@@ -1,5 +1,4 @@
-use Rattle.std.proofs.Common.{◌≡◌, ◌≤◌, ◌-◌, false, length}
-use Rattle.jc_script.specs.Transcript.{opened_world}
+use Rattle.jc_shell.proofs.Common.{◌≡◌, ◌≤◌, ◌-◌, false, length, opened_world}
 use Rattle.jc_shell.proofs.Streams.{Talked}
 use Rattle.jc_shell.proofs.run.converse.Given as goal
 

@@ -1,10 +1,9 @@
-use Rattle.std.proofs.Common.{◌++◌}
-use Rattle.jc_shell.specs.declared.run.ShellFault.TheVariants.{Write}
-use Rattle.jc_shell.proofs.Streams.{appends_then, err_then, ok_then, written_more, written_then}
+use Rattle.jc_shell.proofs.Common.{◌++◌, Write, appends-then}
+use Rattle.jc_shell.proofs.Streams.{err_then, ok_then, written_more, written_then}
 use Rattle.jc_shell.proofs.run.say_both.Goals as goal
 
 pub returns-in-Ok-clause-ok : goal.returns-in-Ok-clause-ok
-returns-in-Ok-clause-ok g c = ok_then c.say-in-Ok.result _ _ (λ second. appends_then _ _ _ _ _ c.in-Ok.ensures.ok second) c.say-in-Ok.ensures.ok
+returns-in-Ok-clause-ok g c = ok_then c.say-in-Ok.result _ _ (λ second. appends-then _ _ _ _ _ c.in-Ok.ensures.ok second) c.say-in-Ok.ensures.ok
 
 pub returns-in-Ok-clause-err : goal.returns-in-Ok-clause-err
 returns-in-Ok-clause-err g c =
@@ -15,7 +14,7 @@ returns-in-Ok-clause-err g c =
       (
         answer ++ s.1.0,
         written_then Write answer prompt s.1.0 s.1.1,
-        appends_then _ _ _ answer s.1.0 c.in-Ok.ensures.ok s.1.2,
+        appends-then _ _ _ answer s.1.0 c.in-Ok.ensures.ok s.1.2,
       ),
     )) c.say-in-Ok.ensures.err
 

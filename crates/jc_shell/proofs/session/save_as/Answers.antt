@@ -1,7 +1,4 @@
-use Rattle.std.proofs.Common.{◌≡◌, ◌∙◌, ◌++◌, ℕ, List, [], ◌∷◌, length, take, ap, append_assoc, inr, refl}
-use Rattle.std.specs.Prelude.{codes}
-use Rattle.std.proofs.Math.Seq.{take-append_seam}
-use Rattle.jc_shell.specs.ShellWords.{not_saved_text}
+use Rattle.jc_shell.proofs.Common.{◌≡◌, ◌∙◌, ◌++◌, ℕ, List, [], ◌∷◌, length, take, ap, append_assoc, inr, refl, codes, take-append_seam, not_saved_text}
 use Rattle.jc_shell.proofs.Turns.{saves_none}
 use Rattle.jc_shell.proofs.session.save_as.Goals as goal
 

@@ -1,5 +1,4 @@
-use Rattle.std.proofs.Common.{[], ◌∷◌, Some, ap, ◌∙◌}
-use Rattle.jc_snapshot.specs.Rows.{flat}
+use Rattle.jc_snapshot.proofs.Common.{[], ◌∷◌, Some, ap, ◌∙◌, flat}
 use Rattle.jc_snapshot.proofs.calls.call_row.Goals as goal
 
 pub returns-clause-row : goal.returns-clause-row

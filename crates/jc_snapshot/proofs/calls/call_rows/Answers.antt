@@ -1,6 +1,4 @@
-use Rattle.std.proofs.Common.{[], ◌∷◌, ◌++◌, take, sym, subst, ◌∙◌}
-use Rattle.jc_snapshot.specs.Rows.{framed, AreRows}
-use Rattle.jc_snapshot.specs.Snapshot.{IsCallRow}
+use Rattle.jc_snapshot.proofs.Common.{[], ◌∷◌, ◌++◌, take, sym, subst, ◌∙◌, framed, AreRows, IsCallRow}
 use Rattle.jc_snapshot.proofs.FlatRows.{rows_stay, rows_push, flat_push}
 use Rattle.jc_snapshot.proofs.TableNumbers.{take_next}
 use Rattle.jc_snapshot.proofs.StripeRows.{call_stays, grows_self, grows_twice}

@@ -1,6 +1,4 @@
-use Rattle.std.proofs.Common.{◌≡◌, ℕ, List, take}
-use Rattle.jc_snapshot.specs.Rows.{flat, AreRows}
-use Rattle.jc_snapshot.specs.Snapshot.{IsCallRow, GrowsTo}
+use Rattle.jc_snapshot.proofs.Common.{◌≡◌, ℕ, List, take, flat, AreRows, IsCallRow, GrowsTo}
 use Rattle.jc_snapshot.proofs.calls.call_rows.Given as goal
 
 -- the rows of the calls so far, over tables that have grown

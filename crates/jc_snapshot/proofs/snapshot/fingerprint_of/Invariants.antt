@@ -1,5 +1,4 @@
-use Rattle.std.proofs.Common.{◌≡◌, take}
-use Rattle.std.specs.List.{fold}
+use Rattle.jc_snapshot.proofs.Common.{◌≡◌, take, fold}
 use Rattle.jc_snapshot.specs.declared.snapshot.TheConstants.{FINGERPRINT_START}
 use Rattle.jc_snapshot.specs.Fingerprint.{print_with}
 use Rattle.jc_snapshot.proofs.snapshot.fingerprint_of.Given as goal

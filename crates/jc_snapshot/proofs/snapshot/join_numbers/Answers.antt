@@ -1,12 +1,10 @@
-use Rattle.std.proofs.Common.{◌≡◌, ap, subst, ◌∙◌}
+use Rattle.jc_snapshot.proofs.Common.{◌≡◌, ap, subst, ◌∙◌, join_cmp, AreNumbers}
 use Rattle.std.specs.FinMap as map
-use Rattle.jc_world.specs.World.{join_cmp}
-use Rattle.jc_snapshot.specs.Numbers.{AreNumbers}
-use Rattle.jc_snapshot.proofs.JoinKeys.{joins_exact}
+use Rattle.jc_world.proofs.CallerLemmas.{exact_joins}
 use Rattle.jc_snapshot.proofs.snapshot.join_numbers.Goals as goal
 
 pub sorted-requires : goal.sorted-requires
-sorted-requires c = joins_exact
+sorted-requires c = exact_joins
 
 pub returns-clause-numbers : goal.returns-clause-numbers
 returns-clause-numbers c =

@@ -1,6 +1,4 @@
-use Rattle.std.proofs.Common.{[], ◌∷◌, Some, ap, ◌∙◌}
-use Rattle.jc_snapshot.specs.Rows.{flat}
-use Rattle.jc_snapshot.specs.Snapshot.{bit, last_row}
+use Rattle.jc_snapshot.proofs.Common.{[], ◌∷◌, Some, ap, ◌∙◌, flat, bit, last_row}
 use Rattle.jc_snapshot.proofs.snapshot.own_words.Goals as goal
 
 pub returns-clause-rows : goal.returns-clause-rows

@@ -1,5 +1,5 @@
-use Rattle.jc_snapshot.proofs.JoinKeys.{keys_exact}
+use Rattle.std.specs.FinMap.{nat_cmp-IsAntisymmetric, slice_cmp-IsAntisymmetric}
 use Rattle.jc_snapshot.proofs.snapshot.part_numbers.Goals as goal
 
 pub sorted-requires : goal.sorted-requires
-sorted-requires c = keys_exact
+sorted-requires c = slice_cmp-IsAntisymmetric nat_cmp-IsAntisymmetric

@@ -1,6 +1,5 @@
-use Rattle.std.proofs.Common.{◌≡◌, map, take}
+use Rattle.jc_snapshot.proofs.Common.{◌≡◌, map, take, answer_in}
 use Rattle.jc_inflight.specs.declared.joiner.Joiner.{Joiner}
-use Rattle.jc_world.specs.Essence.{answer_in}
 use Rattle.jc_snapshot.proofs.stripes.answers_of.Given as goal
 
 -- what the joiners so far are answered

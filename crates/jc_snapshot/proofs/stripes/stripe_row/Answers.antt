@@ -1,7 +1,4 @@
-use Rattle.std.proofs.Common.{[], ◌∷◌, Some, sym, ap, subst, ◌∙◌}
-use Rattle.jc_snapshot.specs.Numbers.{AreNumbers}
-use Rattle.jc_snapshot.specs.Rows.{flat}
-use Rattle.jc_snapshot.specs.Snapshot.{bit, origin_word}
+use Rattle.jc_snapshot.proofs.Common.{[], ◌∷◌, Some, sym, ap, subst, ◌∙◌, AreNumbers, flat, bit, origin_word}
 use Rattle.jc_snapshot.proofs.stripes.stripe_row.Goals as goal
 
 pub returns-clause-row : goal.returns-clause-row

@@ -1,9 +1,4 @@
-use Rattle.std.proofs.Common.{◌≡◌, ◌+◌, [], ◌∷◌, ◌++◌, length, map, take, refl, sym, ap, subst, ◌∙◌}
-use Rattle.std.proofs.lemmas.List.{map-append}
-use Rattle.std.proofs.lemmas.Option.{slice_get_read}
-use Rattle.jc_world.specs.Essence.{essence_of}
-use Rattle.jc_snapshot.specs.Rows.{framed, AreRows}
-use Rattle.jc_snapshot.specs.Snapshot.{IsStripeRow}
+use Rattle.jc_snapshot.proofs.Common.{◌≡◌, ◌+◌, [], ◌∷◌, ◌++◌, length, map, take, refl, sym, ap, subst, ◌∙◌, map-append, slice_get_read, essence_of, framed, AreRows, IsStripeRow}
 use Rattle.jc_snapshot.proofs.FlatRows.{rows_stay, rows_push, flat_push}
 use Rattle.jc_snapshot.proofs.TableNumbers.{take_next}
 use Rattle.jc_snapshot.proofs.StripeRows.{stripe_stays, grows_self, grows_twice}

@@ -1,7 +1,4 @@
-use Rattle.std.proofs.Common.{◌≡◌, ℕ, List, map, take}
-use Rattle.jc_world.specs.Essence.{essence_of}
-use Rattle.jc_snapshot.specs.Rows.{flat, AreRows}
-use Rattle.jc_snapshot.specs.Snapshot.{IsStripeRow, GrowsTo}
+use Rattle.jc_snapshot.proofs.Common.{◌≡◌, ℕ, List, map, take, essence_of, flat, AreRows, IsStripeRow, GrowsTo}
 use Rattle.jc_snapshot.proofs.stripes.stripe_rows.Given as goal
 
 -- the rows of the stripes so far, over tables that have grown

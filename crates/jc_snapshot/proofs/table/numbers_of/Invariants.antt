@@ -1,5 +1,4 @@
-use Rattle.std.proofs.Common.{take}
-use Rattle.jc_snapshot.specs.Numbers.{AreNumbers, Extends}
+use Rattle.jc_snapshot.proofs.Common.{take, AreNumbers, Extends}
 use Rattle.jc_snapshot.proofs.table.numbers_of.Given as goal
 
 -- the numbers of the things so far, in a table that has grown

@@ -7,7 +7,7 @@ use super::super::reopenings::is_once;
 use super::words::Seen;
 use jc_model::{Op, Out, Reply};
 use jc_stripe::{
-    First, Join, Origin, Picked, Reopened, Started, StepDone, Stripe, Ticket, played_load,
+    Appended, First, Join, Origin, Picked, Reopened, Started, Stripe, Ticket, played_load,
     played_write, reopen,
 };
 use jc_types::{Caller, Config, Key, Value};
@@ -52,28 +52,29 @@ fn is_played(stripe: &Stripe) -> bool
 }
 
 /// Ends a call whose loader or writer was asked, with these answers.
-fn commit(rt: &impl Abort, stripe: &mut Stripe, unasked: Unasked, out: &Out) -> StepDone {
+fn commit(
+    rt: &impl Abort,
+    stripe: &mut Stripe,
+    unasked: Unasked,
+    out: &Out,
+    reply: &mut Reply,
+) -> Appended {
     let Unasked { mut ticket } = unasked;
     assert!(rt; stripe.holds(ticket.reservation()), "out");
     assert!(rt; is_played(stripe), "played");
     let first = ticket.reservation().first;
-    let mut reply = Reply::Unit;
     match first {
         First::Loader => {
             assert!(rt; out.load.is_given(), "the loader's answer");
             let ask = ticket.ask();
             let done = played_load(ask, out.load);
-            stripe
-                .commit_load(ticket, done, &mut reply)
-                .with_reply(&reply)
+            stripe.commit_load(ticket, done, reply)
         }
         First::Writer(_) => {
             assert!(rt; out.write.is_given(), "the writer's answer");
             let ask = ticket.ask();
             let done = played_write(ask, out.write);
-            stripe
-                .commit_write(ticket, done, &mut reply)
-                .with_reply(&reply)
+            stripe.commit_write(ticket, done, reply)
         }
         First::Nobody | First::Processor { .. } => panic!(rt; "neither is asked"),
     }
@@ -156,8 +157,9 @@ impl Desk {
     /// The last phase of a call whose loader or writer was asked.
     pub fn commit(&mut self, rt: &impl Abort, call: u64, out: &Out) -> Seen {
         let ticket = self.take_ticket(rt, call);
-        let done = commit(rt, &mut self.stripe, ticket, out);
-        Seen::Step(done.reply, done.place)
+        let mut reply = Reply::Unit;
+        let step = commit(rt, &mut self.stripe, ticket, out, &mut reply);
+        Seen::Step(reply, step.place)
     }
 
     /// Gives back a call's reservation.
@@ -173,12 +175,9 @@ impl Desk {
         let place = self.joins.iter().position(|j| j.caller().call == call);
         let join = self.joins.swap_remove(place.expect(rt, "a join"));
         assert!(rt; self.stripe.holds_join(&join), "out");
-        match self.stripe.pick_up(join) {
-            Picked::Answer {
-                reply,
-                place,
-                shared_with,
-            } => Seen::Shared(reply, place, shared_with),
+        let mut reply = Reply::Unit;
+        match self.stripe.pick_up(join, &mut reply) {
+            Picked::Answer { place, shared_with } => Seen::Shared(reply, place, shared_with),
             Picked::Again => Seen::Again,
             Picked::NotYet(join) => {
                 let _load = self.keep_join(rt, join);

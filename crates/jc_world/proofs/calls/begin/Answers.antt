@@ -1,9 +1,7 @@
 use Rattle.std.proofs.Common.{◌≡◌, ◌∙◌, ◌++◌, ◌∷◌, [], Some, ap, sym, slice_index_or, slice_set}
 use Rattle.std.proofs.Math.Seq.{set-append_seam, get_or-append_seam}
-use Rattle.jc_model.specs.declared.event.Op.TheVariants.{Get}
-use Rattle.jc_world.specs.declared.command.Command.{Command}
+use Rattle.jc_world.proofs.Common.{Get, Command, CallState, new_call, opened}
 use Rattle.jc_world.specs.declared.command.Command.TheVariants.{Single}
-use Rattle.jc_world.specs.Calls.{CallState, new_call, opened}
 use Rattle.jc_world.proofs.calls.begin.Goals as goal
 
 pub returns-in-Single-clause-ok : goal.returns-in-Single-clause-ok

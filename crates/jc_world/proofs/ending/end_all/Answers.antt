@@ -38,18 +38,13 @@ index_mut-stripe-requires c =
     let len = c.ending.stripes.ok in
     subst (λ n. n < vec_len c.ending.stripes) (sym (number (goal.at.index_mut-stripe-requires c).After-stripe_of-number)) (omega arith)
 
-pub close-requires-clause-out : goal.close-requires-clause-out
-close-requires-clause-out c = (home_read (goal.at.close-requires-clause-out c).After-index_mut-stripe).2
-
-pub close-requires-clause-origin : goal.close-requires-clause-origin
-close-requires-clause-origin c = (c.ending.invariant.left.each _ c.index_mut-stripe.result.now (home_read (goal.at.close-requires-clause-origin c).After-index_mut-stripe).0).origin_is
-
-pub close-requires-clause-due : goal.close-requires-clause-due
-close-requires-clause-due c =
+pub close-requires : goal.close-requires
+close-requires c =
     let i = c.ending.invariant in
     let some = c.in-Some.ensures.some in
-    let home = home_read (goal.at.close-requires-clause-due c).After-index_mut-stripe in
-    subst (λ (x : Config). IsDue x c.in-Some.one) (sym (i.left.each _ c.index_mut-stripe.result.now home.0).config_is) (i.held.due some.0 c.in-Some.one some.1)
+    let home = home_read (goal.at.close-requires c).After-index_mut-stripe in
+    let left = i.left.each _ c.index_mut-stripe.result.now home.0 in
+    record { out = home.2; origin = left.origin_is; due = subst (λ (x : Config). IsDue x c.in-Some.one) (sym left.config_is) (i.held.due some.0 c.in-Some.one some.1) }
 
 pub ending-preserved : goal.ending-preserved
 ending-preserved c =

@@ -18,29 +18,15 @@ raise_err : {T E P Q : Type 0} (r : Result T E) → (P → Q) → OnErr r P → 
 raise_err (Ok x) f h = h
 raise_err (Err e) f h = f h
 
-pub returns-clause-ok : goal.returns-clause-ok
-returns-clause-ok c =
+pub returns : goal.returns
+returns c =
     let m = c.args.held.now in
     let key = c.args.key.now in
     let there = sym (ap is_some c.in-Some.ensures.value) in
     let left = c.get_mut.follows.lender c.change.new.self in
-    raise c.change.result (λ h. (
-      c.in-Some.one.now,
-      h.0,
-      sym (c.in-Some.ensures.value ∙ get-entries m key),
-      h.1,
-      insert-entries m left key c.change.new.self ((c.get_mut.follows.holds c.change.new.self).3 there) ∙ ap (map.insert (parts_of m) key) h.2,
-      h.3,
-    )) c.change.ensures.ok
-
-pub returns-clause-err : goal.returns-clause-err
-returns-clause-err c =
-    let m = c.args.held.now in
-    let key = c.args.key.now in
-    let there = sym (ap is_some c.in-Some.ensures.value) in
-    let left = c.get_mut.follows.lender c.change.new.self in
-    raise_err c.change.result (λ h. (
-      insert-entries m left key c.change.new.self ((c.get_mut.follows.holds c.change.new.self).3 there) ∙ ap (map.insert (parts_of m) key) h.0
-          ∙ insert-there keys_ordered (parts_of m) key c.in-Some.one.now (sym (c.in-Some.ensures.value ∙ get-entries m key)),
-      h.1,
-    )) c.change.ensures.err
+    let was = sym (c.in-Some.ensures.value ∙ get-entries m key) in
+    let put = insert-entries m left key c.change.new.self ((c.get_mut.follows.holds c.change.new.self).3 there) in
+    record {
+      ok = raise c.change.result (λ h. (c.in-Some.one.now, h.0, was, h.1, put ∙ ap (map.insert (parts_of m) key) h.2, h.3)) c.change.ensures.ok;
+      err = raise_err c.change.result (λ h. (put ∙ ap (map.insert (parts_of m) key) h.0 ∙ insert-there keys_ordered (parts_of m) key c.in-Some.one.now was, h.1)) c.change.ensures.err;
+    }

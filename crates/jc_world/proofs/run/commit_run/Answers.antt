@@ -15,29 +15,17 @@ returns-in-Some c =
     let P : Reservation → Out → Type 0 = λ r o. Commits c.args.stripe.now r o (with_reply c.commit_process.result c.commit_process.new.reply) c.commit_process.new.self in
     subst (P c.args.ticket.reservation) out (subst (λ x. P x (process_out c.args.done (Some written))) r c.commit_process.ensures.commits)
 
-pub ask_writer-requires-clause-change : goal.ask_writer-requires-clause-change
-ask_writer-requires-clause-change c =
+pub ask_writer-requires : goal.ask_writer-requires
+ask_writer-requires c =
     let config = c.args.stripe.now.config in
     let is : change_due config c.args.done ≡ Some c.in-Some.field-0 = change_is config c.args.done c.args.progress.now.out c.requires.load c.requires.process ∙ sym c.requires.due ∙ c.in-Some.is in
-    ap is_some (change_some config c.args.done c.in-Some.field-0 is)
+    record { asked = c.requires.asked; writer = c.requires.writer; claim = c.requires.claim; change = ap is_some (change_some config c.args.done c.in-Some.field-0 is) }
 
 pub played_write-written-requires : goal.played_write-written-requires
 played_write-written-requires c = given_if c.args.progress.now.change c.in-Some.field-0 _ c.in-Some.is c.requires.reported
 
-pub commit_process-requires-clause-out : goal.commit_process-requires-clause-out
-commit_process-requires-clause-out c = subst (IsOut c.args.stripe.now) (sym (ap (λ (t : TicketClaim). t.reservation) c.ask_writer.ensures.writer_asked)) c.requires.out
-
-pub commit_process-requires-clause-first : goal.commit_process-requires-clause-first
-commit_process-requires-clause-first c = ap (λ (t : TicketClaim). asks_processor t.reservation.first) c.ask_writer.ensures.writer_asked ∙ c.requires.first
-
-pub commit_process-requires-clause-claim : goal.commit_process-requires-clause-claim
-commit_process-requires-clause-claim c = c.requires.claim ∙ ap (λ (t : TicketClaim). claim_of t.reservation) (sym c.ask_writer.ensures.writer_asked)
-
-pub commit_process-requires-clause-origin : goal.commit_process-requires-clause-origin
-commit_process-requires-clause-origin c = c.requires.played ∙ sym c.requires.origin
-
-pub commit_process-requires-clause-report : goal.commit_process-requires-clause-report
-commit_process-requires-clause-report c =
+pub commit_process-requires : goal.commit_process-requires
+commit_process-requires c =
     let config = c.args.stripe.now.config in
     let done = c.args.done in
     let written = c.played_write-written.result in
@@ -47,34 +35,25 @@ commit_process-requires-clause-report c =
     let claim : Reservation → Option Change → Claim = λ r change. record { reservation = id_of r; change = change } in
     let asked : written.ask ≡ claim c.ask_writer.new.self.reservation (change_due config done) =
     ap (λ (d : WriteResult Claim). d.ask) c.played_write-written.ensures ∙ c.ask_writer.ensures.ask ∙ (λ i. claim (sym r i) (same i)) in
-    has_report c.args.stripe.now.origin c.ask_writer.new.self.reservation (change_due config done) c.in-Some.field-0 written is asked
-    (ap (λ (d : WriteResult Claim). d.origin) c.played_write-written.ensures ∙ sym c.requires.origin)
+    record {
+      out = subst (IsOut c.args.stripe.now) (sym r) c.requires.out;
+      first = ap (λ (x : Reservation). asks_processor x.first) r ∙ c.requires.first;
+      claim = c.requires.claim ∙ ap claim_of (sym r);
+      origin = c.requires.played ∙ sym c.requires.origin;
+      report = has_report c.args.stripe.now.origin c.ask_writer.new.self.reservation (change_due config done) c.in-Some.field-0 written is asked
+          (ap (λ (d : WriteResult Claim). d.origin) c.played_write-written.ensures ∙ sym c.requires.origin);
+    }
 
-pub commit_process-requires-in-None-clause-out : goal.commit_process-requires-in-None-clause-out
-commit_process-requires-in-None-clause-out c = c.requires.out
-
-pub commit_process-requires-in-None-clause-first : goal.commit_process-requires-in-None-clause-first
-commit_process-requires-in-None-clause-first c = c.requires.first
-
-pub commit_process-requires-in-None-clause-claim : goal.commit_process-requires-in-None-clause-claim
-commit_process-requires-in-None-clause-claim c = c.requires.claim
-
-pub commit_process-requires-in-None-clause-origin : goal.commit_process-requires-in-None-clause-origin
-commit_process-requires-in-None-clause-origin c = c.requires.played ∙ sym c.requires.origin
-
-pub commit_process-requires-in-None-clause-report : goal.commit_process-requires-in-None-clause-report
-commit_process-requires-in-None-clause-report c =
-    no_report c.args.stripe.now.origin c.args.ticket.reservation (change_due c.args.stripe.now.config c.args.done)
-    (change_is c.args.stripe.now.config c.args.done c.args.progress.now.out c.requires.load c.requires.process ∙ sym c.requires.due ∙ c.in-None.is)
-
-pub ask_writer-requires-clause-asked : goal.ask_writer-requires-clause-asked
-ask_writer-requires-clause-asked c = c.requires.asked
-
-pub ask_writer-requires-clause-writer : goal.ask_writer-requires-clause-writer
-ask_writer-requires-clause-writer c = c.requires.writer
-
-pub ask_writer-requires-clause-claim : goal.ask_writer-requires-clause-claim
-ask_writer-requires-clause-claim c = c.requires.claim
+pub commit_process-requires-in-None : goal.commit_process-requires-in-None
+commit_process-requires-in-None c = record {
+  out = c.requires.out;
+  first = c.requires.first;
+  claim = c.requires.claim;
+  origin = c.requires.played ∙ sym c.requires.origin;
+  report =
+      no_report c.args.stripe.now.origin c.args.ticket.reservation (change_due c.args.stripe.now.config c.args.done)
+      (change_is c.args.stripe.now.config c.args.done c.args.progress.now.out c.requires.load c.requires.process ∙ sym c.requires.due ∙ c.in-None.is);
+}
 
 pub returns-in-None : goal.returns-in-None
 returns-in-None c =

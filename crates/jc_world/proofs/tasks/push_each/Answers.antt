@@ -1,5 +1,4 @@
-use Rattle.std.proofs.Common.{rules}
-use Rattle.jc_world.proofs.Common.{◌≡◌, ◌∷◌, ◌++◌, [], List, sym, ap, ◌∙◌, append_assoc, Task, open_in, reported_keys, parts_of}
+use Rattle.jc_world.proofs.Common.{◌≡◌, ◌∷◌, ◌++◌, [], List, sym, ap, ◌∙◌, append_assoc, Task, open_in, reported_keys, parts_of, rules}
 use Rattle.jc_world.proofs.TaskLists.{reported_next}
 use Rattle.jc_world.proofs.tasks.push_each.Goals as goal
 

@@ -1,5 +1,4 @@
-use Rattle.std.proofs.Common.{◌≤◌, sym, subst}
-use Rattle.jc_rounds.specs.Answers.{done_room}
+use Rattle.jc_bulk.proofs.Common.{done_room, ◌≤◌, sym, subst}
 use Rattle.jc_bulk.proofs.RoundsOn.{again_left, not_loads, spent_loads}
 use Rattle.jc_bulk.proofs.outside.OutsideCall.again.Goals as goal
 

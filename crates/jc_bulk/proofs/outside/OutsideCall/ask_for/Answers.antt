@@ -1,9 +1,5 @@
-use Rattle.std.proofs.lemmas.List.{length-map}
-use Rattle.std.proofs.Common.{◌≡◌, ◌<◌, ◌+◌, ◌-◌, ◌++◌, ◌∷◌, [], length, take, get_or, slice_set, sym, ap, ◌∙◌, arith}
-use Rattle.jc_model.specs.Batches.{is_among}
-use Rattle.jc_rounds.specs.OutsideCalls.{asked_keys}
-use Rattle.jc_bulk.specs.Outside.{items_in, kind_in, room_in, with_ask}
-use Rattle.jc_bulk.proofs.Tickets.{answered_loads, answered_writes, loads_rest, writes_rest, ask_of, asked_ticket, asks_next, asks_of, new_next, next_ticket, tickets_next, whole_asks, whole_tickets}
+use Rattle.jc_bulk.proofs.Common.{items_in, kind_in, room_in, with_ask, is_among, asked_keys, Loads, ◌≡◌, ◌<◌, ◌+◌, ◌-◌, ◌++◌, ◌∷◌, [], length, take, get_or, slice_set, sym, ap, ◌∙◌, arith, length-map}
+use Rattle.jc_bulk.proofs.Tickets.{answered_loads, answered_writes, loads_rest, ask_of, asked_ticket, asks_next, asks_of, new_next, next_ticket, tickets_next, whole_asks, whole_tickets}
 use Rattle.jc_bulk.proofs.outside.OutsideCall.ask_for.Goals as goal
 
 pub push-requires-clause-new : goal.push-requires-clause-new
@@ -14,7 +10,7 @@ push-requires-clause-new g c =
     let here : d ≡ get_or ts i d = c.index_mut.ensures.value ∙ ap (λ xs. get_or xs i d) c.loop-place.invariant.tickets ∙ next_ticket ts i d in
     ap (λ s. is_among (asked_keys s.items) c.ask.result.reservation.key) c.loop-place.invariant.call
     ∙ ap (is_among (asked_keys (asks_of (take i ts)))) (ap (λ a. a.reservation.key) c.ask.ensures.ask ∙ ap (λ t. t.reservation.key) here)
-    ∙ new_next ts i d (omega (arith, c.loop-place-test.true, c.len-place-end.ensures, c.args.tickets.now.ok.0)) c.requires.fill.distinct
+    ∙ new_next ts i d (omega (arith, c.loop-place-test.true, c.len-place-end.ensures, c.args.tickets.now.ok.0)) c.requires.may.distinct
 
 pub loop-place-preserved : goal.loop-place-preserved
 loop-place-preserved g c =
@@ -42,10 +38,15 @@ pub returns-in-Loads-clause-asked : goal.returns-in-Loads-clause-asked
 returns-in-Loads-clause-asked g c =
     let e = c.ask-loaded.ensures.asked in
     let is = c.call.view_is ∙ c.loop-place.invariant.call in
-    let asks = whole_asks c.args.tickets.now.items c.loop-place.place c.in-Loads.call.items (omega (arith, c.loop-place-test.false, c.len-place-end.ensures, c.args.tickets.now.ok.0)) (sym (ap items_in c.in-Loads.is) ∙ ap (λ s. s.items) is) in
+    let ts = c.args.tickets.now.items in
+    let kind = sym (ap (λ s. s.kind) is) ∙ ap kind_in c.in-Loads.is in
+    let asks = whole_asks ts c.loop-place.place c.in-Loads.call.items (omega (arith, c.loop-place-test.false, c.len-place-end.ensures, c.args.tickets.now.ok.0)) (sym (ap items_in c.in-Loads.is) ∙ ap (λ s. s.items) is) in
+    let room : c.in-Loads.call.room ≡ c.args.self.room - c.loop-place.place = sym (ap room_in c.in-Loads.is) ∙ ap (λ s. s.room) is in
+    let many : length c.in-Loads.call.items ≡ length ts = ap length asks ∙ length-map ts ask_of in
+    let left = loads_rest c.args.self.kind c.args.self.room _ (Loads c.ask-loaded.result.0) c.ask-loaded.result.1 kind
+    (omega (arith, room, many, c.requires.may.room, c.loop-place-test.false, c.loop-place.auto.place-end, c.len-place-end.ensures, c.args.tickets.now.ok.0)) c.ask-loaded.ensures.spent c.ask-loaded.ensures.room in
     record {
-      asked = answered_loads (λ v. (goal.CacheLoader-dyn g v).loads_all v.1) (λ v. (goal.CacheLoader-dyn g v).load_state v.1) (λ v. (goal.CacheWriter-dyn g v).writes_all v.1) (λ v. (goal.CacheWriter-dyn g v).deletes_all v.1) (λ v. (goal.CacheWriter-dyn g v).write_state v.1)
-          c.args.session.now c.ask-loaded.new.session c.args.self.kind c.args.tickets.now.items c.in-Loads.call.items c.ask-loaded.result.0 (sym (ap (λ s. s.kind) is) ∙ ap kind_in c.in-Loads.is) asks c.requires.fill.kind e.asked;
+      asked = answered_loads _ c.args.session.now c.ask-loaded.new.session c.args.self.kind c.args.self.room ts c.in-Loads.call.items c.ask-loaded.result.0 c.ask-loaded.result.1 kind asks c.requires.may.kind e.asked left;
       rest = e.rest;
       own = e.own;
     }
@@ -62,23 +63,8 @@ returns-in-Writes-clause-asked g c =
     let is = c.call.view_is ∙ c.loop-place.invariant.call in
     let asks = whole_asks c.args.tickets.now.items c.loop-place.place c.in-Writes.call.items (omega (arith, c.loop-place-test.false, c.len-place-end.ensures, c.args.tickets.now.ok.0)) (sym (ap items_in c.in-Writes.is) ∙ ap (λ s. s.items) is) in
     record {
-      asked = answered_writes (λ v. (goal.CacheLoader-dyn g v).loads_all v.1) (λ v. (goal.CacheLoader-dyn g v).load_state v.1) (λ v. (goal.CacheWriter-dyn g v).writes_all v.1) (λ v. (goal.CacheWriter-dyn g v).deletes_all v.1) (λ v. (goal.CacheWriter-dyn g v).write_state v.1)
-          c.args.session.now c.ask-done.new.session c.in-Writes.call.deletes c.args.self.kind c.args.tickets.now.items c.in-Writes.call.items c.ask-done.result.1 c.ask-done.result.0 c.writer_fault.result (sym (ap (λ s. s.kind) is) ∙ ap kind_in c.in-Writes.is) asks c.requires.fill.some
-          c.requires.fill.kind c.writer_fault.ensures e.asked;
+      asked = answered_writes _ c.args.session.now c.ask-done.new.session c.in-Writes.call.deletes c.args.self.kind c.args.self.room c.args.tickets.now.items c.in-Writes.call.items c.ask-done.result.1 c.ask-done.result.0 c.writer_fault.result (sym (ap (λ s. s.kind) is) ∙ ap kind_in c.in-Writes.is) asks c.requires.may.some
+          c.requires.may.kind c.writer_fault.ensures e.asked;
       rest = e.rest;
       own = e.own;
     }
-
-pub returns-in-Loads-clause-rest : goal.returns-in-Loads-clause-rest
-returns-in-Loads-clause-rest g c =
-    let is = c.call.view_is ∙ c.loop-place.invariant.call in
-    let ts = c.args.tickets.now.items in
-    let asks = whole_asks ts c.loop-place.place c.in-Loads.call.items (omega (arith, c.loop-place-test.false, c.len-place-end.ensures, c.args.tickets.now.ok.0)) (sym (ap items_in c.in-Loads.is) ∙ ap (λ s. s.items) is) in
-    let room : c.in-Loads.call.room ≡ c.args.self.room - c.loop-place.place = sym (ap room_in c.in-Loads.is) ∙ ap (λ s. s.room) is in
-    let many : length c.in-Loads.call.items ≡ length ts = ap length asks ∙ length-map ts ask_of in
-    loads_rest c.args.self.kind c.args.self.room _ _ _ (sym (ap (λ s. s.kind) is) ∙ ap kind_in c.in-Loads.is) (omega (arith, room, many, c.requires.fill.room, c.loop-place-test.false, c.loop-place.auto.place-end, c.len-place-end.ensures, c.args.tickets.now.ok.0)) c.ask-loaded.ensures.spent c.ask-loaded.ensures.room
-
-pub returns-in-Writes-clause-rest : goal.returns-in-Writes-clause-rest
-returns-in-Writes-clause-rest g c =
-    let is = c.call.view_is ∙ c.loop-place.invariant.call in
-    writes_rest c.args.self.kind c.in-Writes.call.deletes _ _ (sym (ap (λ s. s.kind) is) ∙ ap kind_in c.in-Writes.is)

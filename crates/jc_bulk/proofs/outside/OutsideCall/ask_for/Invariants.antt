@@ -1,4 +1,4 @@
-use Rattle.std.proofs.Common.{◌≡◌, ◌-◌, ◌++◌, map, take, drop, vec_capacity}
+use Rattle.jc_bulk.proofs.Common.{◌≡◌, ◌-◌, ◌++◌, map, take, drop, vec_capacity}
 use Rattle.jc_bulk.proofs.Tickets.{asked_ticket, asks_of}
 use Rattle.jc_bulk.proofs.outside.OutsideCall.ask_for.Given as goal
 

@@ -16,4 +16,4 @@ pub returns : goal.returns
 returns g c =
     phase_map c.args.self.now _ c.stripe_of-at.result c.args.session.now _ _ _ _
     (at_key c.args.self.now _ c.key.result.now _ (ap (λ (z : CacheState). z.config) c.self.view_is) c.stripe_of-at.ensures ∙ ap (λ (k : Bytes). stripe_of k c.args.self.now.config.stripes) c.key.ensures)
-    (λ a b w. w) (λ a b m. picked_late a b c.args.join c.phase_at.result m) c.phase_at.ensures
+    (λ a b w. w) (λ a b m. picked_late a b c.args.join c.phase_at.result c.phase_at.new.reply m) c.phase_at.ensures

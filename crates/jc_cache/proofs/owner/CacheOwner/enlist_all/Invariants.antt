@@ -1,6 +1,6 @@
 use Rattle.std.proofs.Common.{◌≡◌, ◌≤◌, ◌+◌, ◌++◌, length, vec_len, vec_capacity}
 use Rattle.std.specs.Vec.Iter.{into_iter_items, into_iter_len}
-use Rattle.jc_cache.specs.Clients.{AreGivenOut}
+use Rattle.jc_cache.specs.Enlisting.{AreGivenOut}
 use Rattle.jc_cache.proofs.owner.CacheOwner.enlist_all.Given as goal
 
 abbrev pub invariant-loop-brought : goal.invariant-loop-brought

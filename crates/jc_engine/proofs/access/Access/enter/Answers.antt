@@ -1,7 +1,7 @@
 use Rattle.std.proofs.Common.{rules, ◌∙◌, sym, refl, ap, subst}
 use Rattle.std.proofs.lemmas.Bool.{OnTrue_at, OnFalse_at}
 use Rattle.jc_types.specs.declared.caller.Caller.{Caller}
-use Rattle.jc_stripe.specs.declared.begun.Begun.TheVariants as begun
+use Rattle.jc_stripe.specs.Outcomes as begun
 use Rattle.jc_stripe.specs.Phases.{with_reply}
 use Rattle.jc_stripe.specs.Tickets.{JoinClaim}
 use Rattle.jc_session.specs.declared.counts.Counted.TheVariants.{Nothing, Step, Reserved}

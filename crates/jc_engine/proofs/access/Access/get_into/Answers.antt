@@ -6,7 +6,7 @@ use Rattle.jc_model.specs.declared.event.Op.TheVariants.{Get}
 use Rattle.jc_model.specs.declared.event.Reply.TheVariants.{Value}
 use Rattle.jc_stripe.specs.State.{State}
 use Rattle.jc_stripe.specs.Phases.{hit_done}
-use Rattle.jc_stripe.specs.declared.begun.Begun.TheVariants.{Done}
+use Rattle.jc_stripe.specs.Outcomes.{Done}
 use Rattle.jc_gate.specs.Lending.{ComesAfter}
 use Rattle.jc_session.specs.Counting.{counts_after}
 use Rattle.jc_engine.specs.Needs.{BeginsIfClear, HasMissed, Hits, Starts, counted_hit}

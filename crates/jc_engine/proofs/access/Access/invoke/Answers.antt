@@ -1,6 +1,6 @@
 use Rattle.std.proofs.Common.{rules, ◌∙◌, Err, sym, refl, ap, subst}
 use Rattle.jc_model.specs.declared.event.Op.TheVariants.{Invoke}
-use Rattle.jc_stripe.specs.declared.begun.Begun.TheVariants as begun
+use Rattle.jc_stripe.specs.Outcomes as begun
 use Rattle.jc_stripe.specs.Phases.{with_reply}
 use Rattle.jc_stripe.specs.Tickets.{TicketClaim}
 use Rattle.jc_engine.specs.Answered.{Processed, out_of}

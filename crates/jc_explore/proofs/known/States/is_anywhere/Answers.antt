@@ -1,5 +1,4 @@
-use Rattle.std.proofs.Common.{ℕ, arith}
-use Rattle.jc_explore.specs.Search.{IsKeyAt}
+use Rattle.jc_explore.proofs.Common.{ℕ, arith, IsKeyAt}
 use Rattle.jc_explore.proofs.Searching.{at-known, below_one-more, there-at}
 use Rattle.jc_explore.proofs.known.States.is_anywhere.Goals as goal
 

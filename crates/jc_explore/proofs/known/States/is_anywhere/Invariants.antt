@@ -1,5 +1,4 @@
-use Rattle.std.proofs.Common.{◌<◌, ℕ}
-use Rattle.jc_explore.specs.Search.{IsKeyAt}
+use Rattle.jc_explore.proofs.Common.{◌<◌, ℕ, IsKeyAt}
 use Rattle.jc_explore.proofs.known.States.is_anywhere.Given as goal
 
 abbrev pub invariant-loop-place : goal.invariant-loop-place

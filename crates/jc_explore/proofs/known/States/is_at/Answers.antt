@@ -1,6 +1,4 @@
-use Rattle.std.proofs.Common.{◌≡◌, ◌∙◌, Some, sym, ap, subst}
-use Rattle.jc_explore.specs.declared.known.KnownState.{KnownState}
-use Rattle.jc_explore.specs.Keys.{HaveOneKey}
+use Rattle.jc_explore.proofs.Common.{◌≡◌, ◌∙◌, Some, sym, ap, subst, KnownState, HaveOneKey}
 use Rattle.jc_explore.proofs.Searching.{same-at, there-at}
 use Rattle.jc_explore.proofs.known.States.is_at.Goals as goal
 

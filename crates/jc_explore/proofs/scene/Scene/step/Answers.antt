@@ -1,8 +1,4 @@
-use Rattle.std.proofs.Common.{◌≡◌, ℕ, List, true, false, Some, Option, slice_get, slice_set, sym, ◌∙◌, ap, subst}
-use Rattle.jc_world.specs.declared.event.Shown.{Shown}
-use Rattle.jc_world.specs.Determinism.{have_memory}
-use Rattle.jc_explore.specs.declared.scene.Position.{Position}
-use Rattle.jc_explore.specs.Schedule.{is_proper, has_number_for, state_of, replies_after}
+use Rattle.jc_explore.proofs.Common.{◌≡◌, ℕ, List, true, false, Some, Option, slice_get, slice_set, sym, ◌∙◌, ap, subst, Shown, have_memory, Position, is_proper, has_number_for, state_of, replies_after}
 use Rattle.jc_explore.proofs.Scenes.{stays, goes, no-number-moves, events-are, ran-as, positions-are}
 use Rattle.jc_explore.proofs.scene.Scene.step.Goals as goal
 

@@ -1,5 +1,4 @@
-use Rattle.std.proofs.Common.{◌≤◌, refl, sym, subst}
-use Rattle.jc_rounds.specs.Rounds.{ProcessAll}
+use Rattle.jc_invoke.proofs.Common.{ProcessAll, ◌≤◌, refl, sym, subst}
 use Rattle.jc_invoke.proofs.RunEach.{room_of}
 use Rattle.jc_invoke.proofs.room.RoundRoom.again.Goals as goal
 

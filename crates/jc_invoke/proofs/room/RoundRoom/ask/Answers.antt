@@ -1,6 +1,4 @@
-use Rattle.std.proofs.Common.{Ok, ap, sym, true, false, ◌∙◌}
-use Rattle.jc_cache.proofs.SessionPhases.{holds_nothing}
-use Rattle.jc_rounds.specs.OutsideCalls.{WriteCallState}
+use Rattle.jc_invoke.proofs.Common.{holds_nothing, WriteCallState, Ok, ap, sym, true, false, ◌∙◌}
 use Rattle.jc_invoke.proofs.RoundAsked.{round_asked, unasked_writer}
 use Rattle.jc_invoke.proofs.Runs.{has_writer, rest_on}
 use Rattle.jc_invoke.proofs.room.RoundRoom.ask.Goals as goal
@@ -31,10 +29,7 @@ returns-then-through-clause-asked g c =
     let w = c.ask-written.ensures in
     let d = c.ask-deleted.ensures in
     record {
-      asked = round_asked (λ v. (goal.CacheLoader-dyn g v).loads v.1) (λ v. (goal.CacheLoader-dyn g v).load_state v.1)
-          (λ v. (goal.CacheWriter-dyn g v).writes_all v.1) (λ v. (goal.CacheWriter-dyn g v).deletes_all v.1) (λ v. (goal.CacheWriter-dyn g v).write_state v.1)
-          (λ b. (goal.EntryProcessor-dyn g (b.vtable, b.value)).processes b.value) (λ b. (goal.EntryProcessor-dyn g (b.vtable, b.value)).process_state b.value)
-          c.args.processing.now.args.now c.args.self.through c.args.session.now.agent c.run_each.new.session c.ask-written.new.session c.ask-deleted.new.session
+      asked = round_asked _ c.args.processing.now.args.now c.args.self.through c.args.session.now.agent c.run_each.new.session c.ask-written.new.session c.ask-deleted.new.session
           c.args.processing.now.processor.now c.run_each.new.processing.processor.now c.args.tickets.now.items c.run_each.new.self
           c.reverse.new.self c.ask-written.result.0 c.ask-deleted.result.0 c.ask-written.result.1 c.ask-deleted.result.1
           run.asked w.asked d.asked c.reverse.ensures.items c.requires.may.fresh;
@@ -49,33 +44,22 @@ returns-else-through-clause-asked g c =
     let quiet = kept.quiet (sym kept.through_is ∙ c.if-through.false) in
     let room = c.requires.may.room_is in
     record {
-      asked = round_asked (λ v. (goal.CacheLoader-dyn g v).loads v.1) (λ v. (goal.CacheLoader-dyn g v).load_state v.1)
-          (λ v. (goal.CacheWriter-dyn g v).writes_all v.1) (λ v. (goal.CacheWriter-dyn g v).deletes_all v.1) (λ v. (goal.CacheWriter-dyn g v).write_state v.1)
-          (λ b. (goal.EntryProcessor-dyn g (b.vtable, b.value)).processes b.value) (λ b. (goal.EntryProcessor-dyn g (b.vtable, b.value)).process_state b.value)
-          c.args.processing.now.args.now c.args.self.through c.args.session.now.agent c.run_each.new.session c.run_each.new.session c.run_each.new.session
+      asked = round_asked _ c.args.processing.now.args.now c.args.self.through c.args.session.now.agent c.run_each.new.session c.run_each.new.session c.run_each.new.session
           c.args.processing.now.processor.now c.run_each.new.processing.processor.now c.args.tickets.now.items c.run_each.new.self
           c.reverse.new.self c.new-written.result c.new-deleted.result (Ok tt) (Ok tt)
           run.asked
-          (unasked_writer (λ v. (goal.CacheWriter-dyn g v).writes_all v.1) (λ v. (goal.CacheWriter-dyn g v).deletes_all v.1) (λ v. (goal.CacheWriter-dyn g v).write_state v.1)
-          c.run_each.new.session c.run_each.new.self.writes.deletes c.run_each.new.self.writes.items c.new-written.result.items (ap (λ (w : WriteCallState). w.items) (quiet.0 ∙ room.writes_are)) c.new-written.ensures.items)
-          (unasked_writer (λ v. (goal.CacheWriter-dyn g v).writes_all v.1) (λ v. (goal.CacheWriter-dyn g v).deletes_all v.1) (λ v. (goal.CacheWriter-dyn g v).write_state v.1)
-          c.run_each.new.session c.run_each.new.self.deletes.deletes c.run_each.new.self.deletes.items c.new-deleted.result.items (ap (λ (w : WriteCallState). w.items) (quiet.1 ∙ room.deletes_are)) c.new-deleted.ensures.items)
+          (unasked_writer _ _ _ c.run_each.new.session c.run_each.new.self.writes.deletes c.run_each.new.self.writes.items c.new-written.result.items (ap (λ (w : WriteCallState). w.items) (quiet.0 ∙ room.writes_are)) c.new-written.ensures.items)
+          (unasked_writer _ _ _ c.run_each.new.session c.run_each.new.self.deletes.deletes c.run_each.new.self.deletes.items c.new-deleted.result.items (ap (λ (w : WriteCallState). w.items) (quiet.1 ∙ room.deletes_are)) c.new-deleted.ensures.items)
           c.reverse.ensures.items c.requires.may.fresh;
       rest = run.rest;
       own = run.own;
     }
 
 pub returns-then-through-clause-left : goal.returns-then-through-clause-left
-returns-then-through-clause-left g c = sym c.run_each.ensures.room.through_is ∙ c.if-through.true
+returns-then-through-clause-left g c = (sym c.run_each.ensures.room.through_is ∙ c.if-through.true, c.reverse.ensures.capacity ∙ c.run_each.ensures.room.runs_room)
 
 pub returns-else-through-clause-left : goal.returns-else-through-clause-left
 returns-else-through-clause-left g c =
     let kept = c.run_each.ensures.room in
     let off = sym kept.through_is ∙ c.if-through.false in
-    (off, (kept.quiet off).0, (kept.quiet off).1)
-
-pub returns-then-through-clause-room : goal.returns-then-through-clause-room
-returns-then-through-clause-room g c = c.reverse.ensures.capacity ∙ c.run_each.ensures.room.runs_room
-
-pub returns-else-through-clause-room : goal.returns-else-through-clause-room
-returns-else-through-clause-room g c = c.reverse.ensures.capacity ∙ c.run_each.ensures.room.runs_room
+    ((off, (kept.quiet off).0, (kept.quiet off).1), c.reverse.ensures.capacity ∙ kept.runs_room)

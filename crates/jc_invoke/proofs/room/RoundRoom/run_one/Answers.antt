@@ -1,14 +1,12 @@
-use Rattle.std.proofs.Common.{◌≡◌, ◌++◌, ◌∷◌, [], ap, ◌∙◌}
-use Rattle.jc_stripe.specs.Tickets.{TicketClaim}
-use Rattle.jc_stripe.specs.declared.ticket.Reservation.{Reservation}
-use Rattle.jc_rounds.specs.Answers.{RunState}
+use Rattle.jc_invoke.proofs.Common.{RunState, TicketClaim, Reservation, ◌≡◌, ◌++◌, ◌∷◌, [], refl, ap, ◌∙◌}
+use Rattle.jc_cache.proofs.CallerLemmas.{after_asking, same_type}
 use Rattle.jc_invoke.proofs.Runs.{done_as, one_of}
 use Rattle.jc_invoke.proofs.room.RoundRoom.run_one.Goals as goal
 
-pub returns-clause-room : goal.returns-clause-room
-returns-clause-room g c =
-    let kept = c.note.ensures.room in
-    record { through_is = kept.through_is; runs_room = c.push_reserved.ensures.capacity ∙ kept.runs_room; quiet = kept.quiet }
+pub returns-clause-same : goal.returns-clause-same
+returns-clause-same g c =
+    let kept = c.note.ensures.same.1 in
+    (record { through_is = kept.through_is; runs_room = c.push_reserved.ensures.capacity ∙ kept.runs_room; quiet = kept.quiet }, (refl, refl))
 
 pub returns-clause-run : goal.returns-clause-run
 returns-clause-run g c =
@@ -23,9 +21,9 @@ returns-clause-run g c =
       asked = record {
         run = run;
         reservation = same;
-        kept = c.note.ensures.reservation ∙ same;
-        one = one_of _ _ _ _ c.args.processing.now.args.now run r c.ask.result c.args.processing.now.processor.now c.run_processor-done.new.processor c.args.session.now.agent.hands.outside.loader c.run_processor-done.new.self.agent.hands.outside.loader same c.ask.ensures.ask e.asked.run e.asked.loader;
-        done_is = c.push_reserved.ensures.items ∙ (λ i. (c.note.ensures.runs i).items ++ done_as done r s c.ask.result e.asked.ask c.ask.ensures.ask same e.asked.origin i ∷ []);
+        kept = c.note.ensures.same.2 ∙ same;
+        one = one_of _ c.args.processing.now.args.now run r c.ask.result c.args.processing.now.processor.now c.run_processor-done.new.processor c.args.session.now.agent.hands.outside.loader c.run_processor-done.new.self.hands.outside.loader same c.ask.ensures.ask e.run e.loader;
+        done_is = c.push_reserved.ensures.items ∙ (λ i. (c.note.ensures.same.0 i).items ++ done_as done r s c.ask.result e.ask c.ask.ensures.ask same e.origin i ∷ []);
         noted = record {
           through_is = n.through_is;
           runs_room = c.push_reserved.ensures.capacity ∙ n.runs_room;
@@ -36,10 +34,10 @@ returns-clause-run g c =
           writes_room = n.writes_room;
           deletes_room = n.deletes_room;
         };
-        loader_type = e.asked.loader_type;
-        writer = e.asked.writer;
-        processor_type = e.asked.processor_type;
+        loader_type = e.loader_type;
+        writer = e.writer;
+        processor_type = e.processor_type;
       };
-      rest = e.rest;
-      own = e.own;
+      rest = ap (λ agent. record c.args.session.now { agent = agent }) e.rest;
+      own = λ cache of. after_asking cache c.args.session.now c.run_processor-done.new.self e.rest e.held e.loader_type (same_type _ _ e.writer) of;
     }

@@ -1,4 +1,4 @@
-use Rattle.std.proofs.Common.{rules}
+use Rattle.jc_loadall.proofs.Common.{rules}
 use Rattle.jc_loadall.proofs.worker.WorkerWorkWith.piece_with.Goals as goal
 
 pub returns-clause-later : goal.returns-clause-later

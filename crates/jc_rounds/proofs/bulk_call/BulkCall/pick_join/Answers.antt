@@ -1,4 +1,5 @@
 use Rattle.std.proofs.Common.{refl}
+use Rattle.jc_stripe.specs.Phases.{polled_with}
 use Rattle.jc_rounds.specs.declared.progress.Progress.TheVariants.{Joined}
 use Rattle.jc_rounds.proofs.OnCall.{may_pick, near_in, picking_on, unnoted_by}
 use Rattle.jc_rounds.proofs.bulk_call.BulkCall.pick_join.Goals as goal
@@ -20,4 +21,4 @@ returns-clause-advances g c =
 pub returns-clause-picking : goal.returns-clause-picking
 returns-clause-picking g c past next =
     picking_on c.args.cache.now past c.args.session.now c.pick_key-picked.new.session c.args.self.now _ (record { targets = refl; most = refl; cause = refl; tickets_room = refl; joins_room = refl })
-    c.args.place c.args.join c.pick_key-picked.result c.after_pick_up.result refl refl refl c.requires.there c.after_pick_up.ensures c.pick_key-picked.ensures.phase next
+    c.args.place c.args.join (polled_with c.pick_key-picked.result c.pick_key-picked.new.reply) c.after_pick_up.result refl refl refl c.requires.there c.after_pick_up.ensures c.pick_key-picked.ensures.phase next

@@ -2,6 +2,7 @@ use Rattle.std.proofs.Common.{◌≡◌, ◌+◌, ◌∙◌, length, vec_len, ap
 use Rattle.std.proofs.lemmas.List.{length-map}
 use Rattle.jc_outside.specs.CallingAll.{LoadsAllOnce, loads_done}
 use Rattle.jc_session.specs.Boxed.{boxed}
+use Rattle.jc_cache.proofs.CallerLemmas.{after_asking, same_type}
 use Rattle.jc_rounds.specs.Answers.{key_of}
 use Rattle.jc_rounds.specs.OutsideCalls.{asked_keys}
 use Rattle.jc_rounds.proofs.OutsideCalls.{done_back}
@@ -13,14 +14,14 @@ returns-clause-asked g c =
     let items = ap (λ s. s.items) c.self.view_is in
     record {
       asked = record {
-        said = e.asked.said;
-        loads = subst (λ ks. LoadsAllOnce (boxed (λ v. (goal.CacheLoader-dyn g v).loads_all v.1)) (boxed (λ v. (goal.CacheLoader-dyn g v).load_state v.1)) c.args.session.now.agent.hands.outside.loader ks e.asked.said c.ask_loader_all-batch.new.self.agent.hands.outside.loader) (c.self.invariant.keys_are ∙ ap asked_keys items) e.asked.loader;
-        done_are = done_back c.self.inside.done.items c.ask_loader_all-batch.new.done.items c.reverse.new.self.items _ c.self.invariant.none e.asked.done c.reverse.ensures.items ∙ ap (loads_done key_of e.asked.said) items;
-        loader_type = e.asked.loader_type;
-        writer = e.asked.writer;
+        said = e.said;
+        loads = subst (λ ks. LoadsAllOnce (boxed (λ v. (goal.CacheLoader-dyn g v).loads_all v.1)) (boxed (λ v. (goal.CacheLoader-dyn g v).load_state v.1)) c.args.session.now.agent.hands.outside.loader ks e.said c.ask_loader_all-batch.new.self.hands.outside.loader) (c.self.invariant.keys_are ∙ ap asked_keys items) e.loader;
+        done_are = done_back c.self.inside.done.items c.ask_loader_all-batch.new.done.items c.reverse.new.self.items _ c.self.invariant.none e.done c.reverse.ensures.items ∙ ap (loads_done key_of e.said) items;
+        loader_type = e.loader_type;
+        writer = e.writer;
       };
-      rest = e.rest;
-      own = e.own;
+      rest = ap (λ agent. record c.args.session.now { agent = agent }) e.rest;
+      own = λ cache of. after_asking cache c.args.session.now c.ask_loader_all-batch.new.self e.rest e.held e.loader_type (same_type _ _ e.writer) of;
     }
 
 pub returns-clause-spent : goal.returns-clause-spent

@@ -1,6 +1,4 @@
-use Rattle.std.proofs.Common.{◌≡◌, ◌∙◌, [], refl, sym}
-use Rattle.jc_shell.specs.ShellWords.{help_text, word_of}
-use Rattle.jc_shell.specs.declared.words.Word.TheVariants.{Help, Line}
+use Rattle.jc_shell.proofs.Common.{◌≡◌, ◌∙◌, [], refl, sym, help_text, word_of, Help, Line}
 use Rattle.jc_shell.proofs.Turns.{saves_none}
 use Rattle.jc_shell.proofs.session.Session.answer.Goals as goal
 

@@ -1,7 +1,4 @@
-use Rattle.std.proofs.Common.{◌∙◌, ◌+◌, ◌++◌, ℕ, List, ap, inl, inr}
-use Rattle.jc_script.specs.Places.{complaint}
-use Rattle.jc_script.specs.Transcript.{opened_world}
-use Rattle.jc_shell.specs.Sessions.{next_number, with_line}
+use Rattle.jc_shell.proofs.Common.{◌∙◌, ◌+◌, ◌++◌, ℕ, List, ap, inl, inr, complaint, opened_world, next_number, with_line}
 use Rattle.jc_shell.proofs.Turns.{kept, played, still, told}
 use Rattle.jc_shell.proofs.session.Session.play.Goals as goal
 

@@ -1,7 +1,4 @@
-use Rattle.std.proofs.Common.{[], ◌∷◌, ◌++◌, map, refl, sym, ap, subst, ◌∙◌}
-use Rattle.jc_world.specs.Essence.{essence_of}
-use Rattle.jc_snapshot.specs.Rows.{framed, flat, AreRows}
-use Rattle.jc_snapshot.specs.Snapshot.{IsStripeRow, IsCallRow, own_rows}
+use Rattle.jc_snapshot.proofs.Common.{[], ◌∷◌, ◌++◌, map, refl, sym, ap, subst, ◌∙◌, essence_of, framed, flat, AreRows, IsStripeRow, IsCallRow, own_rows}
 use Rattle.jc_snapshot.proofs.FlatRows.{rows_stay, flat_push}
 use Rattle.jc_snapshot.proofs.StripeRows.{grows_twice, stripe_stays, call_stays}
 use Rattle.jc_snapshot.proofs.snapshot.Snapshot.of.Goals as goal

@@ -3,7 +3,7 @@ use Rattle.jc_model.specs.declared.event.Op.TheVariants.{Get}
 use Rattle.jc_stripe.specs.State.{State}
 use Rattle.jc_stripe.specs.Phases.{hit_done}
 use Rattle.jc_stripe.specs.OnePhase.{IsPhaseOf}
-use Rattle.jc_stripe.specs.declared.begun.Begun.TheVariants as begun
+use Rattle.jc_stripe.specs.Outcomes as begun
 use Rattle.jc_stripe.proofs.Uniform.{one_uniform}
 use Rattle.jc_stripe.proofs.Own.{own_left}
 use Rattle.jc_stripe.proofs.OwnNumbers.{own_numbers}

@@ -1,6 +1,6 @@
 use Rattle.std.proofs.Common.{length, inl, inr, refl}
 use Rattle.jc_model.specs.declared.event.Op.TheVariants.{Get}
-use Rattle.jc_stripe.specs.declared.begun.Begun.TheVariants as begun
+use Rattle.jc_stripe.specs.Outcomes as begun
 use Rattle.jc_stripe.specs.Phases.{hit_done}
 use Rattle.jc_stripe.proofs.stripe.Stripe.begin.Goals as goal
 

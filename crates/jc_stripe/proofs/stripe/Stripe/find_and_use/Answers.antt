@@ -9,12 +9,12 @@ use Rattle.jc_model.specs.Group.{nothing_said}
 use Rattle.jc_model.specs.Listed.{others}
 use Rattle.jc_entries.specs.ByUse.{ByUse}
 use Rattle.jc_entries.specs.MostRecent.{most_recent}
-use Rattle.jc_stripe.specs.declared.begun.Begun.TheVariants as begun
+use Rattle.jc_stripe.specs.Outcomes as begun
 use Rattle.jc_stripe.specs.State.{State}
 use Rattle.jc_stripe.specs.Refusals.{has_room}
 use Rattle.jc_stripe.specs.Phases.{MayBegin, Begins, hit_done}
 use Rattle.jc_stripe.specs.Hitting.{IsHit}
-use Rattle.jc_stripe.specs.declared.begun.StepDone.{StepDone}
+use Rattle.jc_stripe.specs.Outcomes.{StepDone}
 use Rattle.jc_model.specs.declared.event.Reply.TheVariants as reply
 use Rattle.jc_history.specs.Past.{promise}
 use Rattle.jc_stripe.specs.Inside.{state_of, IsStripe}

@@ -1,20 +1,19 @@
-use Rattle.std.proofs.Common.{◌≡◌, ◌≤◌, ◌+◌, ◌∙◌, [], None, length, refl, sym, subst, ap}
-use Rattle.jc_model.specs.Cache.{entry_at}
+use Rattle.std.proofs.Common.{◌≡◌, ◌≤◌, ◌+◌, ◌∙◌, [], not, Option, None, length, refl, sym, subst, ap}
+use Rattle.jc_model.specs.Cache.{Bytes, entry_at}
 use Rattle.jc_model.specs.Group.{nothing_said}
 use Rattle.jc_model.specs.Table.{reply_after}
 use Rattle.jc_stripe.specs.Appending.{AppliesStep, NewGroup, group_events}
 use Rattle.jc_history.specs.Past.{promise}
 use Rattle.jc_stripe.specs.declared.ticket.First.TheVariants.{Nobody}
 use Rattle.jc_stripe.specs.State.{State, promised}
-use Rattle.jc_stripe.specs.Refusals.{first_refusal, first_asked, needs_free_key, places_needed}
+use Rattle.jc_stripe.specs.Refusals.{answers_at_once, first_refusal, first_asked, needs_free_key, places_needed}
 use Rattle.jc_stripe.specs.Phases.{MayBegin, Steps, with_reply}
-use Rattle.jc_stripe.specs.declared.begun.StepDone.{StepDone}
+use Rattle.jc_stripe.specs.Outcomes.{StepDone}
 use Rattle.jc_stripe.specs.Inside.{state_of}
-use Rattle.jc_stripe.specs.declared.call_rules.Found.{Found}
 use Rattle.jc_stripe.proofs.Used.{find-entry}
 use Rattle.jc_stripe.proofs.Inner.{entries_len}
 use Rattle.jc_stripe.proofs.Fitting.{nobody_fits}
-use Rattle.jc_stripe.proofs.Refusing.{not_refused, roomy}
+use Rattle.jc_stripe.proofs.Refusing.{alone_needs, not_refused, roomy}
 use Rattle.jc_stripe.proofs.Making.{promised_so, room_so}
 use Rattle.jc_stripe.proofs.Stepping.{IsMade, made_is}
 use Rattle.jc_stripe.proofs.Finishing.{IsDone, done_at, done_few, done_storable, done_steps, done_sound}
@@ -29,9 +28,24 @@ apply_to_entries-victim-requires-clause-entry c =
     ∙ sym (ap (λ (s : State). entry_at s.cache c.args.key.now) c.self.view_is)
     ∙ sym (find-entry c.self.inside.entries.list c.args.key.now)
 
+-- what the call asks, in the fields' state
+asked : (c : goal.After-group-1) → first_asked c.self.inside.config c.args.op.now (entry_at (state_of c.self.inside).cache c.args.key.now) ≡ Nobody
+asked c = ap (λ (s : State). first_asked s.config c.args.op.now (entry_at s.cache c.args.key.now)) c.self.view_is ∙ c.requires.asks
+
+-- the entry that it found, in the fields' state
+found : (c : goal.After-group-1) → c.args.entry.now ≡ entry_at (state_of c.self.inside).cache c.args.key.now
+found c = c.requires.entry ∙ sym (ap (λ (s : State). entry_at s.cache c.args.key.now) c.self.view_is)
+
 -- the places that the call needs, in the fields' state
 needed : (c : goal.After-group-1) → places_needed (needs_free_key (state_of c.self.inside) c.args.key.now c.args.op.now) ≡ c.places_needed-kept.result
-needed c = ap (λ (s : State). places_needed (needs_free_key s c.args.key.now c.args.op.now)) c.self.view_is ∙ sym (c.places_needed-kept.ensures ∙ ap (λ (f : Found). places_needed f.needs_free_key) c.requires.found)
+needed c =
+    let s = state_of c.self.inside in
+    ap places_needed (
+    alone_needs s c.args.key.now c.args.op.now (asked c)
+    ∙ ap (λ (e : Option Bytes). not (answers_at_once s.config c.args.op.now e)) (sym (found c))
+    ∙ ap not (sym c.answers_at_once.ensures)
+    )
+    ∙ sym c.places_needed-kept.ensures
 
 -- they were promised
 promises : (c : goal.After-group-1) → c.promise.new.self ≡ promise c.places_needed-kept.result c.self.inside.history
@@ -42,10 +56,6 @@ promises c =
     (room_so c.self.inside c.places_needed-kept.result c.self.invariant
     (subst (λ n. length (state_of c.self.inside).history + promised (state_of c.self.inside) + n ≤ (state_of c.self.inside).config.history) (needed c)
     (roomy (state_of c.self.inside) c.args.caller.call _ (not_refused (state_of c.self.inside) c.args.caller c.args.key.now c.args.op.now free).room)))
-
--- what the call asks, in the fields' state
-asked : (c : goal.After-group-1) → first_asked c.self.inside.config c.args.op.now (entry_at (state_of c.self.inside).cache c.args.key.now) ≡ Nobody
-asked c = ap (λ (s : State). first_asked s.config c.args.op.now (entry_at s.cache c.args.key.now)) c.self.view_is ∙ c.requires.asks
 
 -- what is replied
 replied : (c : goal.After-group-1) → c.reply_into.new.reply ≡ reply_after c.args.op.now c.args.entry.now nothing_said

@@ -3,9 +3,8 @@ use Rattle.std.proofs.lemmas.Result.{IfOk-from_err}
 use Rattle.std.proofs.Common.{Vec}
 use Rattle.std.specs.Global.{Global}
 use Rattle.jc_types.specs.declared.key.Key.{Key}
-use Rattle.std.proofs.lemmas.List.{map-append}
 use Rattle.std.proofs.lemmas.List.Elements.{filter_more}
-use Rattle.jc_world.proofs.Common.{◌≡◌, ℕ, ◌+◌, ◌<◌, Bool, true, false, cond, List, [], ◌∷◌, ◌++◌, map, length, get_or, take, filter, sym, refl, ap, ◌∙◌, append-nil, Bytes, WorldState, differs, differing}
+use Rattle.jc_world.proofs.Common.{◌≡◌, ℕ, ◌+◌, ◌<◌, Bool, true, false, cond, List, [], ◌∷◌, ◌++◌, map, length, get_or, take, filter, sym, refl, ap, ◌∙◌, append-nil, Bytes, WorldState, differs, differing, map-append}
 use Rattle.jc_world.proofs.machine.Machine.differing.Goals as goal
 use Rattle.jc_world.proofs.machine.Machine.differing.Goals.{then-is_differing+in_ok-push, else-is_differing}
 

@@ -1,4 +1,4 @@
-use Rattle.jc_world.proofs.Common.{◌≡◌, true, Some, sym, refl, ap, ◌∙◌, subst, get, insert, remove, JoinClaim, Picked, JoinAnswer, WorldEvent, settle, over_settled, fits, joins_of, world_of, IsSoundWorld, IsQuietPhase, JoinKey, join_key, Joins, WorldState, join_of, has_joined}
+use Rattle.jc_world.proofs.Common.{◌≡◌, true, Some, sym, refl, ap, ◌∙◌, subst, get, insert, remove, JoinClaim, Picked, polled_with, JoinAnswer, WorldEvent, settle, over_settled, fits, joins_of, world_of, IsSoundWorld, IsQuietPhase, JoinKey, join_key, Joins, WorldState, join_of, has_joined}
 use Rattle.jc_world.proofs.Maps.{joins_ordered, get-gone, insert-back}
 use Rattle.jc_world.proofs.Phased.{changed_from, PicksAs, joiner_at, picked_answer, picked_again, picked_nothing, Changed, shown_as}
 use Rattle.jc_world.proofs.machine.Machine.pick_up.Goals.{After-take_join-join, After-pick_up}
@@ -19,11 +19,11 @@ own : (c : After-take_join-join) → join_key c.take_join-join.result ≡ (c.arg
 own c = ((subst IsSoundWorld (sym c.self.view_is) c.requires.sound).joins (c.args.call, c.args.key.now) c.take_join-join.result (there c)).0
 
 -- what was picked up at the stripe of the key
-ran : (c : After-pick_up) → (p : Picked) → c.pick_up.result ≡ p → IsQuietPhase c.self.inside.stripes c.stripe_of-stripe.result (PicksAs c.take_join-join.result p) c.pick_up.new.self
-ran c p is = subst (λ x. IsQuietPhase c.self.inside.stripes c.stripe_of-stripe.result (PicksAs c.take_join-join.result x) c.pick_up.new.self) is c.pick_up.ensures
+ran : (c : After-pick_up) → (p : Picked) → c.pick_up.result ≡ p → IsQuietPhase c.self.inside.stripes c.stripe_of-stripe.result (PicksAs c.take_join-join.result (polled_with p c.pick_up.new.reply)) c.pick_up.new.self
+ran c p is = subst (λ x. IsQuietPhase c.self.inside.stripes c.stripe_of-stripe.result (PicksAs c.take_join-join.result (polled_with x c.pick_up.new.reply)) c.pick_up.new.self) is c.pick_up.ensures
 
-changed : (c : After-pick_up) → (p : Picked) → c.pick_up.result ≡ p → Changed (world_of c.self.inside) c.stripe_of-stripe.result (PicksAs c.take_join-join.result p) c.pick_up.new.self.stripes
-changed c p is = changed_from (world_of c.self.inside) c.self.inside.stripes c.pick_up.new.self c.stripe_of-stripe.result (PicksAs c.take_join-join.result p) refl (ran c p is)
+changed : (c : After-pick_up) → (p : Picked) → c.pick_up.result ≡ p → Changed (world_of c.self.inside) c.stripe_of-stripe.result (PicksAs c.take_join-join.result (polled_with p c.pick_up.new.reply)) c.pick_up.new.self.stripes
+changed c p is = changed_from (world_of c.self.inside) c.self.inside.stripes c.pick_up.new.self c.stripe_of-stripe.result (PicksAs c.take_join-join.result (polled_with p c.pick_up.new.reply)) refl (ran c p is)
 
 -- a join that is put back is there as before
 restored : (before after next : Joins) (at : JoinKey) (join back : JoinClaim) → get before at ≡ Some join → after ≡ remove before at → next ≡ insert after (join_key back) back → back ≡ join → join_key join ≡ at → next ≡ before
@@ -55,8 +55,8 @@ returns-in-Answer-clause-ok c =
     let key = c.args.key.now in
     let at = goal.at.returns-in-Answer-clause-ok c in
     let number = c.stripe_of-stripe.result in
-    let seen : JoinAnswer = record { reply = c.in-Answer.reply; stripe = number; place = c.in-Answer.step; shared = c.in-Answer.shared } in
-    let p : Picked = Picked.Answer seen.reply seen.place seen.shared in
+    let seen : JoinAnswer = record { reply = c.pick_up.new.reply; stripe = number; place = c.in-Answer.step; shared = c.in-Answer.shared } in
+    let p : Picked = Picked.Answer seen.place seen.shared in
     let next = world_of (record c.self.inside { stripes = c.pick_up.new.self; calls = c.settle-over.new.calls; joins = c.take_join-join.new.joins }) in
     let calls = c.settle-over.ensures.calls ∙ ap (λ m. settle c.args.call key m v.calls) c.fault_in.ensures in
     shown_as _ v next (WorldEvent.PickUp c.args.call key) _ _ c.self.view_is c.show_end.ensures

@@ -1,4 +1,4 @@
-use Rattle.jc_world.proofs.Common.{◌≡◌, ℕ, true, cond, IsSomeAnd, slice_get, Some, find, option_copied, sym, refl, ap, ◌∙◌, subst, subst₂, get, insert, stripe_of, Caller, MayBegin, TicketClaim, new_part, new_progress, Outcome, WorldEvent, puts_off, has_number, settle, over_settled, not_over, BeginsAs, fits, world_of, IsSoundWorld, OrderedStripes, IsPhase, join_key, WorldState, open_call}
+use Rattle.jc_world.proofs.Common.{◌≡◌, ℕ, true, cond, IsSomeAnd, slice_get, Some, find, option_copied, sym, refl, ap, ◌∙◌, subst, subst₂, get, insert, stripe_of, Caller, MayBegin, TicketClaim, new_part, new_progress, Outcome, WorldEvent, puts_off, has_number, settle, over_settled, not_over, BeginsAs, fits, world_of, IsSoundWorld, OrderedStripes, IsPhase, join_key, WorldState, open_call, rules}
 use Rattle.jc_stripe.specs.Phases.{begun_with, with_reply}
 use Rattle.jc_stripe.specs.declared.begun.Started.{Started}
 use Rattle.jc_stripe.specs.declared.begun.Started.TheVariants as started
@@ -49,22 +49,19 @@ begin-requires-clause-begins c =
     let at = subst P (sym c.self.view_is) (may_begin_at w c.args.call key u op c.requires.fits is c.op_at_open-op.ensures c.requires.sound) in
     subst (Q c.stripe_of-number.result c.reserve.new.self) (sym c.caller-caller.ensures) (subst (λ v. Q c.stripe_of-number.result v u.caller) (sym c.in_ok-reserve.ensures.same) (subst (λ n. Q n c.self.inside.stripes u.caller) (sym c.stripe_of-number.ensures) at))
 
-pub hold-requires-clause-reserves : goal.hold-requires-clause-reserves
-hold-requires-clause-reserves c = (ran (goal.at.hold-requires-clause-reserves c).After-begin (started.Asks c.in-Asks.ticket) c.in-Asks.is).phase.made.3
-
-pub hold-requires-clause-unasked : goal.hold-requires-clause-unasked
-hold-requires-clause-unasked c = ap (λ (t : TicketClaim). t.asked) (ran (goal.at.hold-requires-clause-unasked c).After-begin (started.Asks c.in-Asks.ticket) c.in-Asks.is).phase.made.4
-
-pub hold-requires-clause-writer : goal.hold-requires-clause-writer
-hold-requires-clause-writer c = ap (λ (t : TicketClaim). t.writer_asked) (ran (goal.at.hold-requires-clause-writer c).After-begin (started.Asks c.in-Asks.ticket) c.in-Asks.is).phase.made.4
-
-pub hold-requires-clause-free : goal.hold-requires-clause-free
-hold-requires-clause-free c =
-    let v : WorldState = world_of c.self.inside in
+pub hold-requires : goal.hold-requires
+hold-requires c =
     let ticket = c.in-Asks.ticket in
-    let p = ran (goal.at.hold-requires-clause-free c).After-begin (started.Asks ticket) c.in-Asks.is in
-    ap (λ parts. get parts ticket.reservation.key) c.in_ok-make_room.ensures.parts
-    ∙ free_key v c.args.call _ c.args.key.now _ ticket _ _ p (subst IsSoundWorld (sym c.self.view_is) c.requires.sound)
+    let p = ran (goal.at.hold-requires c).After-begin (started.Asks ticket) c.in-Asks.is in
+    record {
+      room = search rules;
+      reserves = p.phase.made.3;
+      unasked = ap (λ (t : TicketClaim). t.asked) p.phase.made.4;
+      writer = ap (λ (t : TicketClaim). t.writer_asked) p.phase.made.4;
+      free =
+          ap (λ parts. get parts ticket.reservation.key) c.in_ok-make_room.ensures.parts
+          ∙ free_key (world_of c.self.inside) c.args.call _ c.args.key.now _ ticket _ _ p (subst IsSoundWorld (sym c.self.view_is) c.requires.sound);
+    }
 
 pub put_join-requires-clause-free : goal.put_join-requires-clause-free
 put_join-requires-clause-free c =

@@ -13,22 +13,18 @@ begin-started-requires c = record {
   begins = met_at c.self.inside c.args.self.now c.args.number c.index_mut-stripe.result.now (λ s. MayBegin s c.args.caller.now c.args.key.now) c.self.view_is c.requires.begins c.index_mut-stripe.ensures.value;
 }
 
-pub give_turns-requires-clause-number : goal.give_turns-requires-clause-number
-give_turns-requires-clause-number c = number_few c.self.inside c.args.self.now c.args.number (λ s. MayBegin s c.args.caller.now c.args.key.now) c.self.view_is c.self.invariant c.requires.begins
-
-pub give_turns-requires-clause-place : goal.give_turns-requires-clause-place
-give_turns-requires-clause-place c =
+pub give_turns-requires : goal.give_turns-requires
+give_turns-requires c =
     let from = c.index_mut-stripe.result.now in
     let to = c.begin-started.new.self in
-    still_place c.history_len-before.result from to c.history_len-before.ensures.len (begun_length from to c.args.caller.now c.args.key.now c.args.op.now _ c.begin-started.ensures.begins)
-
-pub give_turns-requires-clause-room : goal.give_turns-requires-clause-room
-give_turns-requires-clause-room c =
-    let from = c.index_mut-stripe.result.now in
-    let to = c.begin-started.new.self in
+    let longer = begun_length from to c.args.caller.now c.args.key.now c.args.op.now _ c.begin-started.ensures.begins in
     let room = ap (λ (v : OrderedStripes). v.room) c.self.view_is in
     let wanted = c.requires.room in
-    has_room _ _ c.history_len-before.result from to (omega arith) c.history_len-before.ensures.len (begun_length from to c.args.caller.now c.args.key.now c.args.op.now _ c.begin-started.ensures.begins)
+    record {
+      number = number_few c.self.inside c.args.self.now c.args.number (λ s. MayBegin s c.args.caller.now c.args.key.now) c.self.view_is c.self.invariant c.requires.begins;
+      place = still_place c.history_len-before.result from to c.history_len-before.ensures.len longer;
+      room = has_room _ _ c.history_len-before.result from to (omega arith) c.history_len-before.ensures.len longer;
+    }
 
 pub invariant_of-self : goal.invariant_of-self
 invariant_of-self c =

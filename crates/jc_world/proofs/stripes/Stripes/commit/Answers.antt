@@ -12,34 +12,23 @@ IsCommitted held s = IsOut s held.reservation × (s.origin ≡ Played) × IsDue 
 pub index_mut-stripe-requires : goal.index_mut-stripe-requires
 index_mut-stripe-requires c = number_within c.self.inside c.args.self.now c.args.number (IsCommitted c.args.held) c.self.view_is c.requires.out
 
-pub commit-step-requires-clause-out : goal.commit-step-requires-clause-out
-commit-step-requires-clause-out c = (met_at c.self.inside c.args.self.now c.args.number c.index_mut-stripe.result.now (IsCommitted c.args.held) c.self.view_is c.requires.out c.index_mut-stripe.ensures.value).0
+pub commit-step-requires : goal.commit-step-requires
+commit-step-requires c =
+    let met = met_at c.self.inside c.args.self.now c.args.number c.index_mut-stripe.result.now (IsCommitted c.args.held) c.self.view_is c.requires.out c.index_mut-stripe.ensures.value in
+    record { out = met.0; answered = c.requires.answered; origin = met.1; due = met.2 }
 
-pub commit-step-requires-clause-answered : goal.commit-step-requires-clause-answered
-commit-step-requires-clause-answered c = c.requires.answered
-
-pub commit-step-requires-clause-origin : goal.commit-step-requires-clause-origin
-commit-step-requires-clause-origin c = (met_at c.self.inside c.args.self.now c.args.number c.index_mut-stripe.result.now (IsCommitted c.args.held) c.self.view_is c.requires.out c.index_mut-stripe.ensures.value).1
-
-pub commit-step-requires-clause-due : goal.commit-step-requires-clause-due
-commit-step-requires-clause-due c = (met_at c.self.inside c.args.self.now c.args.number c.index_mut-stripe.result.now (IsCommitted c.args.held) c.self.view_is c.requires.out c.index_mut-stripe.ensures.value).2
-
-pub give_turns-requires-clause-number : goal.give_turns-requires-clause-number
-give_turns-requires-clause-number c = number_few c.self.inside c.args.self.now c.args.number (IsCommitted c.args.held) c.self.view_is c.self.invariant c.requires.out
-
-pub give_turns-requires-clause-place : goal.give_turns-requires-clause-place
-give_turns-requires-clause-place c =
+pub give_turns-requires : goal.give_turns-requires
+give_turns-requires c =
     let from = c.index_mut-stripe.result.now in
     let to = c.commit-step.new.stripe in
-    still_place c.history_len-before.result from to c.history_len-before.ensures.len (ended_length from to c.args.held.reservation (out_of c.args.held) _ c.history_len-before.ensures.reached c.commit-step.ensures)
-
-pub give_turns-requires-clause-room : goal.give_turns-requires-clause-room
-give_turns-requires-clause-room c =
-    let from = c.index_mut-stripe.result.now in
-    let to = c.commit-step.new.stripe in
+    let longer = ended_length from to c.args.held.reservation (out_of c.args.held) _ c.history_len-before.ensures.reached c.commit-step.ensures in
     let room = ap (λ (v : OrderedStripes). v.room) c.self.view_is in
     let wanted = c.requires.room in
-    has_room _ _ c.history_len-before.result from to (omega arith) c.history_len-before.ensures.len (ended_length from to c.args.held.reservation (out_of c.args.held) _ c.history_len-before.ensures.reached c.commit-step.ensures)
+    record {
+      number = number_few c.self.inside c.args.self.now c.args.number (IsCommitted c.args.held) c.self.view_is c.self.invariant c.requires.out;
+      place = still_place c.history_len-before.result from to c.history_len-before.ensures.len longer;
+      room = has_room _ _ c.history_len-before.result from to (omega arith) c.history_len-before.ensures.len longer;
+    }
 
 pub invariant_of-self : goal.invariant_of-self
 invariant_of-self c =

@@ -1,4 +1,4 @@
-use Rattle.jc_world.proofs.Common.{refl, arith, PicksUp, IsJoined}
+use Rattle.jc_world.proofs.Common.{refl, arith, PicksUp, polled_with, IsJoined}
 use Rattle.jc_world.proofs.Merging.{picked_same, is_at, met_at, number_within, quiet_made, stays_turns}
 use Rattle.jc_world.proofs.Shares.{length-slice_set}
 use Rattle.jc_world.proofs.stripes.Stripes.pick_up.Goals as goal
@@ -16,7 +16,7 @@ invariant_of-self c =
     let to = c.pick_up.new.self in
     let at = is_at c.self.inside c.args.self.now c.args.number from (λ s. IsJoined s c.args.join) c.self.view_is c.requires c.index_mut-stripe.ensures.value in
     record {
-      turns = stays_turns items c.self.inside.turns.items c.args.number from to c.self.invariant.turns at (picked_same from to c.args.join c.pick_up.result c.pick_up.ensures.picks_up);
+      turns = stays_turns items c.self.inside.turns.items c.args.number from to c.self.invariant.turns at (picked_same from to c.args.join (polled_with c.pick_up.result c.pick_up.new.reply) c.pick_up.ensures.picks_up);
       count = let e = length-slice_set items c.args.number to in let k = c.self.invariant.count in omega arith;
     }
 
@@ -25,4 +25,4 @@ returns c =
     let from = c.index_mut-stripe.result.now in
     let to = c.pick_up.new.self in
     let at = is_at c.self.inside c.args.self.now c.args.number from (λ s. IsJoined s c.args.join) c.self.view_is c.requires c.index_mut-stripe.ensures.value in
-    quiet_made c.self.inside c.args.self.now c.args.number from to (λ old new. PicksUp old c.args.join c.pick_up.result new) _ c.self.view_is at (picked_same from to c.args.join c.pick_up.result c.pick_up.ensures.picks_up) c.pick_up.ensures.picks_up refl refl
+    quiet_made c.self.inside c.args.self.now c.args.number from to (λ old new. PicksUp old c.args.join (polled_with c.pick_up.result c.pick_up.new.reply) new) _ c.self.view_is at (picked_same from to c.args.join (polled_with c.pick_up.result c.pick_up.new.reply) c.pick_up.ensures.picks_up) c.pick_up.ensures.picks_up refl refl

@@ -6,14 +6,12 @@ use Rattle.jc_world.proofs.Merging.{no_history, starts_mergeable}
 use Rattle.jc_world.proofs.stripes.Stripes.restart.Goals.{After-clear}
 use Rattle.jc_world.proofs.stripes.Stripes.restart.Goals as goal
 
-pub end_all-requires-clause-left : goal.end_all-requires-clause-left
-end_all-requires-clause-left c = subst (λ (v : OrderedStripes). AreLeft c.args.config.now v.stripes) (sym c.self.view_is) c.requires.left
-
-pub end_all-requires-clause-held : goal.end_all-requires-clause-held
-end_all-requires-clause-held c = subst (λ (v : OrderedStripes). HasHeld c.args.config.now v.stripes (parts_of c.args.held.now)) (sym c.self.view_is) c.requires.held
-
-pub end_all-requires-clause-joins : goal.end_all-requires-clause-joins
-end_all-requires-clause-joins c = subst (λ (v : OrderedStripes). HasJoins c.args.config.now v.stripes (joins_of c.args.joins.now)) (sym c.self.view_is) c.requires.joins
+pub end_all-requires : goal.end_all-requires
+end_all-requires c = record {
+  left = subst (λ (v : OrderedStripes). AreLeft c.args.config.now v.stripes) (sym c.self.view_is) c.requires.left;
+  held = subst (λ (v : OrderedStripes). HasHeld c.args.config.now v.stripes (parts_of c.args.held.now)) (sym c.self.view_is) c.requires.held;
+  joins = subst (λ (v : OrderedStripes). HasJoins c.args.config.now v.stripes (joins_of c.args.joins.now)) (sym c.self.view_is) c.requires.joins;
+}
 
 -- all are made again
 made : (c : After-clear) → (with_items c.pick_all.new.stripes c.restart_each.new.stripes).items ≡ empty_stripes c.args.config.now 0 c.args.config.now.stripes

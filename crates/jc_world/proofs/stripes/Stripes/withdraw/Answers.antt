@@ -6,11 +6,11 @@ use Rattle.jc_world.proofs.stripes.Stripes.withdraw.Goals as goal
 pub index_mut-stripe-requires : goal.index_mut-stripe-requires
 index_mut-stripe-requires c = number_within c.self.inside c.args.self.now c.args.number (λ s. IsOut s c.args.held.reservation) c.self.view_is c.requires.out
 
-pub withdraw-requires-clause-out : goal.withdraw-requires-clause-out
-withdraw-requires-clause-out c = met_at c.self.inside c.args.self.now c.args.number c.index_mut-stripe.result.now (λ s. IsOut s c.args.held.reservation) c.self.view_is c.requires.out c.index_mut-stripe.ensures.value
-
-pub withdraw-requires-clause-open : goal.withdraw-requires-clause-open
-withdraw-requires-clause-open c = c.requires.open
+pub withdraw-requires : goal.withdraw-requires
+withdraw-requires c = record {
+  out = met_at c.self.inside c.args.self.now c.args.number c.index_mut-stripe.result.now (λ s. IsOut s c.args.held.reservation) c.self.view_is c.requires.out c.index_mut-stripe.ensures.value;
+  «open» = c.requires.open;
+}
 
 pub invariant_of-self : goal.invariant_of-self
 invariant_of-self c =

@@ -7,7 +7,7 @@ use Rattle.jc_stripe.specs.Phases.{Begins, begun_with, with_reply}
 use Rattle.jc_stripe.specs.declared.begun.Appended.{Appended}
 use Rattle.jc_stripe.specs.declared.begun.Started.{Started}
 use Rattle.jc_stripe.specs.declared.begun.Started.TheVariants as started
-use Rattle.jc_stripe.specs.declared.begun.Begun.TheVariants as begun
+use Rattle.jc_stripe.specs.Outcomes as begun
 use Rattle.jc_stripe.specs.ValuesMoved.{MovesMade, MovesValues, HasMovesIfDone, victim_entry}
 use Rattle.jc_stripe.proofs.ValuesMoved.{victim_next, moved, others_stay, get_moves}
 use Rattle.jc_stripe.proofs.desk.moves.ValueMoves.note_begin.Goals as goal

@@ -1,0 +1,60 @@
+-- Clients, each a session beside the one cache that it may call, and services of many of them.
+--     OnSameCache     a client is one of the cache that it was of, and this was done; X is what a contract sees of its cache
+--     ClientState     who makes a client's call that was begun last, and how many steps its session has made
+--     client_state    of the client of a session
+--     new_clients     of clients that have begun no call, of sessions with these numbers, one after another
+--     HasWorked       a client of this state has done its work once, and this was returned; its state after that isn't said
+--     WorksEach       clients of these states have each done their work once, and this was returned, in their order
+--     HasServed       a service was served whole: its cache opened with nothing, as many sessions were given out as brought something, each
+--                     of their clients has done its work once, and the cache was ended
+--     IsServeRefusal  why a service wasn't served whole: the cache's shape is out of its limits, an allocation failed, a session is refused,
+--                     or the cache couldn't be ended
+use Rattle.std.specs.Prelude.{◌≡◌, ◌+◌, ◌⊎◌, ℕ, zero, suc, List, [], ◌∷◌, length, true, Err}
+use Rattle.jc_types.specs.declared.caller.Caller.{Caller}
+use Rattle.jc_types.specs.declared.config.Config.{Config}
+use Rattle.jc_types.specs.declared.refusal.Refusal.{Refusal}
+use Rattle.jc_types.specs.declared.refusal.Refusal.TheVariants.{OutOfMemory}
+use Rattle.jc_types.specs.Limits.{check}
+use Rattle.jc_outside.specs.declared.hands.Outside.{Outside}
+use Rattle.jc_stripe.specs.State.{State}
+use Rattle.jc_session.specs.declared.session.Session.{Session}
+use Rattle.jc_cache.specs.Caches.{OpensWith, OwnerState}
+use Rattle.jc_cache.specs.Closing.{AreClosed, IsEndRefusal}
+use Rattle.jc_cache.specs.Enlisting.{IsNotEnlisted}
+
+pub record OnSameCache {X : Type 0} (before after : X) (Done : Type 0) : Type 0 where
+  pub cache : after ≡ before
+  pub call : Done
+
+pub record ClientState : Type 0 where
+  pub caller : Caller
+  pub own : ℕ
+
+abbrev pub client_state : {I J : Type 0} {D : I → Type 0} {E : J → Type 0} → Session I J D E → ClientState
+client_state session = record { caller = session.agent.caller; own = session.agent.counts.own }
+
+abbrev pub new_clients : ℕ → ℕ → List ClientState
+new_clients number zero = []
+new_clients number (suc more) = record { caller = record { session = number; call = 0 }; own = 0 } ∷ new_clients (number + 1) more
+
+module _ {X : Type 0} (works : ClientState → X → ClientState → Type 0) where
+  abbrev pub HasWorked : ClientState → X → Type 0
+  HasWorked before returned = (after : ClientState) × works before returned after
+
+  abbrev pub WorksEach : List ClientState → List X → Type 0
+  WorksEach [] [] = Unit {0}
+  WorksEach (before ∷ others) (one ∷ rest) = HasWorked before one × WorksEach others rest
+  WorksEach before returned = ⊥
+
+  -- `brought` is how many have brought a loader or a writer, or nothing
+  pub record HasServed (config : Config) (brought : ℕ) (stripes : List State) (returned : List X) : Type 0 where
+    pub opened : OwnerState
+    pub opens : OpensWith true config [] opened
+    pub closed : AreClosed (record opened { given = brought }) stripes
+    pub each : WorksEach (new_clients 0 brought) returned
+
+pub record IsServeRefusal {I J : Type 0} {D : I → Type 0} {E : J → Type 0} (config : Config) (outside : List (Outside I J D E)) (refusal : Refusal) : Type 0 where
+  pub why : (check config ≡ Err refusal)
+      ⊎ ((refusal ≡ OutOfMemory)
+      ⊎ ((opened : OwnerState) × (left : OwnerState) × OpensWith true config [] opened
+      × (IsNotEnlisted opened left outside refusal ⊎ IsEndRefusal refusal (record opened { given = length outside }) left)))

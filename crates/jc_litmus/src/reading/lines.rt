@@ -1,0 +1,219 @@
+//! The lines of a program, by their words.
+ghost use Rattle.std.specs.Prelude.{◌≡◌, ◌||◌, map};
+ghost use Rattle.jc_script.specs.Lines.{ok_with};
+ghost use Rattle.jc_litmus.specs.Reads.{Reads};
+ghost use Rattle.jc_litmus.specs.Program.{after_call, after_expect, after_failing, after_invoke, after_line, after_other_line, after_own_line};
+ghost use Rattle.jc_litmus.specs.Program.{after_script_line, after_thread, invocation, is_outside};
+ghost use Rattle.jc_litmus.specs.Grammar.{quantifier_named};
+ghost use Rattle.jc_litmus.specs.declared.line_error.LineError.TheVariants as errors;
+ghost use Rattle.jc_litmus.specs.declared.program.LineFault.TheVariants as faults;
+ghost use Rattle.jc_script.specs.declared.fault.Fault.TheVariants as script_faults;
+
+use crate::atoms::{add_atoms, are_atoms};
+use crate::grammar::{
+    begin_line, entry_calls, may_fail, operation_in, quantifier_named, with_fault,
+};
+use crate::line_error::LineError;
+use crate::program::{Expectation, LineFault, Quantifier, THREADS_MAX};
+use crate::reading::{Reading, Room, push_expectation, push_thread};
+use jc_explore::Item;
+use jc_script::fault::{Fault, ReadError};
+use jc_script::read::grammar::{none_empty, read};
+use jc_script::read::line::{Line, Operation};
+use jc_script::read::words::{is, key, split};
+use std::alloc::Global;
+
+fn bad_line() -> LineError
+    ensures { result ≡ errors.Fault (faults.Script script_faults.BadLine) }
+{
+    LineError::Fault(LineFault::Script(Fault::BadLine))
+}
+
+/// An entry processor on a key, with the calls that it makes there. `line` is a buffer for a line.
+#[tactic(auto, unfolding(crate::specs::Program::invocation))]
+fn invocation(alloc: Global, words: &[&[u8]], line: &mut Line) -> Result<Item, LineError>
+    ensures { Reads result (invocation (map (λ w. w.now) words.now)) }
+{
+    match words {
+        [k, colon, rest @ ..] => {
+            if !is(colon, ":") {
+                return Err(bad_line());
+            }
+            let key = key(k)?;
+            let calls = entry_calls(alloc, rest, line)?;
+            Ok(Item::Invoke { key, calls })
+        }
+        _ => Err(bad_line()),
+    }
+}
+
+impl Reading {
+    /// Takes a line that a script may have, too.
+    #[tactic(auto, unfolding(crate::specs::Program::after_script_line))]
+    fn script_line(&mut self, line: &Line) -> Result<(), LineError>
+        ensures { Reads (ok_with self.new result) (after_script_line self.old line.now) }
+    {
+        match line {
+            Line::Open(config) => Ok(self.open(config)?),
+            Line::Set(key, value) => self.set(key, value),
+            Line::Foreign(key, value) => self.foreign(key, value),
+            _ => {
+                self.check_open()?;
+                Err(LineError::Fault(LineFault::NotACall))
+            }
+        }
+    }
+
+    /// Adds a thread.
+    #[tactic(auto, unfolding(crate::specs::Program::after_thread))]
+    fn thread(&mut self, alloc: Global, words: &[&[u8]]) -> Result<(), LineError>
+        ensures { Reads (ok_with self.new result) (after_thread self.old (map (λ w. w.now) words.now)) }
+    {
+        if !words.is_empty() {
+            return Err(bad_line());
+        }
+        self.check_open()?;
+        if self.threads.len() >= THREADS_MAX {
+            return Err(LineError::Fault(LineFault::TooManyThreads));
+        }
+        push_thread(alloc, &mut self.threads)?;
+        Ok(())
+    }
+
+    /// Adds a call of one key.
+    #[tactic(auto, unfolding(crate::specs::Program::after_call))]
+    fn call(
+        &mut self,
+        alloc: Global,
+        first: &[u8],
+        rest: &[&[u8]],
+        line: &mut Line,
+    ) -> Result<(), LineError>
+        ensures { Reads (ok_with self.new result) (after_call self.old first.now (map (λ w. w.now) rest.now)) }
+    {
+        begin_line(alloc, first, rest, line)?;
+        self.check_open()?;
+        let Operation { op, key } = operation_in(line)?;
+        self.add(Item::Call { op, key })
+    }
+
+    /// Adds an entry processor on a key, with the calls that it makes there.
+    #[tactic(auto, unfolding(crate::specs::Program::after_invoke))]
+    fn invoke(&mut self, alloc: Global, words: &[&[u8]], line: &mut Line) -> Result<(), LineError>
+        ensures { Reads (ok_with self.new result) (after_invoke self.old (map (λ w. w.now) words.now)) }
+    {
+        let item = invocation(alloc, words, line)?;
+        self.add(item)
+    }
+
+    /// Adds a fault that may happen.
+    #[tactic(auto, unfolding(crate::specs::Program::after_failing))]
+    fn failing(&mut self, words: &[&[u8]]) -> Result<(), LineError>
+        ensures { Reads (ok_with self.new result) (after_failing self.old (map (λ w. w.now) words.now)) }
+    {
+        let (failing, code) = may_fail(words)?;
+        self.check_open()?;
+        self.faults = with_fault(self.faults, failing, code);
+        Ok(())
+    }
+
+    /// Adds an expectation of the outcomes.
+    #[tactic(auto, unfolding(crate::specs::Program::after_expect))]
+    fn expect(
+        &mut self,
+        alloc: Global,
+        quantifier: Quantifier,
+        text: &[u8],
+        words: &[&[u8]],
+    ) -> Result<(), LineError>
+        ensures { Reads (ok_with self.new result) (after_expect self.old quantifier text.now (map (λ w. w.now) words.now)) }
+    {
+        if !are_atoms(words) {
+            return Err(bad_line());
+        }
+        self.check_open()?;
+        let mut atoms = Vec::new(alloc);
+        add_atoms(&mut atoms, &self.threads, words)?;
+        let text = Vec::from_slice(alloc, text)?;
+        push_expectation(
+            &mut self.expectations,
+            Expectation {
+                quantifier,
+                atoms,
+                text,
+            },
+        )?;
+        Ok(())
+    }
+
+    /// Takes a line that no script has, by its first word and those after it.
+    #[tactic(auto, unfolding(crate::specs::Program::after_own_line))]
+    fn own_line(
+        &mut self,
+        alloc: Global,
+        text: &[u8],
+        first: &[u8],
+        words: &[&[u8]],
+        line: &mut Line,
+    ) -> Result<(), LineError>
+        ensures { Reads (ok_with self.new result) (after_own_line self.old text.now first.now (map (λ w. w.now) words.now) (quantifier_named first.now)) }
+    {
+        match quantifier_named(first) {
+            Some(quantifier) => self.expect(alloc, quantifier, text, words),
+            None => match first {
+                _ if is(first, "thread") => self.thread(alloc, words),
+                _ if is(first, "invoke") => self.invoke(alloc, words, line),
+                _ => self.call(alloc, first, words, line),
+            },
+        }
+    }
+
+    /// Takes a line that no script has, by its words.
+    #[tactic(auto, unfolding(crate::specs::Program::after_other_line))]
+    fn other_line(
+        &mut self,
+        alloc: Global,
+        text: &[u8],
+        words: &[&[u8]],
+        line: &mut Line,
+    ) -> Result<(), LineError>
+        ensures { Reads (ok_with self.new result) (after_other_line self.old text.now (map (λ w. w.now) words.now)) }
+    {
+        if !none_empty(words) {
+            return Err(bad_line());
+        }
+        match words {
+            [] => Err(bad_line()),
+            [first, ..] if is_outside(first) => self.failing(words),
+            [first, rest @ ..] => self.own_line(alloc, text, first, rest, line),
+        }
+    }
+
+    /// Reads one line.
+    #[tactic(auto, unfolding(crate::specs::Program::after_line))]
+    pub(super) fn read_line<'a>(
+        &mut self,
+        alloc: Global,
+        text: &'a [u8],
+        room: &mut Room<'a>,
+    ) -> Result<(), LineError>
+        ensures { Reads (ok_with self.new result) (after_line self.old text.now) }
+    {
+        match read(alloc, text, &mut room.words, &mut room.line) {
+            Ok(false) => Ok(()),
+            Ok(true) => self.script_line(&room.line),
+            Err(ReadError::Fault(Fault::BadLine)) => {
+                split(text, &mut room.words)?;
+                self.other_line(alloc, text, &room.words, &mut room.line)
+            }
+            Err(error) => Err(LineError::from(error)),
+        }
+    }
+}
+
+/// Whether a word names the loader, the writer or the processor.
+fn is_outside(word: &[u8]) -> bool
+    ensures { result ≡ is_outside word.now }
+{
+    is(word, "loader") || is(word, "writer") || is(word, "processor")
+}

@@ -1,6 +1,0 @@
-use Rattle.std.proofs.Common.{◌≡◌, drop, map}
-use Rattle.jc_script.specs.Lines.{are_words}
-use Rattle.jc_script.proofs.grammar.none_empty.Given as goal
-
-abbrev pub invariant-loop-w : goal.invariant-loop-w
-invariant-loop-w l = are_words (map (λ w. w.now) (drop l.w-index l.words)) ≡ are_words (map (λ w. w.now) l.words)

@@ -1,6 +1,0 @@
-use Rattle.std.proofs.Common.{◌≡◌, drop}
-use Rattle.jc_script.specs.Words.{said_after, said}
-use Rattle.jc_script.proofs.pairs.Pairs.said.Given as goal
-
-abbrev pub invariant-loop-pair : goal.invariant-loop-pair
-invariant-loop-pair l = said_after l.answer (drop l.pair-index l.self) l.key ≡ said l.self l.key

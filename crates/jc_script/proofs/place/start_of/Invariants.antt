@@ -1,7 +1,0 @@
-use Rattle.std.proofs.Common.{◌≡◌, drop}
-use Rattle.jc_script.specs.Places.{start_from}
-use Rattle.jc_script.proofs.place.start_of.Given as goal
-
-abbrev pub invariant-loop-b : goal.invariant-loop-b
-invariant-loop-b l =
-    (l.at ≡ l.b-index) × (start_from l.left l.at (drop l.b-index l.line) ≡ start_from l.word 0 l.line)

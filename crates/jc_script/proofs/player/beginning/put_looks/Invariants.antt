@@ -1,6 +1,0 @@
-use Rattle.std.proofs.Common.{◌≡◌, ◌++◌}
-use Rattle.jc_world.specs.Together.{looks}
-use Rattle.jc_script.proofs.player.beginning.put_looks.Given as goal
-
-abbrev pub invariant-loop-stripe : goal.invariant-loop-stripe
-invariant-loop-stripe l = l.events.items ≡ l.fn.events.items ++ looks l.call 0 l.stripe

@@ -1,0 +1,19 @@
+-- The names that most pages of this crate cite, passed on from one place. Declares nothing.
+pub use Rattle.std.proofs.Common.{Bool, Err, IfErr, List, None, Ok, OnOk, Option, Result, Some, [], ap, append-nil, append_assoc, arith, cond, drop, false, inl, inr, length, refl, rules, sym, take, true, ℕ, ◌++◌, ◌+◌, ◌-◌, ◌==◌, ◌||◌, ◌∙◌, ◌∷◌, ◌≡◌, ◌≤◌, ◌⊎◌}
+pub use Rattle.std.proofs.Math.Seq.{drop-append_seam, take-append-add, take-append_seam, take-length}
+pub use Rattle.std.proofs.lemmas.Grind.{flat_map-append}
+pub use Rattle.std.proofs.lemmas.List.{length-append, take-append-le, take_rest}
+pub use Rattle.std.specs.Io.KnownBytes.{Appends, Consumes, IsAtEnd}
+pub use Rattle.std.specs.Prelude.{codes}
+pub use Rattle.jc_script.proofs.CallerLemmas.{appends-then, pieces_some}
+pub use Rattle.jc_script.specs.Places.{complaint}
+pub use Rattle.jc_script.specs.Printing.{fault_line}
+pub use Rattle.jc_script.specs.Transcript.{IsTranscript, OpenedWorld, Prints, Transcript, fault_of, opened_world, pieces_of}
+pub use Rattle.jc_script.specs.declared.fault.Fault.{Fault}
+pub use Rattle.jc_script.specs.declared.run.RunEnd.TheVariants.{Clean, LineFault}
+pub use Rattle.jc_shell.specs.Holding.{GoesOn, Holds}
+pub use Rattle.jc_shell.specs.Saving.{Saved, Saves}
+pub use Rattle.jc_shell.specs.Sessions.{Accepted, Answers, AnswersWord, AreAnswered, IsPlayed, IsTold, has_feed, next_number, nobody, script_of, with_line}
+pub use Rattle.jc_shell.specs.ShellWords.{help_text, not_saved_text, word_of}
+pub use Rattle.jc_shell.specs.declared.run.ShellFault.TheVariants.{OutOfMemory, Read, TooLong, Write}
+pub use Rattle.jc_shell.specs.declared.words.Word.TheVariants.{Help, Line, Quit, Save}
