@@ -1,24 +1,14 @@
 -- Sessions that are given out one after another.
---     given_none    none was
 --     given_next    one more was
-use Rattle.std.proofs.Common.{◌≡◌, ◌∙◌, ◌+◌, ◌++◌, ℕ, List, [], ◌∷◌, length, refl, sym, ap, subst, length-append, arith}
+use Rattle.std.proofs.Common.{◌≡◌, ◌∙◌, ◌+◌, ◌++◌, ℕ, List, [], ◌∷◌, length, sym, ap, subst, length-append, arith}
 use Rattle.std.proofs.lemmas.List.{map-append}
-use Rattle.std.proofs.lemmas.List.Elements.{All-nil, All-push}
+use Rattle.std.proofs.lemmas.List.Elements.{All-push}
 use Rattle.std.specs.List.{All}
 use Rattle.jc_outside.specs.declared.hands.Outside.{Outside}
 use Rattle.jc_session.specs.declared.session.Session.{Session}
 use Rattle.jc_cache.specs.Caches.{OwnerState}
 use Rattle.jc_cache.specs.Enlisting.{AreGivenOut, HaveNumbers}
 use Rattle.jc_cache.specs.Sessions.{BeginsAt, IsGivenOut, MayCall}
-
-pub given_none : {I J : Type 0} {D : I → Type 0} {E : J → Type 0} (owner : OwnerState) → AreGivenOut {I = I} {J = J} {D = D} {E = E} owner owner [] []
-given_none owner = record {
-  owner = (let e : owner.given ≡ owner.given + 0 = omega arith in ap (λ (n : ℕ). record owner { given = n }) e);
-  boxes = refl;
-  fresh = All-nil _;
-  numbers = tt;
-  may = All-nil _;
-}
 
 numbered_next : {I J : Type 0} {D : I → Type 0} {E : J → Type 0} (number last : ℕ) (sessions : List (Session I J D E)) (session : Session I J D E) → HaveNumbers number sessions
     → last ≡ number + length sessions → session.agent.caller ≡ record { session = last; call = 0 } → HaveNumbers number (sessions ++ session ∷ [])

@@ -1,5 +1,5 @@
 -- What a row of seats has noted, and seen.
---     noted_there, noted_at    the state that the seat at a place has noted; whose it is
+--     noted_there    the state that the seat at a place has noted; whose it is
 --     noted_push, fronts_push  a row with one more seat
 --     noted_same, fronts_same, logs_same  views that change in something else
 --     handed_back              the seats of a cache that was not closed
@@ -40,9 +40,6 @@ use Rattle.jc_cache.proofs.Rows.{Seated, map_get, push_get}
 
 pub noted_there : (seats : List Seated) (i : ℕ) (seat : Seated) → slice_get seats i ≡ Some seat → slice_get (noted_by seats) i ≡ Some seat.1.noted
 noted_there seats i seat at = slice_get-map (λ (s : Seated). s.1.noted) seats i ∙ ap (option_map (λ (s : Seated). s.1.noted)) at
-
-pub noted_at : (seats : List Seated) (i : ℕ) (state : State) → slice_get (noted_by seats) i ≡ Some state → (seat : Seated) × (slice_get seats i ≡ Some seat) × (state ≡ seat.1.noted)
-noted_at seats i state at = map_get (λ (s : Seated). s.1.noted) seats i state at
 
 pub noted_push : (seats : List Seated) (states : List State) (seat : Seated) (state : State) → noted_by seats ≡ states → seat.1.noted ≡ state → noted_by (seats ++ seat ∷ []) ≡ states ++ state ∷ []
 noted_push seats states seat state are is =

@@ -1,6 +1,5 @@
 -- Facts on entries in order of use, for the proofs of this crate and of those above it.
-use Rattle.std.proofs.Common.{◌≡◌, ◌<◌, ◌≤◌, ◌==◌, List, [], ◌∷◌, ◌++◌, Bool, true, false, cond, not, ◌||◌, length, reverse, find, Option, Some, None, is_some, IsSome, ap, refl, sym, ◌∙◌, arith}
-use Rattle.std.specs.Option.{option_map_or}
+use Rattle.std.proofs.Common.{◌≡◌, ◌<◌, ◌≤◌, List, [], ◌∷◌, Bool, true, false, cond, not, ◌||◌, length, reverse, find, Option, Some, None, is_some, ap, refl, sym, ◌∙◌, arith}
 use Rattle.std.specs.List.{list_any}
 use Rattle.std.specs.Map.{keys_of}
 use Rattle.std.specs.Ordering.{eq_by_cmp}
@@ -9,18 +8,12 @@ use Rattle.std.specs.Cmp.Lexicographic.{texts_ties, pointwise}
 use Rattle.std.specs.FinMap as finite
 use Rattle.std.specs.FinMap.Entries.{is_some-find}
 use Rattle.std.proofs.lemmas.Cmp.{nat_list_cmp_total}
-use Rattle.std.proofs.lemmas.Bool.{not-true, not-false, or_left, or_right}
-use Rattle.std.proofs.lemmas.List.{reverse-append}
+use Rattle.std.proofs.lemmas.Bool.{not-true, or_left, or_right}
 use Rattle.std.proofs.lemmas.List.Sorted.{list_any-IsPermutation, IsPermutation-map, IsPermutation-reverse}
 use Rattle.jc_types.proofs.CallerLemmas.{found_test}
-use Rattle.jc_model.specs.declared.event.Cause.TheVariants.{Full, Memory}
 use Rattle.jc_model.specs.Cache.{Bytes, key_cmp}
-use Rattle.jc_model.specs.Listed.{others, with_entry_first}
-use Rattle.jc_model.proofs.CallerLemmas.{same_key}
-use Rattle.jc_entries.specs.ByUse.{ByUse, after_touch, is_pinned, lru_victim}
-use Rattle.jc_entries.specs.Inserting.{has_room_for, Inserts}
-use Rattle.jc_entries.specs.declared.entries.Inserted.{Inserted}
-use Rattle.jc_entries.specs.declared.entries.Inserted.TheVariants.{Kept, KeptAfter, NotKept}
+use Rattle.jc_model.specs.Listed.{others}
+use Rattle.jc_entries.specs.ByUse.{is_pinned, lru_victim}
 
 -- 1. The entries of the other keys.
 
@@ -92,35 +85,6 @@ none_passes : (p q : Bytes → Bool) (key : Bytes) (keys : List Bytes) → ((k :
 none_passes p q key [] same h any = cc
 none_passes p q key (k ∷ ks) same h any = fails (p k) (q k) k key p (find p ks) (list_any q ks) refl h (same k) any (none_passes p q key ks same)
 
--- if there is none, each key that has an entry is pinned
-pub lru_victim-none : (entries : List (Bytes × Bytes)) (pinned : List Bytes) (key : Bytes) → lru_victim entries pinned ≡ None → is_some (finite.find key_cmp key entries) ≡ true → is_pinned pinned key ≡ true
-lru_victim-none entries pinned key h there =
-    not-false _ (none_passes (λ k. not (is_pinned pinned k)) (eq_by_cmp key_cmp key) key (keys_of (reverse entries)) (λ k e. sym (same_key key k e)) h
-    (any_key (eq_by_cmp key_cmp key) entries ∙ sym (is_some-find key_cmp key entries) ∙ there))
-
--- a list that ends with an entry: it is the victim, unless it is pinned
-pub lru_victim-last : (entries : List (Bytes × Bytes)) (entry : Bytes × Bytes) (pinned : List Bytes)
-    → lru_victim (entries ++ entry ∷ []) pinned ≡ cond (is_pinned pinned entry.0) (lru_victim entries pinned) (Some entry.0)
-lru_victim-last entries entry pinned =
-    ap (λ es. find (λ key. not (is_pinned pinned key)) (keys_of es)) (reverse-append entries (entry ∷ []))
-    ∙ elim (is_pinned pinned entry.0) as (λ b. cond (not b) (Some entry.0) (lru_victim entries pinned) ≡ cond b (lru_victim entries pinned) (Some entry.0)) [ true ↦ refl | false ↦ refl ]
-
 -- 3. A touch.
 
--- the entry of a key that has one is the first then
-pub after_touch-listed : (key value : Bytes) (entries : List (Bytes × Bytes)) → finite.find key_cmp key entries ≡ Some value → after_touch key entries ≡ with_entry_first key (Some value) entries
-after_touch-listed key value entries h = ap (λ o. option_map_or (λ v. (key, v) ∷ others key entries) o entries) h
-
 -- 4. What an insertion answers.
-
--- a full stripe that has only pinned entries keeps no new one
-pub Inserts-all_pinned : (old new : ByUse) (key value : Bytes) (pinned : List Bytes) (result : Inserted) → Inserts old new key value pinned result
-    → has_room_for key old ≡ false → lru_victim old.list pinned ≡ None → result ≡ NotKept Full None
-Inserts-all_pinned old new key value pinned Kept h full none = let room = h.room in cc
-Inserts-all_pinned old new key value pinned (KeptAfter victim) h full none = let found = h.victim_is in cc
-Inserts-all_pinned old new key value pinned (NotKept Full evicted) h full none = ap (NotKept Full) h.nobody
-Inserts-all_pinned old new key value pinned (NotKept Memory evicted) h full none =
-    let nobody : evicted ≡ None = h.victim_is ∙ ap (λ b. cond b None (lru_victim old.list pinned)) full ∙ none in
-    let nothing : is_some evicted ≡ false = ap is_some nobody in
-    let some : IsSome evicted = h.not_all_pinned full in
-    cc

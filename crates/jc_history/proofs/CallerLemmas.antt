@@ -1,5 +1,5 @@
 -- Lemmas for the crates above: which events may be stored.
-use Rattle.std.proofs.Common.{◌≡◌, ◌==◌, ℕ, ◌≤◌, ◌+◌, ◌&&◌, Bool, true, false, not, cond, IsTrue, Option, None, Some, is_none, is_some, refl, ap, arith}
+use Rattle.std.proofs.Common.{◌≡◌, ℕ, ◌≤◌, ◌+◌, ◌&&◌, Bool, true, false, not, cond, IsTrue, Option, None, Some, is_none, is_some, refl, ap, arith}
 use Rattle.std.specs.Bool.{beq}
 use Rattle.std.specs.Cmp.Lexicographic.{pointwise}
 use Rattle.std.proofs.lemmas.Bool.{and_parts}
@@ -22,7 +22,6 @@ use Rattle.jc_model.specs.declared.event.Reply.TheVariants as reply
 use Rattle.jc_model.specs.declared.event.Event.TheVariants.{Step}
 use Rattle.jc_model.specs.Cache.{Bytes}
 use Rattle.jc_model.specs.Table.{answers_fit, reply_after, reply_by_fault, loader_ask, load_fits, write_ask, early_fault, first_fault, is_load_given, is_process_given, is_write_given, is_invoke, outcome_of}
-use Rattle.jc_model.specs.Group.{load_only, shared_event}
 use Rattle.jc_model.proofs.CallerLemmas.{is_numbered}
 use Rattle.jc_history.specs.Values.{repeats_outside, values_in_op, values_in_load, values_in_effect, values_in_process, values_in_reply, IsStorable}
 
@@ -119,6 +118,3 @@ storable_step config caller Invoke key entry out shared_with fits =
 storable_step config caller op key entry out shared_with fits = let parts = fitting config op entry out fits in storable_plain op out _ parts.0 parts.1
 
 -- 5. A shared step.
-
-pub storable_shared : (place : ℕ) (key : Bytes) (answer : LoadAnswer) (caller : Caller) → IsStorable (shared_event place key answer caller)
-storable_shared place key answer caller = storable_load (load_only answer) (reply_after Get None (load_only answer)) refl

@@ -1,7 +1,6 @@
 -- Lemmas for the crates above.
-use Rattle.std.proofs.Common.{◌≡◌, ℕ, suc, ◌+◌, ◌<◌, ◌==◌, ◌&&◌, ◌++◌, List, [], ◌∷◌, Bool, true, false, cond, not, length, get_or, take, map, filter, find, append-nil, count_by, Some, None, refl, ap, sym, ◌∙◌, arith}
-use Rattle.std.proofs.lemmas.List.{length-map, map-append}
-use Rattle.std.proofs.lemmas.List.Elements.{filter_more}
+use Rattle.std.proofs.Common.{◌≡◌, ℕ, suc, ◌+◌, ◌==◌, ◌&&◌, List, [], ◌∷◌, Bool, true, false, cond, not, length, get_or, map, filter, find, count_by, Some, None, refl, ap, sym, ◌∙◌, arith}
+use Rattle.std.proofs.lemmas.List.{length-map}
 use Rattle.std.proofs.lemmas.List.Sums.{length-filter, sum_by-cons}
 use Rattle.std.specs.List.{AllPairs}
 use Rattle.std.specs.Cmp.Lexicographic.{pointwise, same_text}
@@ -16,7 +15,6 @@ use Rattle.jc_inflight.specs.declared.joiner.JoinState.TheVariants.{Again}
 use Rattle.jc_inflight.specs.Joining.{belongs_to, is_waiting, waits, waits_for, callers_of}
 use Rattle.jc_inflight.specs.Resolving.{with_answer, answered_from}
 use Rattle.jc_inflight.specs.Dissolving.{told_to_retry, after_dissolve}
-use Rattle.jc_inflight.specs.IsJoinerList.{IsJoinerList}
 use Rattle.jc_inflight.specs.Taking.{join_state_of, without_joiner, after_take, is_over}
 
 -- 1. The end of a load changes no caller and no key.
@@ -39,38 +37,10 @@ pub calls-after_dissolve : (load : ℕ) (joiners : List Joiner) → map call_of 
 calls-after_dissolve load [] = refl
 calls-after_dissolve load (j ∷ js) = λ i. call-told_to_retry load j i ∷ calls-after_dissolve load js i
 
-pub length-answered_from : (load step place : ℕ) (joiners : List Joiner) → length (answered_from load step place joiners) ≡ length joiners
-length-answered_from load step place joiners =
-    sym (length-map (answered_from load step place joiners) call_of) ∙ ap length (calls-answered_from load step place joiners) ∙ length-map joiners call_of
-
-pub length-after_dissolve : (load : ℕ) (joiners : List Joiner) → length (after_dissolve load joiners) ≡ length joiners
-length-after_dissolve load joiners = length-map joiners (told_to_retry load)
-
 -- 2. Who waits for a load.
 
 pub length-callers_of : (load : ℕ) (joiners : List Joiner) → length (callers_of load joiners) ≡ count_by (waits_for load) joiners
 length-callers_of load joiners = length-map (filter (waits_for load) joiners) (λ j. j.caller) ∙ length-filter (waits_for load) joiners
-
--- one more joiner, as at a step of a loop over the list
-callers_of_more : (load : ℕ) (joiners : List Joiner) (i : ℕ) (j : Joiner) (b : Bool) → i < length joiners → j ≡ get_or joiners i j → waits_for load j ≡ b
-    → callers_of load (take (i + 1) joiners) ≡ map (λ x. x.caller) (filter (waits_for load) (take i joiners) ++ cond b (j ∷ []) [])
-callers_of_more load joiners i j b within is waits =
-    let before = filter (waits_for load) (take i joiners) in
-    ap (map (λ x. x.caller)) (filter_more (waits_for load) joiners i j within)
-    ∙ ap (λ (x : Joiner). map (λ y. y.caller) (before ++ cond (waits_for load x) (x ∷ []) [])) (sym is)
-    ∙ ap (λ (q : Bool). map (λ y. y.caller) (before ++ cond q (j ∷ []) [])) waits
-
--- it waits for the load
-pub callers_of_more_yes : (load : ℕ) (joiners : List Joiner) (i : ℕ) (j : Joiner) → i < length joiners → j ≡ get_or joiners i j → waits_for load j ≡ true
-    → callers_of load (take (i + 1) joiners) ≡ callers_of load (take i joiners) ++ j.caller ∷ []
-callers_of_more_yes load joiners i j within is waits =
-    callers_of_more load joiners i j true within is waits ∙ map-append (λ x. x.caller) (filter (waits_for load) (take i joiners)) (j ∷ [])
-
--- it doesn't
-pub callers_of_more_no : (load : ℕ) (joiners : List Joiner) (i : ℕ) (j : Joiner) → i < length joiners → j ≡ get_or joiners i j → waits_for load j ≡ false
-    → callers_of load (take (i + 1) joiners) ≡ callers_of load (take i joiners)
-callers_of_more_no load joiners i j within is waits =
-    callers_of_more load joiners i j false within is waits ∙ ap (map (λ x. x.caller)) (append-nil (filter (waits_for load) (take i joiners)))
 
 -- 3. What a call learns that asks.
 
@@ -157,14 +127,3 @@ waiting-without caller key (j ∷ js) state once h over =
           let later = waiting-without caller key js state (λ i k d lt within. once (suc i) (suc k) d (omega arith) (omega arith)) h over in
           omega (arith, later, count-cons waits j js, count-cons waits j (without_joiner caller key js))
     ] refl h
-
-pub waiting-after_take : (caller : Caller) (key : Bytes) (joiners : List Joiner) → IsJoinerList joiners → count_by waits (after_take caller key joiners) ≡ count_by waits joiners
-waiting-after_take caller key joiners is =
-    elim (join_state_of caller key joiners) as (λ o. join_state_of caller key joiners ≡ o → count_by waits (cond (is_over o) (without_joiner caller key joiners) joiners) ≡ count_by waits joiners) [
-      | None ↦ λ h. refl
-      | Some state ↦ λ h.
-          elim (is_waiting state) as (λ b. is_waiting state ≡ b → count_by waits (cond (not b) (without_joiner caller key joiners) joiners) ≡ count_by waits joiners) [
-            | true ↦ λ w. refl
-            | false ↦ λ w. waiting-without caller key joiners state is.once h w
-          ] refl
-    ] refl

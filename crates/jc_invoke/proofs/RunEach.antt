@@ -1,7 +1,7 @@
 -- Runs of a processor at the tickets of a round, in their order.
 --     RoomLeft        there is room for the tickets from this place on
 --     keeps_itself, keeps_both    the room is kept
---     only_through, keeps_noted   and so it is in a cache that doesn't write through, whose writer is never asked
+--     keeps_noted   and so it is in a cache that doesn't write through, whose writer is never asked
 --     room_of         the room of the next round
 --     takes_same      the first tickets stand for the same reservations
 --     split_at        the tickets before a place, the one there and those after it
@@ -11,7 +11,7 @@
 --     run_as          a run, under whichever names of its ticket and of its arguments
 --     may_take        there is room for the next run, and its key is new
 --     begins          before the first run
-use Rattle.jc_invoke.proofs.Common.{HasRunEach, IsTicketRun, KeepsRunsRoom, TakesKey, IsRoomFor, IsNextRoom, RunBehavior, in_boxes, Batches, RoundRoom, is_among, Bytes, Change, RunState, claims_after, done_of, done_room, reservations_of, reserved_keys, WriteCallState, asked_keys, no_writes, reserved_by, Answers, Agent, TicketClaim, ◌≡◌, ◌==◌, ◌≤◌, ◌<◌, ◌+◌, ◌++◌, ℕ, zero, suc, List, [], ◌∷◌, length, map, set, take, drop, get_or, Bool, false, true, Option, None, Some, if◌then◌else◌, vec_capacity, refl, sym, ap, subst, ◌∙◌, arith, drop_more, length-append, map-append, take-append-drop, take-map, take_more, pointwise, IsDistinct, DynBox}
+use Rattle.jc_invoke.proofs.Common.{HasRunEach, IsTicketRun, KeepsRunsRoom, TakesKey, IsRoomFor, IsNextRoom, RunBehavior, in_boxes, Batches, RoundRoom, is_among, Bytes, RunState, claims_after, done_of, done_room, reservations_of, reserved_keys, WriteCallState, asked_keys, no_writes, reserved_by, Answers, Agent, TicketClaim, ◌≡◌, ◌≤◌, ◌<◌, ◌+◌, ◌++◌, ℕ, zero, suc, List, [], ◌∷◌, length, map, set, take, drop, get_or, Bool, false, true, Option, Some, vec_capacity, refl, sym, ap, subst, ◌∙◌, arith, drop_more, length-append, map-append, take-append-drop, take-map, take_more, pointwise, IsDistinct, DynBox}
 use Rattle.jc_invoke.proofs.Runs.{claims_push, new_claim, runs_push}
 
 pub record RoomLeft (through : Bool) (all place : ℕ) (room : RoundRoom) : Type 0 where
@@ -31,11 +31,6 @@ keeps_both a b c one two = record {
   runs_room = two.runs_room ∙ one.runs_room;
   quiet = λ off. let first = one.quiet off in let second = two.quiet (one.through_is ∙ off) in (second.0 ∙ first.0, second.1 ∙ first.1);
 }
-
--- a run asks the writer only in a cache that writes through
-pub only_through : (through : Bool) (effect result : Option Change) (change : Change) → result ≡ (if through then effect else None) → result ≡ Some change → through ≡ false → ⊥
-only_through true effect result change is some off = cc
-only_through false effect result change is some off = cc
 
 pub keeps_noted : (room room' : RoundRoom) → room'.through ≡ room.through → vec_capacity room'.runs ≡ vec_capacity room.runs → (room.through ≡ false → ⊥) → KeepsRunsRoom room room'
 keeps_noted room room' through runs never = record { through_is = through; runs_room = runs; quiet = λ off. absurd (never off) }

@@ -190,9 +190,6 @@ or_false false b e h = h
 some_not : {A : Type 0} (x : A) → None ≡ Some x → ⊥
 some_not x h = cc
 
-none_not : {A : Type 0} (x : A) → Some x ≡ None → ⊥
-none_not x h = cc
-
 no_true : false ≡ true → ⊥
 no_true h = cc
 

@@ -1,5 +1,5 @@
 -- The callers' order, seen from its end.
-use Rattle.std.proofs.Common.{◌≡◌, ◌==◌, ◌&&◌, ◌||◌, ℕ, List, [], ◌∷◌, ◌++◌, Bool, true, false, not, nat_lt, ◌+◌, ◌<◌, length, take, drop, get_or, refl, sym, ap, ◌∙◌, arith, Option, None, Some, append_assoc}
+use Rattle.std.proofs.Common.{◌≡◌, ◌==◌, ◌&&◌, ◌||◌, ℕ, List, [], ◌∷◌, ◌++◌, Bool, true, false, not, nat_lt, ◌+◌, ◌<◌, length, take, drop, get_or, refl, sym, ap, ◌∙◌, arith, None}
 use Rattle.std.specs.List.{list_all}
 use Rattle.std.specs.Cmp.Lexicographic.{pointwise}
 use Rattle.std.proofs.lemmas.List.{take_more, take-append-drop}
@@ -14,7 +14,6 @@ use Rattle.jc_model.specs.declared.event.Out.{Out}
 use Rattle.jc_model.specs.declared.event.Reply.{Reply}
 use Rattle.jc_model.specs.declared.event.Cause.{Cause}
 use Rattle.jc_model.specs.Cache.{Bytes}
-use Rattle.jc_model.specs.Group.{evicted_events}
 use Rattle.jc_model.specs.Legal.{may_come, may_follow, in_order}
 use Rattle.jc_model.specs.Reader.{comes_before}
 use Rattle.jc_model.proofs.CallerLemmas.{follows_all, order-last}
@@ -103,15 +102,3 @@ evict_follow event key cause = refl
 evict_follows : (events : List Event) (key : Bytes) (cause : Cause) → follows_all events (Evict key cause) ≡ true
 evict_follows [] key cause = refl
 evict_follows (x ∷ xs) key cause = and_from _ _ (evict_follow x key cause) (evict_follows xs key cause)
-
--- a step that may come behind all events, and an eviction of its key, leave the callers' order
-pub order-step : (events : List Event) (caller : Caller) (op : Op) (key : Bytes) (out : Out) (reply : Reply) (evicted : Option Cause)
-    → in_order events ≡ true → list_all (λ e. may_come e caller key) events ≡ true
-    → in_order (events ++ (Step caller op key out None reply ∷ evicted_events key evicted)) ≡ true
-order-step events caller op key out reply None order comes =
-    order-last events (Step caller op key out None reply) ∙ and_from _ _ order (comes_follows events caller op key out reply ∙ comes)
-order-step events caller op key out reply (Some cause) order comes =
-    let step = Step caller op key out None reply in
-    let here : in_order (events ++ step ∷ []) ≡ true = order-last events step ∙ and_from _ _ order (comes_follows events caller op key out reply ∙ comes) in
-    ap in_order (sym (append_assoc events (step ∷ []) (Evict key cause ∷ [])))
-    ∙ order-last (events ++ step ∷ []) (Evict key cause) ∙ and_from _ _ here (evict_follows (events ++ step ∷ []) key cause)

@@ -1,5 +1,5 @@
 -- The parts of a legal history.
-use Rattle.std.proofs.Common.{◌≡◌, ◌==◌, ◌≤◌, ℕ, ◌+◌, ◌<◌, List, ◌∷◌, length, drop, get_or, suc, add-one, drop-cons, Ok, true, refl, sym, ap, subst}
+use Rattle.std.proofs.Common.{◌≡◌, ◌==◌, ◌≤◌, List, length, Ok, true, refl}
 use Rattle.std.specs.List.{list_all}
 use Rattle.std.proofs.lemmas.Bool.{and_parts, and_from}
 use Rattle.std.specs.FinMap.{from_entries}
@@ -7,13 +7,12 @@ use Rattle.jc_types.specs.declared.config.Config.{Config}
 use Rattle.jc_types.specs.Limits.{check}
 use Rattle.jc_types.specs.Stripes.{stripe_of}
 use Rattle.jc_model.specs.declared.event.Event.{Event}
-use Rattle.jc_model.specs.declared.reader.Stage.{Stage}
 use Rattle.jc_model.specs.declared.reader.Stage.TheVariants.{Outside}
-use Rattle.jc_model.specs.Cache.{Bytes, Cache}
+use Rattle.jc_model.specs.Cache.{Bytes}
 use Rattle.jc_model.specs.Listed.{has_distinct_keys}
 use Rattle.jc_model.specs.Group.{cache_after_groups}
 use Rattle.jc_model.specs.Legal.{Legal, is_of_stripe, in_order}
-use Rattle.jc_model.specs.Reader.{first_stripe, are_of_one_stripe, Accepts, Fits, then_cache, then_stage}
+use Rattle.jc_model.specs.Reader.{first_stripe, are_of_one_stripe, Accepts}
 use Rattle.jc_model.proofs.CallerLemmas.{opening_of}
 use Rattle.jc_model.proofs.Openings.{opening_few, opening_own, of_first}
 use Rattle.jc_model.proofs.Readings.{reads_iff}
@@ -49,15 +48,3 @@ legal_few config opening events h = opening_few config h.stripe opening h.once h
 pub legal_of_one : (config : Config) (opening : List (Bytes × Bytes)) (events : List Event) → Legal config opening events → are_of_one_stripe config.stripes opening events ≡ true
 legal_of_one config opening events h =
     of_first config.stripes h.stripe opening events (and_from _ _ (opening_own config h.stripe opening h.opens) h.own)
-
--- one event of a list
-pub drop_next : (events : List Event) (place : ℕ) (e : Event) → place < length events → e ≡ get_or events place e → drop place events ≡ e ∷ drop (place + 1) events
-drop_next events place e h is = rw (add-one, drop-cons events place e) (ap (λ x. x ∷ drop (suc place) events) (sym is))
-
-pub accepts_next : (config : Config) (place : ℕ) (cache : Cache) (stage : Stage) (events : List Event) (e : Event) → place < length events → e ≡ get_or events place e
-    → Accepts config place cache stage (drop place events) → Fits config cache stage e × Accepts config (place + 1) (then_cache cache stage e) (then_stage config cache place stage e) (drop (place + 1) events)
-accepts_next config place cache stage events e h is a = let P : List Event → Type 0 = λ es. Accepts config place cache stage es in subst P (drop_next events place e h is) a
-
-pub next_accepts : (config : Config) (place : ℕ) (cache : Cache) (stage : Stage) (events : List Event) (e : Event) → place < length events → e ≡ get_or events place e
-    → Fits config cache stage e → Accepts config (place + 1) (then_cache cache stage e) (then_stage config cache place stage e) (drop (place + 1) events) → Accepts config place cache stage (drop place events)
-next_accepts config place cache stage events e h is fits a = let P : List Event → Type 0 = λ es. Accepts config place cache stage es in subst P (sym (drop_next events place e h is)) (fits, a)

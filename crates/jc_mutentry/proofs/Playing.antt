@@ -179,23 +179,9 @@ pub false-and : (b : Bool) → b && false ≡ false
 false-and true = refl
 false-and false = refl
 
-cond-same : {A : Type 0} (b : Bool) (x : A) → cond b x x ≡ x
-cond-same true x = refl
-cond-same false x = refl
-
 pub none-used : (b : Bool) → cond (is_some (cond b (failed_in load.NotAsked) None)) effect.Keep effect.Keep ≡ effect.Keep
 none-used true = refl
 none-used false = refl
-
-pub play-none : (i : Option Bytes) (rt : Bool) (a : LoadAnswer) → IsPlayed (record { initial = i; may_load = rt; load = load.NotAsked; effect = effect.Keep }) a [] [] None
-play-none i rt a =
-    let made = cond-same (fails rt i a []) [] in
-    record {
-      after = subst (λ cs. IsAfter (record { initial = i; may_load = rt; load = load.NotAsked; effect = effect.Keep }) cs []) (sym made)
-          (record { asked = sym (false-and (rt && is_none i)); net = sym (none-used (uses_load rt i [])); answers_are = refl });
-      said = ap (λ u. answer_if u a) (sym (ap (uses_load rt i) made ∙ false-and (rt && is_none i)));
-      value = refl;
-    }
 
 pub played_answers-is : (e : EntryState) (a : LoadAnswer) (calls : List EntryCall) (answers : List EntryAnswer) (last : Option Bytes)
     → IsPlayed e a calls answers last → answers ≡ played_answers e.may_load e.initial a calls

@@ -3,7 +3,7 @@
 --     NextRun, processes_next    the first run of a processor
 --     report_due                 the writer's report on it
 --     run_over                   what is left, and what was answered
---     loads_over, writes_over, processes_over    no answer is left
+--     processes_over    no answer is left
 use Rattle.std.proofs.Common.{◌≡◌, ◌++◌, List, [], ◌∷◌, length, map, reverse, Bool, true, false, Option, vec_len, refl, sym, ap, subst, ◌∙◌}
 use Rattle.std.proofs.lemmas.List.{reverse-reverse}
 use Rattle.std.specs.Global.{Vec}
@@ -123,16 +123,6 @@ module _ (config : Config) (round : Round) (after : Vec (ProcessResult Claim)) (
 
 none_back : {X : Type 0} (xs : List X) → reverse xs ≡ [] → length xs ≡ 0
 none_back xs is = ap length (sym (reverse-reverse xs) ∙ ap reverse is)
-
-pub loads_over : (config : Config) (round : Round) (done : Vec (LoadResult Claim)) → AreAnswers config round (answers.Loads done) [] → vec_len done ≡ 0
-loads_over config (LoadAll q) done are = done.ok.0 ∙ none_back done.items are.0
-loads_over config (WriteAll q) done are = absurd are
-loads_over config (ProcessAll q) done are = absurd are
-
-pub writes_over : (config : Config) (round : Round) (done : Vec (WriteResult Claim)) → AreAnswers config round (answers.Writes done) [] → vec_len done ≡ 0
-writes_over config (WriteAll q) done are = done.ok.0 ∙ none_back done.items are.0
-writes_over config (LoadAll q) done are = absurd are
-writes_over config (ProcessAll q) done are = absurd are
 
 none_run : (through : Bool) (q : ProcessRound) (done : Vec (ProcessResult Claim)) (written deleted : Vec (WriteResult Claim)) (runs : List RunState) → [] ≡ reservations_of runs → reverse done.items ≡ map done_of runs
     → reverse written.items ≡ reports through false q.written runs → reverse deleted.items ≡ reports through true q.deleted runs → (vec_len done ≡ 0) × (vec_len written ≡ 0) × (vec_len deleted ≡ 0)

@@ -2,14 +2,12 @@
 --     held_less              keys that were put off in each round, of fewer keys
 --     none_run               before the first round
 --     run_more               one round more
---     some_one, some_more    rounds after which one has asked have asked
---     spent_more, spent_none  nothing is left to ask outside with: one of the rounds so far has asked
-use Rattle.std.proofs.Common.{◌≡◌, ◌⊎◌, inl, inr, ◌≤◌, ◌++◌, ℕ, List, [], ◌∷◌, append-nil, length, slice_get, false, true, true≢false, Bool, ◌||◌, Ok, Err, IfNone, Option, None, Some, refl, sym, ap, ◌∙◌, subst}
+--     some_more    rounds after which one has asked have asked
+use Rattle.std.proofs.Common.{◌≡◌, ◌⊎◌, inl, inr, ◌≤◌, ◌++◌, ℕ, List, [], ◌∷◌, append-nil, length, slice_get, false, true, true≢false, Bool, ◌||◌, Ok, Err, Some, refl, sym, ap, ◌∙◌, subst}
 use Rattle.std.proofs.lemmas.List.Concat.{flat_map-append}
 use Rattle.std.proofs.lemmas.List.Folds.{list_any-append}
 use Rattle.std.specs.List.{IsAmong}
 use Rattle.std.specs.Cmp.Lexicographic.{pointwise}
-use Rattle.std.specs.Prelude.{◌==◌}
 use Rattle.jc_types.specs.declared.caller.Caller.{Caller}
 use Rattle.jc_model.specs.Batches.{is_among}
 use Rattle.jc_model.specs.Cache.{Bytes}
@@ -174,14 +172,3 @@ module _ {I J : Type 0} {D : I → Type 0} {E : J → Type 0} where
 pub some_more : {A : Type 0} (xs ys : List A) → (ys ≡ [] → ⊥) → xs ++ ys ≡ [] → ⊥
 some_more [] ys some is = some is
 some_more (x ∷ xs) ys some is = cc
-
-pub some_one : {A : Type 0} (x : A) → x ∷ [] ≡ [] → ⊥
-some_one x is = cc
-
-pub spent_more : {A B : Type 0} (left : Option A) (xs ys : List B) → IfNone left (ys ≡ [] → ⊥) → IfNone left (xs ++ ys ≡ [] → ⊥)
-spent_more None xs ys spent = some_more xs ys spent
-spent_more (Some l) xs ys spent = tt
-
-pub spent_none : {A B : Type 0} (left : Option A) (xs : List B) → left ≡ None → IfNone left (xs ≡ [] → ⊥) → xs ≡ [] → ⊥
-spent_none None xs none spent = spent
-spent_none (Some l) xs none spent = cc

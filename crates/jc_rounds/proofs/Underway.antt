@@ -8,7 +8,7 @@
 --     first_ticket, first_join    the first of what is out is of the first key that is so far
 --     stay_itself, stay_on, stay_set    keys that have ended stay so
 --     under_set, under_next, settled_set, settled_next    the keys before a place, and from it on
-use Rattle.std.proofs.Common.{◌≡◌, ◌==◌, ◌⊎◌, ⊎_elim, inl, inr, ◌<◌, ◌≤◌, ◌+◌, ◌-◌, ℕ, zero, suc, List, [], ◌∷◌, ◌++◌, length, length-set, set, reverse, Bool, true, false, None, Some, Result, Ok, Err, nat_lt, if◌then◌else◌, get_or, slice_get, refl, sym, ap, subst, ◌∙◌, arith}
+use Rattle.std.proofs.Common.{◌≡◌, ◌⊎◌, ⊎_elim, inl, inr, ◌<◌, ◌≤◌, ◌+◌, ◌-◌, ℕ, zero, suc, List, [], ◌∷◌, ◌++◌, length, length-set, set, reverse, Bool, true, false, None, Some, Result, Ok, Err, nat_lt, if◌then◌else◌, get_or, slice_get, refl, sym, ap, subst, ◌∙◌, arith}
 use Rattle.std.proofs.lemmas.List.{length-append, reverse-append}
 use Rattle.std.proofs.lemmas.Option.{same_Some, slice_get-get_or}
 use Rattle.std.specs.List.{IsDistinct}
@@ -372,9 +372,6 @@ pub picked_not_joined : (p : Polled) (q : Progress) → IsPicked p q → is_join
 picked_not_joined p q is = settled_not_joined q (picked_settled p q is)
 
 -- 5. The ends of the loops.
-
-pub none_before : (has : Progress → Bool) (ps : List Progress) → AreUnder has 0 ps
-none_before has ps place p less at = absurd (omega arith)
 
 pub place_near : (ps : List Progress) (i : ℕ) (p : Progress) → slice_get ps i ≡ Some p → i < length ps
 place_near [] i p at = cc

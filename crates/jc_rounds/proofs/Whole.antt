@@ -36,7 +36,7 @@ use Rattle.jc_rounds.specs.declared.progress.Progress.{Progress}
 use Rattle.jc_rounds.specs.declared.progress.Progress.TheVariants.{Waiting, Reserved, Joined, Ended}
 use Rattle.jc_rounds.specs.Recorded.{are_before}
 use Rattle.jc_rounds.specs.Seats.{view_at, view_of}
-use Rattle.std.proofs.Common.{◌==◌, map, true≢false, vec_capacity}
+use Rattle.std.proofs.Common.{map, true≢false, vec_capacity}
 use Rattle.std.proofs.lemmas.Option.{same_Some}
 use Rattle.std.specs.Map.{keys_of}
 use Rattle.std.specs.Cmp.Lexicographic.{pointwise}
@@ -275,9 +275,6 @@ module _ {I J : Type 0} {D : I → Type 0} {E : J → Type 0} where
           ∙ new_key past.caller cache.config (ops_of begun.targets.now) begun.progress.items (map reserved_by begun.tickets.items) place key op (Ended e) started.on.distinct (ap (λ t. slice_get (ops_of t.now) place) same ∙ at) (one.stay.ended place e there) refl started.on.under.calls_are))
 
 -- 4. Keys that wait are refused.
-
-refused_ended : (p : Progress) (e : Result Reply Refusal) → p ≡ Ended e → refused_if_waiting p ≡ Ended e
-refused_ended p e is = ap refused_if_waiting is
 
 map_there : (ps : List Progress) (i : ℕ) (p : Progress) → slice_get ps i ≡ Some p → slice_get (map refused_if_waiting ps) i ≡ Some (refused_if_waiting p)
 map_there [] i p at = cc

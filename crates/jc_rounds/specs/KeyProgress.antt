@@ -7,7 +7,6 @@
 --     StillWaits           the key at this place waits
 --     all_waiting          so many keys, before the first round
 --     StayEnded            there are as many keys later, and those that have ended stay so
---     OnlyEnd              each key is later as it was, or it has ended
 --     refusal_in           the fault or refusal that a key has ended in, if it did
 --     failure_at           that of a key that is so far
 --     failures             these, of all keys
@@ -17,7 +16,7 @@
 --     KeepsCause           a cause that was noted before stays
 --     IsNoted              a cause that was noted before stays; without one, it is the first of these, if there are such
 --     refused_if_waiting   a key that waits is refused, since the allocation of a later round failed; any other is as it was
-use Rattle.std.specs.Prelude.{◌≡◌, ◌⊎◌, ◌++◌, ℕ, zero, suc, List, [], ◌∷◌, length, Bool, true, false, Option, None, Some, IfSome, Result, Ok, Err, slice_get}
+use Rattle.std.specs.Prelude.{◌≡◌, ◌++◌, ℕ, zero, suc, List, [], ◌∷◌, length, Bool, true, false, Option, None, Some, IfSome, Result, Ok, Err, slice_get}
 use Rattle.std.specs.List.{IsAmong, filter_map}
 use Rattle.jc_types.specs.declared.refusal.Refusal.{Refusal}
 use Rattle.jc_types.specs.declared.refusal.Refusal.TheVariants.{OutOfMemory}
@@ -72,10 +71,6 @@ refused_if_waiting (Ended ended) = Ended ended
 pub record StayEnded (progress later : List Progress) : Type 0 where
   pub many : length later ≡ length progress
   pub ended : (place : ℕ) (e : Result Reply Refusal) → slice_get progress place ≡ Some (Ended e) → slice_get later place ≡ Some (Ended e)
-
-abbrev pub OnlyEnd : List Progress → List Progress → Type 0
-OnlyEnd progress later = (place : ℕ) (p : Progress) → slice_get progress place ≡ Some p
-    → (slice_get later place ≡ Some p) ⊎ ((ended : Result Reply Refusal) × (slice_get later place ≡ Some (Ended ended)))
 
 -- 2. What failed.
 

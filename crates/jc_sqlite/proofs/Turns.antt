@@ -1,5 +1,5 @@
 -- How far the tries to open something have come.
-use Rattle.std.proofs.Common.{◌≡◌, ◌≢◌, ℕ, zero, suc, ◌+◌, ◌-◌, ◌<◌, ◌≤◌, Result, Ok, Err, inl, inr, subst, arith}
+use Rattle.std.proofs.Common.{◌≡◌, ◌≢◌, ℕ, zero, suc, ◌+◌, ◌-◌, ◌<◌, Result, Ok, Err, inl, inr, subst, arith}
 use Rattle.jc_sqlite.specs.declared.failure.OpenCause.{OpenCause}
 use Rattle.jc_sqlite.specs.declared.failure.OpenCause.TheVariants.{Locked}
 use Rattle.jc_sqlite.specs.Opening.{OpensInTurns}
@@ -21,11 +21,6 @@ module _ {O T : Type 0} (opens : O → Result T OpenCause → O → Type 0) (pau
   goes all at old now found after within so_far tried paused answer new rest =
       let one : suc (all - (at + 1)) ≡ all - at = omega (arith, within) in
       so_far answer new (subst (λ left. OpensInTurns opens pauses left now answer new) one (inr (found, after, tried, paused, rest)))
-
-  pub ends_last : (all at : ℕ) (old now new : O) (answer : Result T OpenCause) → all ≤ at → Turns all (all - at) old now → opens now answer new → OpensInTurns opens pauses all old answer new
-  ends_last all at old now new answer over so_far opened =
-      let none : zero ≡ all - at = omega (arith, over) in
-      so_far answer new (subst (λ left. OpensInTurns opens pauses left now answer new) none opened)
 
   -- what each try's answer is, the last one's is
   pub in_the_end : (P : Result T OpenCause → Type 0) → ((old : O) (answer : Result T OpenCause) (new : O) → opens old answer new → P answer)

@@ -7,9 +7,8 @@ use Rattle.jc_types.specs.declared.caller.Caller.{Caller}
 use Rattle.jc_types.specs.declared.limits.TheConstants.{LAST_NUMBER}
 use Rattle.jc_model.specs.Cache.{Bytes}
 use Rattle.std.proofs.Common.{Option, None, find, nat_lt, ◌==◌, ◌&&◌, ◌-◌, cond, slice_get}
-use Rattle.std.proofs.lemmas.Bool.{and_parts, and_from, eqb-true, false≢true}
-use Rattle.std.specs.Bool.{Decides}
-use Rattle.std.proofs.lemmas.Bool.Decides.{nat_tests, same_from_decides, Decides-eqb}
+use Rattle.std.proofs.lemmas.Bool.{and_parts, and_from, eqb-true}
+use Rattle.std.proofs.lemmas.Bool.Decides.{nat_tests}
 use Rattle.std.proofs.lemmas.List.Folds.{list_all-append}
 use Rattle.std.specs.List.{list_all}
 use Rattle.std.specs.Cmp.Lexicographic.{pointwise}
@@ -23,12 +22,12 @@ use Rattle.jc_inflight.specs.Dissolving.{after_dissolve}
 use Rattle.jc_stripe.specs.Tickets.{JoinClaim}
 use Rattle.jc_stripe.specs.Phases.{with_joiner, without_joiner}
 use Rattle.jc_stripe.specs.declared.ticket.Reservation.{Reservation}
-use Rattle.jc_stripe.specs.State.{State, IsIdle, IsJoined, is_key, with_reservation, without_key}
+use Rattle.jc_stripe.specs.State.{State, IsJoined, is_key, with_reservation, without_key}
 use Rattle.jc_stripe.specs.Tests.{is_clear}
 use Rattle.jc_stripe.specs.Generations.{after_renewal}
 use Rattle.jc_stripe.specs.Renewal.{RenewsIfFull, is_renewable}
-use Rattle.jc_stripe.specs.DeskState.{DeskState, HasStepsBefore, IsDesk, is_joined_before, nothing_is_out, next_caller, may_call_next}
-use Rattle.jc_stripe.specs.DeskPhases.{has_joined_load, is_join_out, newest}
+use Rattle.jc_stripe.specs.DeskState.{DeskState, HasStepsBefore, IsDesk, is_joined_before, next_caller, may_call_next}
+use Rattle.jc_stripe.specs.DeskPhases.{newest}
 
 -- Joiners whose calls are before a number.
 
@@ -93,31 +92,6 @@ found_below (Some j) js join next is out all =
 -- so the call of a join that is out is before the next number
 pub join_below : (state : State) (join : JoinClaim) (next : ℕ) → IsJoined state join → AreJoinedBefore state next → join.caller.call < next
 join_below state join next out all = found_below (find (belongs_to join.caller join.key) state.joiners) state.joiners join next refl out all
-
-decides_joined : (o : Option Joiner) (load : ℕ) → Decides (has_joined_load o load) (IsSomeAnd o (λ j. j.load ≡ load))
-decides_joined None load = (λ h. cc, λ h. absurd h)
-decides_joined (Some j) load = Decides-eqb j.load load
-
--- a test of a join that is out is the test of its joiner
-pub joined_test : (b : Bool) (state : State) (join : JoinClaim) → Decides b (IsJoined state join) → b ≡ is_join_out state join
-joined_test b state join test = same_from_decides b (is_join_out state join) test (decides_joined (find (belongs_to join.caller join.key) state.joiners) join.load)
-
-some_long : {X : Type 0} (x : X) (xs : List X) → (length (x ∷ xs) == 0) ≡ false
-some_long x xs = grind (arith, nat_tests)
-
-decides_idle : (rs : List Reservation) (js : List Joiner) → Decides ((length rs == 0) && (length js == 0)) ((rs ≡ []) × (js ≡ []))
-decides_idle [] [] = (λ h. (refl, refl), λ h. refl)
-decides_idle [] (j ∷ js) = (λ h. absurd (false≢true (sym (some_long j js) ∙ h)), λ h. let no : j ∷ js ≡ [] = h.1 in cc)
-decides_idle (r ∷ rs) js =
-    (λ h. absurd (false≢true (sym (ap (λ b. b && (length js == 0)) (some_long r rs)) ∙ h)), λ h. let no : r ∷ rs ≡ [] = h.0 in cc)
-
--- a test that nothing is out tests the lengths
-pub idle_test : (b : Bool) (state : State) → Decides b (IsIdle state) → b ≡ nothing_is_out state
-idle_test b state test =
-    let d = decides_idle state.reservations state.joiners in
-    let both : Decides b ((state.reservations ≡ []) × (state.joiners ≡ [])) =
-    (λ h. ((test.0 h).reservations, (test.0 h).joiners), λ h. test.1 (record { reservations = h.0; joiners = h.1 })) in
-    same_from_decides b (nothing_is_out state) both d
 
 pub renewed_case : (old new : State) → RenewsIfFull old new → (new ≡ old) ⊎ (new ≡ after_renewal old)
 renewed_case old new r =

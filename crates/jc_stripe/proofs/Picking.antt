@@ -1,16 +1,13 @@
 -- What a joiner is told, and what that leaves.
-use Rattle.std.proofs.Common.{◌≡◌, ◌||◌, ◌+◌, ◌*◌, zero-add, ℕ, List, [], ◌∷◌, length, count_by, Bool, true, false, cond, not, Option, None, Some, find, option_map, slice_get, refl, sym, ap, ◌∙◌, subst, IsSomeAnd}
+use Rattle.std.proofs.Common.{◌≡◌, ◌||◌, ◌+◌, ◌*◌, zero-add, ℕ, List, [], ◌∷◌, length, count_by, Bool, true, false, cond, not, Option, None, Some, find, option_map, refl, sym, ap, ◌∙◌, subst, IsSomeAnd}
 use Rattle.std.specs.List.{list_any, list_all}
 use Rattle.std.proofs.lemmas.Bool.{and_parts}
 use Rattle.jc_types.specs.declared.caller.Caller.{Caller}
 use Rattle.jc_types.specs.declared.limits.TheConstants.{STEP_PLACES, HIT_PLACES}
 use Rattle.jc_model.specs.declared.event.Op.TheVariants.{Get}
-use Rattle.jc_model.specs.declared.event.Out.{Out}
 use Rattle.jc_model.specs.declared.event.Reply.{Reply}
-use Rattle.jc_model.specs.declared.event.Event.{Event}
 use Rattle.jc_model.specs.declared.event.Event.TheVariants.{Step}
 use Rattle.jc_model.specs.Cache.{Bytes}
-use Rattle.jc_history.specs.Past.{reply_in}
 use Rattle.jc_inflight.specs.declared.joiner.Joiner.{Joiner}
 use Rattle.jc_inflight.specs.declared.joiner.JoinState.{JoinState}
 use Rattle.jc_inflight.specs.declared.joiner.JoinState.TheVariants.{Waiting, Answered, Again}
@@ -23,7 +20,7 @@ use Rattle.jc_stripe.specs.State.{State, IsJoined, waits}
 use Rattle.jc_stripe.specs.Polled as polled
 use Rattle.jc_stripe.specs.declared.stripe.Stripe.TheInside.{Inside}
 use Rattle.jc_stripe.specs.Inside.{IsStripe, state_of}
-use Rattle.jc_stripe.specs.Phases.{PicksUp, is_other_join, told_to, IsSharedStep}
+use Rattle.jc_stripe.specs.Phases.{is_other_join, told_to, IsSharedStep}
 use Rattle.jc_stripe.specs.Reached.{IsReached, AllJoin, JoinFits, are_apart}
 use Rattle.jc_stripe.specs.Appending.{HasToldStep, after_pick_up}
 use Rattle.jc_types.proofs.CallerLemmas.{found_test}
@@ -124,32 +121,3 @@ pick_sound i join js t sound h e = record {
     took_reached Waiting = sound.state
 
 -- 3. What a pick-up tells.
-
-history_after : (old : State) (join : JoinClaim) (t : JoinState) → (after_pick_up old join t).history ≡ old.history
-history_after old join (Answered place shared) = refl
-history_after old join Again = refl
-history_after old join Waiting = refl
-
-reply_same : (event : Option Event) (caller : Caller) (key : Bytes) (out : Out) (shared : ℕ) (told reply : Reply) → event ≡ Some (Step caller Get key out (Some shared) told) → Some reply ≡ reply_in event → told ≡ reply
-reply_same event caller key out shared told reply is h = same told reply (sym (ap reply_in is) ∙ sym h)
-  where
-    same : (x y : Reply) → Some x ≡ Some y → x ≡ y
-    same x y h = cc
-
-pub took_answer : (old new : State) (join : JoinClaim) (place shared : ℕ) (reply : Reply) (events : List Event) → IsJoined old join → told_to old join ≡ Some (Answered place shared) → HasToldStep old join (Answered place shared)
-    → new ≡ after_pick_up old join (Answered place shared) → events ≡ new.history → Some reply ≡ reply_in (slice_get events place) → PicksUp old join (polled.Answer reply place shared) new
-took_answer old new join place shared reply events joined heard step left same replied =
-    let events_are : events ≡ old.history = same ∙ ap (λ (s : State). s.history) left in
-    let is = reply_same (slice_get old.history place) join.caller join.key step.1.0 shared step.0 reply step.1.1 (replied ∙ ap (λ es. reply_in (slice_get es place)) events_are) in
-    (joined, heard, (step.1.0, step.1.1 ∙ ap (λ r. Some (Step join.caller Get join.key step.1.0 (Some shared) r)) is), left)
-
--- the reply that is read is there
-pub reply_there : (old new : State) (join : JoinClaim) (place shared : ℕ) (events : List Event) → HasToldStep old join (Answered place shared) → new ≡ after_pick_up old join (Answered place shared) → events ≡ new.history
-    → reply_in (slice_get events place) ≡ None → ⊥
-reply_there old new join place shared events step left same none =
-    let events_are : events ≡ old.history = same ∙ ap (λ (s : State). s.history) left in
-    let some : reply_in (slice_get events place) ≡ Some step.0 = ap (λ es. reply_in (slice_get es place)) events_are ∙ ap reply_in step.1.1 in
-    not_both (reply_in (slice_get events place)) step.0 some none
-  where
-    not_both : (o : Option Reply) (x : Reply) → o ≡ Some x → o ≡ None → ⊥
-    not_both o x g h = cc
