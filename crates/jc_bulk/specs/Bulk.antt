@@ -1,24 +1,27 @@
 -- Whole calls with many keys.
 --     causes_of      the faults and refusals that a call has met: those of its keys, and those that the writer returned
---     TellsDone      a call that has this cause, if any, and of which these keys failed, returns this: that it is done, or the cause with
---                    the keys that failed
---     TellsFound     the same of a call that gets, with the values that it has found
---     IsBulkCall     a session's next call, carried out for these keys, each of which ended in one way; the loader or the writer was called
---                    once for each of its rounds, and neither was called otherwise. It has a cause exactly if it has met a fault or a
---                    refusal, and that is one of the first that it met
---     DoesAll        such a call, by what it returns that returns nothing of its keys but what failed
---     GetsAll        the same of a call that gets: it returns each key that has a value
+--     TellsDone      the result of a call with this cause, if any, and with these failed keys: that it is done, or the cause with
+--                    the failed keys
+--     TellsFound     as `TellsDone`, for a call that gets, with the values that it has found
+--     IsBulkCall     a session's next call, carried out for these keys, each with its end; the loader or the writer was called
+--                    once for each of its rounds, and neither was called otherwise. It has a cause exactly if it has met a fault
+--                    or a refusal, and the cause is one of the first that it met
+--     DoesAll        such a call, with its result: of its keys it returns only those that failed
+--     GetsAll        such a call that gets, with its result: it returns each key that has a value
 --     NamesNoKey     the fault of a call that is refused whole, with this cause
---     IsRefused      a call that is refused whole returns this
---     OrNoMemory     a call has ended so, or it was refused since an allocation failed before its first phase, and nothing has changed
---     OrRefused      the same, or it was refused since it has too many keys
---     IsLookedAt     the keys that a stripe had as a seat found it between two views, in its one lending there, in which it left it so
---     HasLooked      the keys of all stripes, in their order, of one look at each
+--     IsRefused      the result of a call that is refused whole
+--     OrNoMemory     a call has this outcome; or it was refused because an allocation failed before its first phase, and nothing
+--                    has changed
+--     OrRefused      as `OrNoMemory`; or the call was refused because it has too many keys
+--     IsLookedAt     the keys that a stripe had when a seat found it between two views, in its one lending there, which changed
+--                    nothing
+--     HasLooked      the keys of all stripes, in their order, from one look at each
 --     LooksOnce      a seat has taken the stripe at most once between two views, and has left it as it found it
---     OnlyLooks      the session has looked at each stripe at most once; its steps, its number and all else that it has are as they were
---     LooksFirst     a call on all keys: it has looked at each stripe and found these, and then, from what the session had seen, this was
---                    done
---     SweepsAll      a call on all keys has ended so for the keys that it found, or an allocation failed, and it has only looked
+--     OnlyLooks      the session has looked at each stripe at most once; its steps, its number and the rest of it are unchanged
+--     LooksFirst     a call on all keys: it has looked at each stripe and found these keys, and then this was done, from what the
+--                    session had seen
+--     SweepsAll      a call on all keys has this outcome for the keys that it found; or an allocation failed, and it has only
+--                    looked
 use Rattle.std.specs.Prelude.{◌≡◌, ◌≤◌, ◌<◌, ◌⊎◌, ◌++◌, ℕ, List, [], ◌∷◌, length, map, Option, None, Some, Result, Ok, Err, slice_get}
 use Rattle.std.specs.List.{flat_map}
 use mathlib.Core.List.{IsPrefix}

@@ -1,7 +1,8 @@
 -- How a bulk call is carried out.
---     IsRoomOf    the memory that a call of this kind takes before its first phase, for so many keys in a cache of so many stripes
---     IsRoomOfCall   the same of a call for these keys, which differ, and each of which asks as the call does
---     IsCallEnd      a call for these keys was carried out, and this tells how it has ended, with each key that failed
+--     IsRoomOf    the memory that a call of this kind takes before its first phase, for this number of keys in a cache of this
+--                 number of stripes
+--     IsRoomOfCall   as `IsRoomOf`, for these keys, which differ, and each of which asks outside as the call's kind does
+--     IsCallEnd      a call for these keys was carried out, and this is its end, with each key that failed
 use Rattle.std.specs.Prelude.{◌≡◌, ◌==◌, ◌≤◌, ℕ, List, [], length}
 use Rattle.std.specs.List.{IsDistinct}
 use Rattle.std.specs.Map.{keys_of}

@@ -1,26 +1,28 @@
--- What a bulk call asks outside, in one call for all keys that a round has reserved.
---     items_in, kind_in, room_in    for which asks a call is, of which kind, and for how many more there is room
---     OutsideState    a call by these
---     kind_of         a call of the writer, by whether it deletes
---     no_asks         one that asks for nothing yet
---     with_ask        the same with one ask more
+-- The one call outside that a bulk call makes for all keys that a round has reserved.
+--     items_in, kind_in, room_in    the asks of such a call, its kind, and the number of asks for which it still has room
+--     OutsideState    the model of such a call
+--     kind_of         the kind of a writer's call, by whether it deletes
+--     no_asks         an empty call
+--     with_ask        the call with one ask more
 --     fits            an ask's change is of this kind
---     fits_first      whom a reservation asks first is the one whom calls of this kind ask
---     HasOneToAsk     there is the one whom calls of this kind ask, if there must be
---     AsksAs          calls of this kind ask outside for this operation, if it asks at all; a `Clear` asks nobody
---     MayAskFor       a session may ask for these tickets in a call: it holds no stripe, and has whom to ask; none has asked, all are of the
---                     call's kind, their keys differ, and there is room
---     BulkBehavior    what a loader and a writer may answer when they are called for many keys, and how their states go on
---     bulk_behavior   that of these relations
---     CallsOnce       the loader or the writer was called once for a round, and the other wasn't
+--     fits_first      a reservation asks first whoever calls of this kind ask
+--     HasOneToAsk     the session has a writer, if calls of this kind ask it
+--     AsksAs          this operation asks outside by calls of this kind, if it asks at all; a `Clear` asks nobody
+--     MayAskFor       a session may ask for these tickets in a call: it holds no stripe, and has the one to ask; none has asked,
+--                     all are of the call's kind, their keys differ, and there is room
+--     BulkBehavior    the answers that a loader and a writer may give when they are called for many keys, and the changes of
+--                     their states
+--     bulk_behavior   the behavior of these relations
+--     CallsOnce       the loader or the writer was called once for a round, and the other one wasn't
 --     CallsInRounds   the loader or the writer was called once for each of these rounds, in their order, and neither was called otherwise
---     HaveAsked       a session's loader and its writer were called for exactly these rounds, and are of the same types
+--     HaveAsked       a session's loader and its writer were called for exactly these rounds, and have the same types as before
 --     wanted_changes  each reservation's key, with the change that it asks for
---     IsWrittenOf     a round called the writer, for exactly what these reservations ask for
---     IsAskedOf       a round called the one whom calls of this kind ask, for exactly what these reservations ask for
---     IsRest          what such a call, with room for so many, leaves for a later round: of a call of the loader all its memory
---     IsSpent         the same once none of the answers is left
---     Answered        so it was called for these tickets, and has answered each of them, and this is left for a later round
+--     IsWrittenOf     a round called the writer, for exactly the changes of these reservations
+--     IsAskedOf       a round called the loader or the writer, by this kind, for exactly what these reservations ask for
+--     IsRest          what such a call, with this room, leaves for a later round: all memory of a loader's call, and nothing of a
+--                     writer's
+--     IsSpent         as `IsRest`, once none of the answers is left
+--     Answered        the call was made for these tickets, each of which has an answer, and this is left for a later round
 use Rattle.std.specs.Prelude.{◌≡◌, ◌≤◌, ◌⊎◌, ◌-◌, ◌++◌, ◌==◌, ℕ, List, [], ◌∷◌, length, map, Bool, true, false, Option, None, Some, IsSome}
 use Rattle.std.specs.List.{AllByRecursion, IsDistinct}
 use Rattle.std.specs.Cmp.Lexicographic.{pointwise}

@@ -1,9 +1,10 @@
 -- The rounds of a bulk call.
---     KeysAskAs   calls of this kind ask outside for each operation of the call, if it asks at all
---     IsReady     what a round asks outside with: nothing is asked for yet, it is of the call's kind, and there is room for all keys that a
---                 round may reserve
---     TakesNew    a round of a call of this kind, after one that has asked, takes memory: it writes or deletes, in a cache that writes through
---     RunsOn      rounds of a call, which have asked so
+--     KeysAskAs   each operation of the call asks outside by calls of this kind, if it asks at all
+--     IsReady     the call outside that a round is to make: it has no asks yet, is of the call's kind, and has room for all keys
+--                 that a round may reserve
+--     TakesNew    a round of a call of this kind takes new memory after one that has asked: it writes or deletes, in a cache that
+--                 writes through
+--     RunsOn      rounds of a call, with these calls outside
 use Rattle.std.specs.Prelude.{◌≡◌, ◌≤◌, ℕ, List, [], true, Some, slice_get}
 use Rattle.jc_types.specs.declared.config.Config.{Config}
 use Rattle.jc_model.specs.Cache.{Bytes}

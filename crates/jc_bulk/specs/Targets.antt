@@ -1,4 +1,4 @@
--- The keys of each call, with its operations.
+-- The keys of each call, with their operations.
 --     get_ops, remove_ops, clear_ops, load_ops    each key is got, removed, cleared or loaded
 use Rattle.std.specs.Prelude.{Bool, List}
 use Rattle.jc_model.specs.Cache.{Bytes}

@@ -22,13 +22,13 @@ use jc_types::{Key, Refusal, Value};
 use std::alloc::{AllocError, Global};
 use std::sync::Wait;
 
-/// What a call takes in memory before its first phase. It can't be dropped.
+/// The memory that a call takes before its first phase. It can't be dropped.
 pub(crate) struct Room {
-    /// The memory of its rounds.
+    /// The memory for its rounds.
     rooms: Rooms,
     /// The keys that failed: none yet.
     failed: IndexMap<Key, Refusal>,
-    /// What the first round asks outside with.
+    /// The memory for the first round's call outside.
     outside: OutsideCall,
 }
 
@@ -61,18 +61,18 @@ impl Room {
     }
 }
 
-/// How a call has ended.
+/// The end of a call.
 #[derive(Drop)]
 pub(crate) struct CallEnd {
     /// The first fault or refusal that the call has met, if it met one.
     pub(crate) cause: Option<Refusal>,
-    /// How each key ended.
+    /// The end of each key.
     pub(crate) progress: Vec<Progress>,
     /// Each key that failed, with its fault or its refusal, in the order of the keys.
     pub(crate) failed: IndexMap<Key, Refusal>,
 }
 
-/// Carries out the session's next call, for these keys.
+/// Carries out the session's next call for these keys.
 pub(crate) fn carry_out<R: Wait>(
     alloc: Global,
     rt: &R,
@@ -106,7 +106,7 @@ pub(crate) fn carry_out<R: Wait>(
     }
 }
 
-/// A call that returns nothing of its keys but what failed. There is no limit on how many they are.
+/// Carries out a call that returns only the keys that failed. There is no limit on the number of keys.
 pub(crate) fn call_all<R: Wait>(
     alloc: Global,
     rt: &R,

@@ -1,4 +1,4 @@
-//! What a bulk call returns of its keys: those that failed, and those that have a value.
+//! The keys that a bulk call returns: those that failed, and those that have a value.
 ghost use Rattle.std.specs.Prelude.{◌≡◌, ◌==◌, ◌≤◌, ◌<◌, ◌+◌, ◌++◌, [], length, false, option_map};
 ghost use Rattle.std.specs.List.{IsDistinct, cons_option, list_any};
 ghost use Rattle.std.specs.Map.{keys_of};
@@ -45,7 +45,7 @@ pub(crate) fn add_found(
     }
 }
 
-/// The value that a key's step has replied, if it did.
+/// The value in the reply of a key's step, if there is one.
 fn value_at(progress: &Progress) -> Option<Value>
     ensures { result ≡ value_at progress.now }
 {
@@ -56,7 +56,7 @@ fn value_at(progress: &Progress) -> Option<Value>
     }
 }
 
-/// Adds the entry of a key that has none, after those that are there, if there is something to add. It takes no memory.
+/// Adds an entry for a key behind the others, if there is a value. It takes no memory.
 ///
 /// Conditions: there is room, and the key isn't in the map.
 pub fn insert_some<V: Copy>(map: &mut IndexMap<Key, V>, key: &Key, value: Option<V>)

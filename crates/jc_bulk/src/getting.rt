@@ -20,23 +20,27 @@ use jc_types::{BULK_KEYS_MAX, Key, Refusal, Value};
 use std::alloc::{AllocError, Global};
 use std::sync::Wait;
 
-/// Gets the values of many keys, as the session's next call (JSR 107, `javax.cache.Cache.getAll`). The map that it returns has each
-/// key that has a value, in the order of the keys.
+/// Gets the values of many keys, as the session's next call (JSR 107, `javax.cache.Cache.getAll`). The returned map has each key
+/// that has a value, in the order of the keys.
 ///
-/// The call works in rounds. A round begins each key that it can, in their order and without waiting: a key that has an entry is over
-/// at once, and so is a missing one without read-through; a key that another `get` is loading joins that load; a key that is
-/// reserved otherwise, or whose stripe has as many reservations or joins as may be, is put off to a later round. The loader is then
-/// called once (`loadAll`), for all keys that the round has reserved. Each key is one step of its stripe, with the number of this
-/// one call, and no key is asked for twice. Between two rounds the call waits for a change, with no reservation out. A call of which
-/// no key is put off or joins a load, with at most [`RESERVATIONS_MAX`](jc_types::RESERVATIONS_MAX) keys in each stripe, calls the
-/// loader once, if at all; in a cache that lives on, a full history puts off, too.
+/// The call works in rounds. A round begins each key that it can, in their order and without waiting:
 ///
-/// An `Err` names each key that failed, with its fault (`LoaderFailed`) or its refusal, and has the values of all others. A key is
-/// refused with `HistoryFull` if its stripe's history is near full or a number is at its end. The cause is the first fault or refusal
-/// that the call met. Or the call is refused whole, and nothing changes: there are more than [`BULK_KEYS_MAX`] keys (`TooManyKeys`),
-/// or the memory for its rounds and the results could not be taken (`OutOfMemory`).
+/// - A key that has an entry is done at once, and so is a missing one without read-through.
+/// - A key that another `get` is loading joins that load.
+/// - A key that is reserved otherwise, or whose stripe has as many reservations or joins as it may, is put off to a later round.
 ///
-/// It may wait, as long as the loader does and for other calls' reservations and loads, and holds no stripe meanwhile.
+/// The loader is then called once (`loadAll`), for all keys that the round has reserved. Each key is one step of its stripe, with
+/// the number of this one call, and no key is asked for twice. Between two rounds the call waits for a change, with no
+/// reservation out. If no key is put off or joins a load, and each stripe has at most
+/// [`RESERVATIONS_MAX`](jc_types::RESERVATIONS_MAX) of the keys, the loader is called at most once. In a cache that lives on, a
+/// full history also puts a key off.
+///
+/// An `Err` names each key that failed, with its fault (`LoaderFailed`) or its refusal, and has the values of all others. A key
+/// is refused with `HistoryFull` if its stripe's history is nearly full, or the call's or a reservation's number would overflow.
+/// The cause is the first fault or refusal that the call met. Or the call is refused whole, and nothing changes: there are more
+/// than [`BULK_KEYS_MAX`] keys (`TooManyKeys`), or the memory for its rounds and the results could not be taken (`OutOfMemory`).
+///
+/// It may wait, as long as the loader does and for other calls' reservations and loads. It holds no stripe meanwhile.
 ///
 /// Condition: the session may call the cache.
 pub fn get_all<R: Wait>(
@@ -72,8 +76,8 @@ pub fn get_all<R: Wait>(
     }
 }
 
-/// What a call that gets `keys` keys takes in memory before its first phase, in a cache of `stripes` stripes: room for the call, and
-/// for the values.
+/// The memory that a call for `keys` keys takes before its first phase, in a cache of `stripes` stripes: for the call, and for
+/// the values.
 fn get_room(
     alloc: Global,
     keys: usize,
@@ -86,7 +90,7 @@ fn get_room(
     Ok((room, found))
 }
 
-/// What a call returns that has found these values: them, or its cause with the keys that failed.
+/// The result of a call that has found these values: the values, or its cause with the keys that failed.
 fn with_values(
     cause: Option<Refusal>,
     failed: IndexMap<Key, Refusal>,

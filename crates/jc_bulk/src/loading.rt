@@ -21,7 +21,7 @@ use std::sync::Wait;
 /// loaded is cached, and not written through; a key for which nothing is found keeps what it has. A session without a loader loads
 /// nothing.
 ///
-/// The call works in rounds, asks the loader (`loadAll`), fails and waits as [`get_all`](crate::get_all) does, but for that no key
+/// The call works in rounds, asks the loader (`loadAll`), fails and waits as [`get_all`](crate::get_all) does, except that no key
 /// joins a load.
 ///
 /// An `Err` names each key that failed, with its fault (`LoaderFailed`) or its refusal; every other key is loaded, if it was to be.

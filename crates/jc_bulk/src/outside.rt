@@ -1,4 +1,4 @@
-//! What a bulk call asks outside, in one call for all keys that a round has reserved.
+//! The one call outside that a bulk call makes for all keys that a round has reserved.
 ghost use Rattle.std.specs.Prelude.{◌≡◌, ◌≤◌, ◌+◌, ◌-◌, ◌<◌, ◌++◌, ◌∷◌, ℕ, [], false, length, map, vec_capacity, IfNone, IfOk, IfSome, IsSome};
 ghost use Rattle.jc_model.specs.Batches.{is_among};
 ghost use Rattle.jc_cache.specs.Sessions.{HasAsked};
@@ -17,7 +17,7 @@ use std::alloc::{AllocError, Global};
 use std::marker::Model;
 use std::sync::Wait;
 
-/// What a bulk call asks, and for what.
+/// The kind of a bulk call's calls outside.
 #[derive(Clone, Copy)]
 pub(crate) enum Kind {
     /// The loader.
@@ -28,12 +28,12 @@ pub(crate) enum Kind {
     Delete,
 }
 
-/// One call of the loader or the writer, with what it is to ask for and all the memory that this takes. It can't be dropped.
+/// One call of the loader or the writer, with its asks and all the memory that it takes. It can't be dropped.
 pub(crate) struct OutsideCall {
     of: CallOf,
 }
 
-/// What is called: the loader or the writer.
+/// The loader's or the writer's call.
 enum CallOf {
     /// The loader.
     Loads(LoadCall),
@@ -53,7 +53,7 @@ impl Kind {
     ghost use Rattle.std.specs.Prelude.{IfOk};
     ghost use Rattle.jc_bulk.specs.Outside.{no_asks};
 
-    /// A call of this kind that asks for nothing yet, with room for `n` keys. An `Err` says that an allocation failed.
+    /// An empty call of this kind, with room for `n` keys. An `Err` says that an allocation failed.
     pub(crate) fn call(self, alloc: Global, n: usize) -> Result<OutsideCall, AllocError>
         ensures { IfOk result (λ call. call ≡ no_asks self n) }
     {
@@ -67,7 +67,7 @@ impl Kind {
 }
 
 impl OutsideCall {
-    /// What it asks, and for what.
+    /// The kind of this call.
     pub(crate) fn kind(&self) -> Kind
         ensures { result ≡ self.now.kind }
     {
@@ -83,9 +83,9 @@ impl OutsideCall {
         }
     }
 
-    /// Adds an ask, after those that are there. It takes no memory.
+    /// Adds an ask behind the others. It takes no memory.
     ///
-    /// Conditions: there is room; the ask is of this kind; its key isn't that of any of them.
+    /// Conditions: there is room; the ask is of this kind; no other ask has its key.
     fn push(&mut self, ask: Ask)
         requires room { 0 < self.old.room }
         requires kind { fits self.old.kind ask.change }
@@ -98,13 +98,13 @@ impl OutsideCall {
         }
     }
 
-    /// Asks the session's loader or writer once, for all of these tickets. It returns what was answered, the fault that the writer
-    /// returned, if it failed, and the memory of a call of the loader, which serves a later round.
+    /// Asks the session's loader or writer once, for all of these tickets. It returns the answers, the fault that the writer
+    /// returned, if it failed, and the memory of a loader's call for a later round.
     ///
     /// It may wait, as long as the loader or the writer does. It takes no memory of its own.
     ///
-    /// Conditions: the session holds no stripe; there are tickets, none of which has asked, all of this kind and of keys that differ, and
-    /// there is room for them; if they write or delete, the session has a writer.
+    /// Conditions: the session holds no stripe; there are tickets, all of this kind, and none of them has asked; their keys
+    /// differ, and there is room for them; if they write or delete, the session has a writer.
     pub(crate) fn ask_for<R: Wait>(
         self,
         rt: &R,
@@ -134,8 +134,8 @@ impl OutsideCall {
         }
     }
 
-    /// What a later round asks outside with, of what a round has left, whose answers were all taken: nothing is asked for yet. It takes no
-    /// memory. A call of the writer leaves none.
+    /// Makes an empty call for a later round of what a round has left, once all its answers were taken. It takes no memory. A
+    /// call of the writer leaves none.
     pub(crate) fn again(answers: Answers, rest: Option<SpentLoads>) -> Option<OutsideCall>
         requires { (kind : KindState) × (room : ℕ) × IsSpent kind room answers rest }
         ensures left { (kind : KindState) (room : ℕ) → IsSpent kind room answers rest
@@ -154,7 +154,7 @@ impl OutsideCall {
         }
     }
 
-    /// Ends a call that asks for nothing: nobody is asked.
+    /// Ends an empty call: nobody is asked.
     pub(crate) fn end(self)
         requires { self.items ≡ [] }
     {
@@ -166,7 +166,7 @@ impl OutsideCall {
     }
 }
 
-/// The fault that a call of the writer has returned, if it failed.
+/// The fault that the writer has returned, if it failed.
 fn writer_fault(returned: Result<(), u32>) -> Option<Refusal>
     ensures { result ≡ fault_of returned }
 {

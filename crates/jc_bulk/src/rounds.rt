@@ -1,4 +1,4 @@
-//! The rounds of a bulk call: what each of them asks outside, and with which memory.
+//! The rounds of a bulk call, with their calls outside and the memory for them.
 ghost use Rattle.std.specs.Prelude.{◌≡◌, ◌≤◌, [], IfSome, IfErr, IfOk, None};
 ghost use Rattle.jc_rounds.specs.Underway.{IsOver, Past};
 ghost use Rattle.jc_rounds.specs.Running.{HasRun};
@@ -11,11 +11,11 @@ use jc_rounds::BulkCall;
 use std::alloc::{AllocError, Global};
 use std::sync::Wait;
 
-/// All rounds, until each key has ended. Each that has reserved keys asks the loader or the writer once for them.
+/// Makes rounds until each key has ended. A round that has reserved keys asks the loader or the writer once for them.
 ///
-/// Between two rounds it waits for a change on the stripe of a key that was put off, with no reservation out. Nothing says that it
-/// returns. Each round uses the memory of the first one, but for a batch that was handed to the writer: that is taken anew before the first
-/// phase of the next one. If that fails, each key that waits is refused.
+/// Between two rounds it waits for a change on the stripe of a key that was put off, with no reservation out. It may wait for
+/// ever. Each round uses the memory of the first one, except for a batch that was handed to the writer: a new one is taken before
+/// the first phase of the next round. If that fails, each key that waits is refused.
 pub(crate) fn run_rounds<R: Wait>(
     alloc: Global,
     rt: &R,
@@ -56,8 +56,8 @@ pub(crate) fn run_rounds<R: Wait>(
     unreachable!()
 }
 
-/// What a round is to ask outside with: what the round before has left, or, if it was spent, memory for as many keys. An `Err` says
-/// that an allocation failed.
+/// The memory for a round's call outside: what the round before has left, or, if it was spent, new memory for as many keys. An
+/// `Err` says that an allocation failed.
 fn ready(
     alloc: Global,
     kind: Kind,
@@ -74,7 +74,7 @@ fn ready(
     }
 }
 
-/// Ends what no round has asked with.
+/// Frees the memory with which no round has asked.
 fn end_left(left: Option<OutsideCall>)
     requires { IfSome left (λ call. call.items ≡ []) }
 {

@@ -23,7 +23,7 @@ use std::sync::Wait;
 /// removed on its own, and the whole isn't atomic.
 ///
 /// Each stripe is looked at once, in their order, and the keys that it has then are removed as [`remove_all`](crate::remove_all)
-/// does. There is no limit on how many they are. On an empty cache the writer isn't called.
+/// does. There is no limit on their number. On an empty cache the writer isn't called.
 ///
 /// An `Err` names each key that failed, as that of [`remove_all`](crate::remove_all) does. Or the memory for the keys, the first
 /// round and the results could not be taken (`OutOfMemory`): then no key is named, and nothing changes.
@@ -49,7 +49,7 @@ pub fn remove_every<R: Wait>(
 /// writer is asked, so nothing of the store changes.
 ///
 /// Each stripe is looked at once, in their order, and each key that it has then is one step of it, with the number of this one
-/// call. There is no limit on how many they are. It fails as [`remove_every`] does, but for the writer.
+/// call. There is no limit on their number. It fails as [`remove_every`] does, except for the writer's faults.
 ///
 /// It may wait for other calls' reservations, and holds no stripe meanwhile.
 ///
@@ -69,7 +69,7 @@ pub fn clear<R: Wait>(
     sweep(alloc, rt, cache, session, Op::Clear, Kind::Load)
 }
 
-/// Does this at every key of the cache, which asks outside by calls of this kind, if it asks at all.
+/// Carries out an operation at every key of the cache. If the operation asks outside at all, its calls are of this kind.
 fn sweep<R: Wait>(
     alloc: Global,
     rt: &R,
@@ -93,7 +93,7 @@ fn sweep<R: Wait>(
     }
 }
 
-/// The keys of all stripes, of one look at each, in their order. The room for as many as the cache may have is taken first.
+/// Looks at each stripe once, in their order, and returns the keys of all. Room for as many as the cache may have is taken first.
 fn look_at_all<R: Wait>(
     alloc: Global,
     rt: &R,
@@ -113,7 +113,7 @@ fn look_at_all<R: Wait>(
     Ok(keys)
 }
 
-/// How many entries the cache may have.
+/// The number of entries that the cache may have.
 fn most_entries(cache: &Cache) -> usize
     ensures { result ≡ cache.now.config.stripes * cache.now.config.capacity }
 {

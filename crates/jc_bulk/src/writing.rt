@@ -20,22 +20,28 @@ use std::sync::Wait;
 /// Puts many entries, as the session's next call (JSR 107, `javax.cache.Cache.putAll`). Each entry is put on its own, and the whole
 /// isn't atomic.
 ///
-/// The call works in rounds. A round begins each key that it can, in their order and without waiting; one that is reserved, or whose
-/// stripe has as many reservations as may be, is put off to a later round. Without write-through a key is over at once. With it,
-/// the writer is then called once (`writeAll`), for all keys that the round has reserved; a key that it leaves in the collection
-/// failed, and every other one is committed. Each key is one step of its stripe, with the number of this one call, and no change
-/// is asked for twice. Between two rounds the call waits for a change, with no reservation out. A call of which no key is put
-/// off, with at most [`RESERVATIONS_MAX`](jc_types::RESERVATIONS_MAX) keys in each stripe, calls the writer once, if at all; in a cache
-/// that lives on, a full history puts off, too.
+/// The call works in rounds. A round begins each key that it can, in their order and without waiting:
 ///
-/// An `Err` names each key that failed, with its fault (`WriterFailed`) or its refusal; every other key is put. A key is refused with
-/// `HistoryFull` if its stripe's history is near full or a number is at its end, and with `OutOfMemory` if, once the writer was
-/// called, the memory of a later round could not be taken: so without write-through never. The cause is the first fault or refusal that
-/// the call met; a writer that failed and left no key gives an `Err` that names none. Or the call is refused whole, and nothing changes: there are more than
-/// [`BULK_KEYS_MAX`] keys (`TooManyKeys`), or the memory for the first round and the results could not be
-/// taken (`OutOfMemory`).
+/// - A key that is reserved, or whose stripe has as many reservations as it may, is put off to a later round.
+/// - Without write-through, any other key is done at once.
 ///
-/// It may wait, as long as the writer does and for other calls' reservations, and holds no stripe meanwhile.
+/// With it, the writer is then called once (`writeAll`), for all keys that the round has reserved. A key that it leaves in the
+/// collection failed, and every other one is committed. Each key is one step of its stripe, with the number of this one call, and
+/// no change is asked for twice. Between two rounds the call waits for a change, with no reservation out. If no key is put off,
+/// and each stripe has at most [`RESERVATIONS_MAX`](jc_types::RESERVATIONS_MAX) of the keys, the writer is called at most once.
+/// In a cache that lives on, a full history also puts a key off.
+///
+/// An `Err` names each key that failed, with its fault (`WriterFailed`) or its refusal; every other key is put. The cause is the
+/// first fault or refusal that the call met. If the writer failed and left no key, the `Err` names none.
+///
+/// - A key is refused with `HistoryFull` if its stripe's history is nearly full, or the call's or a reservation's number would
+///   overflow.
+/// - With write-through, a key is refused with `OutOfMemory` if, once the writer was called, the memory of a later round could
+///   not be taken.
+/// - The call is refused whole, and nothing changes, if there are more than [`BULK_KEYS_MAX`] keys (`TooManyKeys`), or the memory
+///   for the first round and the results could not be taken (`OutOfMemory`).
+///
+/// It may wait, as long as the writer does and for other calls' reservations. It holds no stripe meanwhile.
 ///
 /// Condition: the session may call the cache.
 pub fn put_all<R: Wait>(

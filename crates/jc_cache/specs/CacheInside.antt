@@ -1,9 +1,9 @@
--- What a cache and its owner keep of themselves.
+-- The invariants of a cache and of its owner.
 --     IsShaped     a cache has as many locks as its shape says
---     IsOwnSeat    the view of the owner's seat at the stripe with this number, which gives session numbers out from `given` on
---     GiveNumbers  each of these seats gives session numbers out
---     IsWhole      there are as many locks as the shape says, each with a seat of the owner's, and no more sessions were given out than
---                  there may be
+--     IsOwnSeat    the view of the owner's seat at the stripe with this number, which gives out session numbers from `given` on
+--     GiveNumbers  each of these seats gives out session numbers
+--     IsWhole      there are as many locks as the shape says, each with a seat of the owner's; at most as many sessions were
+--                  given out as there may be
 use Rattle.std.specs.Prelude.{◌≡◌, ◌≤◌, ℕ, List, length, map, false, None, Some, Ok, slice_get}
 use Rattle.atomic_table.specs.Seated.{TableId}
 use Rattle.jc_types.specs.declared.config.Config.{Config}

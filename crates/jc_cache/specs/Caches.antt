@@ -1,15 +1,15 @@
--- What contracts see of a cache, and of who owns one.
---     CacheState        a cache: its shape, and which locks its stripes are under, by their numbers
---     noted_by          the states of the stripes that a row of seats has noted
---     fronts_of         what they have seen of the histories
---     Log, log_of       the lendings of a seat, and how often it tried and found its stripe held
---     logs_of           those of a row of seats
---     OwnerState        who owns a cache: the cache, how many sessions it has given out, and of each stripe what the owner's own seat
---                       has noted, what it has seen of the history, and its log
---     stripes_opening   the stripes of a cache that opens with these entries, in this shape, and lives on or doesn't
---     OpensWith         a cache that has just been opened so: no session was given out, each stripe has what it keeps of the entries,
---                       and nothing has happened in it
---     session_refusal   why a session with or without a loader and a writer is refused: too many, no loader, no writer
+-- The models of a cache and of its owner.
+--     CacheState        a cache: its shape, and the locks of its stripes, by their numbers
+--     noted_by          the states of the stripes that these seats have noted
+--     fronts_of         what these seats have seen of the histories
+--     Log, log_of       the lendings of a seat, and the number of its tries that found the stripe held
+--     logs_of           the logs of these seats
+--     OwnerState        the owner of a cache: the cache, the number of sessions given out, and for each stripe what the owner's
+--                       own seat has noted, what it has seen of the history, and its log
+--     stripes_opening   the stripes of a cache of this shape that opens with these entries, and lives on or doesn't
+--     OpensWith         a cache that has just been opened: no session was given out, each stripe has its part of the entries, and
+--                       nothing has happened in it
+--     session_refusal   the refusal of a session with or without a loader and a writer: too many, no loader, no writer
 use Rattle.std.specs.Prelude.{◌≡◌, ◌&&◌, ℕ, List, [], map, length, replicate, Bool, true, false, not, Option, None, Some, nat_le, if◌then◌else◌}
 use Rattle.atomic_table.specs.Seated.{TableId}
 use Rattle.jc_types.specs.declared.config.Config.{Config}

@@ -1,16 +1,18 @@
 -- Whole calls on a cache.
---     AtStripe    a session's seat at the stripe of a key goes from one view to another, and its other seats stay
---     CallsAt     a session's current call, whole, at a key, which ended so: what its seat has seen, and its lendings, turn by turn, each of which
---                 found the stripe between what the seat had seen and what it has seen; what was asked outside, was asked of its loader and its
---                 writer, who stay of their types; all else of the session stays, but for the count of its steps
---     Called      the same of the session's next call
---     Returns     a session's next call, whole, and what it returns by how it ended
---     Gets        the same of a get: it has looked for its entry in its first lending, and if it found it there, it has no other one
---     Tried       a session's next call that waits for nobody and asks nobody
---     Tries       the same, and what it returns by how it ended
---     Invoked     a session's next call, whole, which runs a processor; the entry that the processor was shown is the one in the state in
---                 which the call's step was made: no other step and no eviction at the key lies between
---     value_in, flag_in, unit_in    what a call returns that replies with a value, with yes or no, or with nothing: a fault is an error
+--     AtStripe    a session's seat at the stripe of a key goes from one view to another, and its other seats are unchanged
+--     CallsAt     a session's current call, whole, at a key, with this end: what its seat has seen; its lendings, turn by turn,
+--                 each between what the seat had seen and what it has seen; and the calls of its loader and writer, whose types
+--                 stay the same. The rest of the session is unchanged, except for the count of its steps
+--     Called      as `CallsAt`, for the session's next call
+--     Returns     a session's next call, whole, and its result
+--     Gets        as `Returns`, for a get: it looked for its entry in its first lending, and if it found the entry there, it has
+--                 no other lending
+--     Tried       a session's next call, which never waits and asks nobody
+--     Tries       such a call, and its result
+--     Invoked     a session's next call, whole, which runs a processor; the entry that the processor was shown is the one in the
+--                 state in which the call's step was made: no other step and no eviction at the key lies between
+--     value_in, flag_in, unit_in    the result of a call that replies with a value, with yes or no, or with nothing; a fault is
+--                                   an error
 use Rattle.std.specs.declared.dyn_box.DynBox.{DynBox}
 use Rattle.std.specs.Prelude.{◌≡◌, ℕ, List, Bool, false, Some, Result, Ok, Err, slice_get, slice_set}
 use Rattle.atomic_table.specs.Seated.{TableId}

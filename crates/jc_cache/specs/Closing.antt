@@ -1,30 +1,32 @@
--- What a closed cache tells.
---     IsClosedAt     the stripe with this number of a closed cache of this shape, whose owner had noted it so: it lives on exactly if it did
---                    then, and its first generation opened with the same entries; each generation left what the next one opened with, the
---                    last one's history is legal from its opening and leads to the stripe's entries; nothing is out, its outside answers
---                    were live, and it has no step of a session that was never given out
---     HasLookedOnce  an own seat has taken its stripe in this state once, and given it back as it was
---     AreIdle        so has each, and nothing was out there
+-- Closed caches, and refusals to close one.
+--     IsClosedAt     the stripe with this number of a closed cache of this shape, whose owner had noted this state of it: it
+--                    lives on exactly if it did then, and its first generation opened with the same entries; each generation left
+--                    what the next one opened with; the last one's history is legal from its opening and leads to the stripe's
+--                    entries; nothing is out, its outside answers were live, and it has no step of a session that was never given
+--                    out
+--     HasLookedOnce  an own seat has taken its stripe once, in this state, and given it back as it was
+--     AreIdle        each of them has looked once, and nothing was out there
 --     HasFront       a session has seen no more of each stripe than is in its whole history
---     AreClosed      the stripes of a closed cache, each from the opening that its owner has noted
---     IsClosed       a cache is closed: its stripes, and that each session handed in has seen no more of them
---     HasClosed      the same, and what sessions have brought comes back, in the order of the sessions
+--     AreClosed      the stripes of a closed cache, each with the opening that its owner has noted
+--     IsClosed       a cache is closed: its stripes; and each session that was handed in has seen no more of them
+--     HasClosed      as `IsClosed`, and the sessions' loaders and writers come back, in the order of the sessions
 --     IsTakenAs      an own seat has taken its stripe in this state, and not given it back
---     lent_at, all_lent    the lendings of a session's seat at a stripe, and of all these sessions
---     HasTakenOver   an own seat has looked at its stripe once before it took it, and found nothing out; behind that it has what the sessions
---                    have lent, all of it
---     HasEnded       a cache was ended without its sessions: its stripes alone; each own seat has looked once before it took its stripe, and
---                    gave no session out
---     HasOnlyLooked  an own seat has taken its stripe and given it back as it was, as often as this
---     HasLastFound   of its lendings since then there is a last one, which found the stripe in this state and left it so
---     IsInUse        one of these seats has last found its stripe with a reservation or a join out
---     HasMissed      one of these seats has found its stripe held by somebody else
---     IsHandedBack   an owner who could not close the cache owns it as before; its seats may have noted and seen more of the stripes
---     IsEndRefusal   why stripes are not taken from a cache: an own seat has last found something out at its stripe; each has found nothing
---                    out, and an allocation failed; or one has found its stripe held
---     IsCloseRefusal why a cache is not closed: a session is missing, and then nobody looked at a stripe; or all are there, and its
---                    stripes are not taken
---     HasNotClosed   the same, and owner and sessions come back
+--     lent_at, all_lent    the lendings of a session's seat at a stripe, and of all these sessions there
+--     HasTakenOver   an own seat looked at its stripe once before it took it, and found nothing out; after that it has all
+--                    lendings of the sessions
+--     HasEnded       a cache was ended without its sessions: its stripes alone; each own seat looked at its stripe once before it
+--                    took it, and gave out no session
+--     HasOnlyLooked  an own seat has only taken its stripe and given it back as it was, any number of times
+--     HasLastFound   among its lendings since then the last one found the stripe in this state, and left it so
+--     IsInUse        one of these seats found its stripe last with a reservation or a join out
+--     HasMissed      one of these seats found its stripe held by somebody else
+--     IsHandedBack   an owner that could not close the cache owns it as before; its seats may have noted and seen more of the
+--                    stripes
+--     IsEndRefusal   why the stripes are not taken from a cache: an own seat found something out at its stripe last; or nothing
+--                    is out, and an allocation failed; or a seat found its stripe held
+--     IsCloseRefusal why a cache is not closed: a session is missing, and then nobody looked at a stripe; or all are there, and
+--                    its stripes are not taken
+--     HasNotClosed   a cache was not closed, and why; the owner and the sessions come back
 --     HasNotEnded    a cache was not ended, and why; the owner comes back
 use Rattle.std.specs.Prelude.{◌≡◌, ◌≢◌, ◌⊎◌, ◌≤◌, ◌<◌, ◌++◌, ◌∷◌, ℕ, zero, suc, Bool, true, List, [], map, length, Some, slice_get}
 use Rattle.std.specs.List.{AllZip, flat_map}

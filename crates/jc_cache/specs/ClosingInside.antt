@@ -1,15 +1,17 @@
--- The cache's own seats while it is being closed: the first ones have taken their stripes.
---     KeepsSeat     a seat is the one that it was, at the same lock and stripe; it may have seen more of the history, and lent the stripe so
---     Looks, Whatever    a lending that left the stripe as it was, and any
---     KeepSeats     each of these seats is the one that it was
+-- The cache's own seats during a close, after the first ones have taken their stripes.
+--     KeepsSeat     a seat is still the same, at the same lock and stripe; it may have seen more of the history, and have more
+--                   lendings of this kind
+--     Looks, Whatever    a lending that left the stripe as it was, and any lending
+--     KeepSeats     each of these seats is still the same
 --     IsFreeSeat    a seat of no session, which has not taken its stripe
---     HasTaken      a seat of no session, which has taken its stripe in this state: a reached one, nothing is out there, and it has no step of
---                   a session that the seat has yet to give out
---     HaveTaken     of these seats the first ones have taken their stripes in these states, and the others have not
---     OwnsSeats     own seats are at these locks, and the first ones have taken their stripes in these states, and the others have not
---     KeepsOwn      they are the ones that they were, and have taken these
---     IsTakeRefusal why a stripe is not taken: the seat has last found something out there, or has found it held
---     IsRowRefusal  why the stripes of a row of seats are not taken: one of them is not
+--     HasTaken      a seat of no session, which has taken its stripe in this state: the state is reached, nothing is out there,
+--                   and it has no step of a session that the seat has yet to give out
+--     HaveTaken     the first of these seats have taken their stripes in these states, and the others have not
+--     OwnsSeats     own seats are at these locks; the first ones have taken their stripes in these states, and the others have
+--                   not
+--     KeepsOwn      the own seats are still the same, and have taken these stripes
+--     IsTakeRefusal why a stripe is not taken: the seat found something out there last, or found the stripe held
+--     IsRowRefusal  why the stripes of these seats are not taken: one of them is not
 --     AreAtLocks    the seats of a session are at these locks, and have not taken their stripes
 use Rattle.std.specs.Prelude.{◌≡◌, ◌⊎◌, ◌≤◌, ◌<◌, ◌++◌, ℕ, List, [], ◌∷◌, map, true, false, None, Some, slice_get}
 use Rattle.std.specs.List.{AllZip}

@@ -1,8 +1,8 @@
--- What a session reads of what a cache counts.
---     HasRead        a seat has taken its stripe and given it back as it found it, and has seen what it had seen
---     HasReadEach    so has each seat of a row
---     occurred_in    what occurred in all generations of these stripes, stripe by stripe
---     Reads          a session has read each stripe, and all else of it stays
+-- The reads of a session for the statistics of a cache.
+--     HasRead        a seat has taken its stripe and given it back as it found it, and still has seen what it had seen
+--     HasReadEach    each of these seats has read its stripe
+--     occurred_in    the statistics of all generations of these stripes, stripe by stripe
+--     Reads          a session has read each stripe, and the rest of it is unchanged
 use Rattle.std.specs.Prelude.{◌≡◌, ℕ, List, [], ◌∷◌, ◌++◌, Some, slice_get}
 use Rattle.atomic_table.specs.Seated.{TableId}
 use Rattle.jc_model.specs.Statistics.{Occurrence}

@@ -1,8 +1,8 @@
 -- Sessions that an owner gives out, a list at a time.
 --     HaveNumbers     sessions have these numbers, one after another, and have begun no call
---     AreGivenOut     sessions that an owner has given out one after another, each with its loader and writer: they have made no step, and
---                     may call
---     IsNotEnlisted   why an owner gave out only the first ones of the sessions that it was to: an allocation failed, or the next one is
+--     AreGivenOut     sessions that an owner has given out one after another, each with its loader and writer: they have made no
+--                     step, and may call the cache
+--     IsNotEnlisted   why an owner gave out only the first ones of these sessions: an allocation failed, or the next one is
 --                     refused
 use Rattle.std.specs.Prelude.{◌≡◌, ◌+◌, ◌⊎◌, ℕ, List, [], ◌∷◌, length, map, is_some, Some, slice_get}
 use Rattle.std.specs.List.{All}

@@ -1,23 +1,23 @@
--- What a call leaves of its session's view of the key's stripe. The view's front is what the session has seen of the stripe's whole
--- history, all generations in a row: a prefix of it, for ever. Its own steps are the session's steps there, in all generations, without
--- those whose answer it has not picked up.
---     IsSameSeat     the same session's seat at the same stripe, which has not taken it; the next reservation's number hasn't fallen, and
---                    the generations that had ended are the first of those that have
---     HasAllSeen     the noted state is reached, and the front is its whole history: so each generation in it is legal from its opening,
---                    which is what the one before it left, and the last one leads to what is cached
+-- The effect of a call on its session's view of the key's stripe. The view's front is what the session has seen of the stripe's
+-- whole history, all generations in a row: a prefix of it, for ever. Its own steps are the session's steps there, in all
+-- generations, without those whose answer it has not picked up.
+--     IsSameSeat     the same session's seat at the same stripe, which has not taken it; the next reservation's number hasn't
+--                    fallen, and the ended generations begin with those that had ended
+--     HasAllSeen     the noted state is reached, and the front is its whole history: so each generation in it is legal from its
+--                    opening, which is what the one before it left, and the last one leads to what is cached
 --     HasSeen        the front may be longer; the own steps are the former ones
---     HasMade        the front is the whole history of the noted state, and begins with the former one; this step is in it behind that, in
---                    the present generation, and it is one own step more
---     IsAskedFor     what a call has asked outside for its step: if it shares another call's load, nothing
+--     HasMade        the front is the whole history of the noted state, and begins with the former one; this step comes after
+--                    that, in the present generation, and is one own step more
+--     IsAskedFor     what a call has asked outside for its step: nothing if it shares another call's load
 --     MakesStep      the call's step: its caller, operation and key, and this reply
---     SeatAfter      a whole call: its step was made, or it was refused as the state that the view keeps says, whose whole history is the
---                    front; of the refusals that change nothing it is the full history alone
---     IsBusyAt       a call that waits for nobody can't be made on what was found without waiting or asking; it was given back as it was, or with
---                    its generation ended, exactly if that was full and might end
---     WasBusy        it couldn't be made at any of its tries, and how often somebody else had the stripe
+--     SeatAfter      a whole call: its step was made; or it was refused with `HistoryFull`, as the noted state refuses it, and
+--                    the front is that state's whole history
+--     IsBusyAt       a call that never waits couldn't be made on what was found without waiting or asking; the stripe was given
+--                    back as it was, or with its generation ended, exactly if that was full and might end
+--     WasBusy        such a call couldn't be made at any of its tries, and how often somebody else had the stripe
 --     TriesTo        its first phase, at the first try, or at the second if a generation stood in the way of the first
---     SeatTried      such a call: its step was made, it was refused as busy, or, though it need ask nobody, as the state that the view keeps
---                    says
+--     SeatTried      such a call: its step was made; it was refused as `Busy`; or it was refused as the noted state refuses it,
+--                    though it need ask nobody
 --     IsBetween      a state in which a call found the stripe: between the former front and the present one
 --     IsMadeIn       the call's step, if it was made, was made in this state
 use Rattle.std.specs.Prelude.{◌≡◌, ◌≤◌, ◌⊎◌, ◌+◌, ℕ, List, ◌++◌, false, length, Option, None, Some, Result, Ok, Err, slice_get}

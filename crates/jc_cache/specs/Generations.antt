@@ -1,9 +1,10 @@
--- A generation that a session ends.
---     IsEndOf     what was answered, and appended, of a stripe's generation: how many had ended before, and its events; or that an allocation
---                 failed, and nothing was done
---     EndsAt      a session has taken the stripe with this number once, left it so, and given it back; all else of the session stays
---     GenerationsFollow    the law: if a generation was ended and told with a number, and one that was ended later was told with the next
---                 number, then the second one's events come behind those of the first, and nothing lies between
+-- The end of a generation by a session.
+--     IsEndOf     the end of a stripe's generation: how many had ended before, and its events, which were appended; or an
+--                 allocation failed, and nothing was done
+--     EndsAt      a session has taken the stripe with this number once, left it so, and given it back; the rest of the session is
+--                 unchanged
+--     GenerationsFollow    the law: if one ended generation was returned with a number, and a later one with the next number,
+--                 then the second one's events follow those of the first, with nothing between
 use Rattle.std.specs.Prelude.{◌≡◌, ◌+◌, ◌<◌, ℕ, List, ◌++◌, Option, Some, Result, Ok, Err, slice_get, slice_set}
 use mathlib.Core.List.{IsPrefix}
 use Rattle.atomic_table.specs.Seated.{TableId}

@@ -1,13 +1,14 @@
--- What two sessions of one cache know once they have met: one of them, the teller, has told the other, the hearer, what it has seen.
---     IsRefreshed       a seat has taken its stripe once and given it back as it found it: its front is the stripe's whole history then
---     TellsAt           at one stripe: the teller's seat was refreshed; both fronts may be longer, and the own steps are the former ones;
---                       the teller's front is a prefix of the hearer's, who has lent nothing
---     TellEach          so it is at each stripe, of two rows of seats before and after
---     Meets             so it is of two sessions, and all else of both stays
---     HaveMet           the same, and both may call the cache again
+-- What two sessions of one cache know once they have met: the teller has told the hearer what it has seen.
+--     IsRefreshed       a seat has taken its stripe once and given it back as it found it, and its front is then the stripe's
+--                       whole history
+--     TellsAt           at one stripe: the teller's seat was refreshed; both fronts may be longer, and the own steps are the
+--                       former ones; the teller's front is a prefix of the hearer's, whose seat has no new lending
+--     TellEach          the teller has told the hearer at each stripe: two rows of seats before and after
+--     Meets             one session has told the other at each stripe; the rest of both is unchanged
+--     HaveMet           as `Meets`, and both may call the cache again
 --     IsSessionSeat     a seat of this session at this lock, which has not taken the stripe
---     AreSessionSeats   so is each of a row, at each of these locks
---     KeepRow           a row of seats is at the same locks, and has as many own steps
+--     AreSessionSeats   each of these seats is one of this session's, at its lock
+--     KeepRow           these seats are at the same locks, and have as many own steps
 use Rattle.std.specs.Prelude.{◌≡◌, ℕ, List, [], map, false, Some, slice_get}
 use mathlib.Core.List.{IsPrefix}
 use Rattle.atomic_table.specs.Seated.{TableId}

@@ -1,9 +1,9 @@
 -- The phase calls of a cache, of which whole calls are made.
---     SeatPhase     one phase of the session on the stripe that its seat has taken, and the state that it left, which the view then keeps;
---                   before it the session has only waited
+--     SeatPhase     one phase of the session on the stripe that its seat has taken, and the state that it left, which the view
+--                   notes; before the phase the session has only waited
 --     PhaseAt       a phase call at the stripe with a number
 --     MayFind       a state in which the session may find the stripe with a number
---     MayStart      the session's own steps let its current call begin at a key
+--     MayStart      the session's own steps allow its current call at a key
 use Rattle.std.specs.Prelude.{◌≡◌, ℕ, List, [], ◌∷◌, ◌++◌, true, Some, slice_get, slice_set}
 use mathlib.Core.List.{IsPrefix}
 use Rattle.atomic_table.specs.Seated.{TableId}

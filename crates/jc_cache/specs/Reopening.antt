@@ -1,11 +1,11 @@
--- A closed cache that is opened again.
---     refusal_by       why, by what `check` says of the shape, and by whether all keys are distinct
---     reopen_refusal   why a closed cache with these entries is not opened in this shape, if enough memory is there: the shape is out of
---                      its limits, or a key is there twice
---     IsReopenRefusal  why it is not opened: that, or an allocation failed though it is not refused so
+-- The reopening of a closed cache.
+--     refusal_by       the refusal, by the result of `check` on the shape, and by whether all keys are distinct
+--     reopen_refusal   the refusal to open a closed cache with these entries in this shape, if there is enough memory: the shape
+--                      is out of its limits, or a key is there twice
+--     IsReopenRefusal  why the cache is not opened: `reopen_refusal`; or, without one, a failed allocation
 --     lived            whether the cache of these stripes lived on, by the first of them
---     IsReopened       who owns a cache, which lives on or doesn't, that was opened with these entries, and which of them were dropped: what the stripes open with
---                      and what was dropped are all entries, in another order
+--     IsReopened       the owner of a cache that was opened with these entries, and lives on or doesn't, and the entries that
+--                      were dropped: what the stripes open with and what was dropped are all entries, in another order
 use Rattle.std.specs.Prelude.{◌≡◌, ◌⊎◌, List, [], ◌∷◌, ◌++◌, Bool, false, Option, None, Some, Result, Ok, Err, if◌then◌else◌}
 use Rattle.std.specs.List.Sorted.{IsPermutation}
 use Rattle.jc_types.specs.declared.config.Config.{Config}

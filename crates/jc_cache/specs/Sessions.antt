@@ -1,20 +1,21 @@
--- Who may call a cache.
+-- The sessions of a cache.
 --     IsSeatAt      a view of a session's seat at the stripe with this number of a cache of this shape, which has not taken the stripe
---     own_total     how many own steps there are in the views of these seats, together
---     capped        a number, or the last one if it is beyond that
---     IsOf          a session is one of this cache's: its seats are at this cache's locks and its session's alone, its hands hold
---                   nothing, it has the loader and the writer that the cache's shape asks for, and it counts its own steps
+--     own_total     the number of own steps in the views of these seats, together
+--     capped        a number, or the last number if it is beyond that
+--     IsOf          a session is one of this cache's: its seats are at this cache's locks and of this session alone, its hands
+--                   hold nothing, it has the loader and the writer that the cache's shape asks for, and it counts its own steps
 --     IsCaller      a session is one of this cache's, and has the number of this caller
---     GoesOn        a session is still one of this cache's, after this
+--     GoesOn        a session is still one of this cache's, after this change
 --     HoldsNothing  a session's hands hold nothing, and none of its seats has taken its stripe
---     HasAsked      a session has asked so, and nothing else of it has changed: it is of the same cache
---     BeginsAt      a session's seats have noted and seen what those of the cache's owner have, and have lent nothing and missed nothing: so it
---                   begins
---     MayCall       such a session may begin its next call: it has no reservation and no join out, and its own steps are all of calls
---                   before that one
---     IsGivenOut    a session that its owner has just given out, with this loader and this writer: it has made no step, and may call
---     IsNotGivenOut why no session was given out; the owner stays as it was, and loader and writer come back
---     Completes     a call that ended so, and its session may begin its next call
+--     HasAsked      a session has asked outside, and the rest of it is unchanged: it is of the same cache
+--     BeginsAt      a session's seats have noted and seen what those of the cache's owner have, with no lending and no miss: a
+--                   new session begins like this
+--     MayCall       a session of this cache may begin its next call: it has no reservation and no join out, and its own steps are
+--                   all of calls before that one
+--     IsGivenOut    a session that its owner has just given out, with this loader and this writer: it has made no step, and may
+--                   call
+--     IsNotGivenOut why no session was given out; the owner is unchanged, and the loader and the writer come back
+--     Completes     a call has this outcome, and its session may begin its next call
 use Rattle.std.specs.Prelude.{◌≡◌, ◌⊎◌, ◌+◌, is_some, None, ℕ, List, [], ◌∷◌, length, map, true, false, Some, IsSome, slice_get, nat_lt, cond}
 use Rattle.std.specs.List.{list_all}
 use Rattle.atomic_table.specs.Seated.{TableId}

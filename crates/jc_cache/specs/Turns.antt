@@ -1,10 +1,10 @@
--- What a session did at a stripe, by its seat's lendings: how it found the stripe and how it left it, one after another.
+-- The visits of a session at a stripe, by its seat's lendings: how it found the stripe and how it left it, one after another.
 --     HasLent         the seat has these lendings more, and each of its takes found the stripe
---     starting_now    the turn of a first phase of which each refusal is an answer
---     picking_now     of a pick-up that doesn't wait
---     picking_late    of one that does
---     withdrawing     of a withdrawal
---     looking         of a look, at the first take
+--     starting_now    the turn of a first phase that returns each refusal
+--     picking_now     the turn of a pick-up that doesn't wait
+--     picking_late    that of one that waits
+--     withdrawing     the turn of a withdrawal
+--     looking         the turn of a look, at the first take
 use Rattle.std.specs.Prelude.{◌≡◌, List, ◌++◌, true, false}
 use Rattle.jc_types.specs.declared.caller.Caller.{Caller}
 use Rattle.jc_model.specs.Cache.{Bytes}

@@ -22,10 +22,10 @@ use jc_types::{Config, Key, Refusal, Value, stripe_of};
 use std::marker::Model;
 use std::sync::Wait;
 
-/// A cache, which threads share by `&Cache`. Its [owner](crate::CacheOwner) makes and closes it, and gives its sessions out.
+/// A cache, which threads share by `&Cache`. Its [owner](crate::CacheOwner) makes it, closes it and gives out its sessions.
 ///
-/// Contracts see its shape, and which locks its stripes are under. What is in the stripes they don't say, since others may change
-/// it at any time: that is known of a session.
+/// Contracts see its shape, and which locks its stripes are under. They don't state what is in the stripes, since others may
+/// change that at any time. What a session has seen is known of the session.
 #[derive(Drop)]
 pub struct Cache {
     pub(crate) config: Config,
@@ -64,7 +64,7 @@ impl Cache {
         &self.locks
     }
 
-    /// The session's next call, whole, on one key. What it replies is written to `reply`.
+    /// Carries out the session's next call on one key. Its reply is written to `reply`.
     pub(crate) fn call<R: Wait>(
         &self,
         rt: &R,
@@ -91,8 +91,8 @@ impl Cache {
         access.call(rt, key, op, reply)
     }
 
-    /// The key's value (`get`), written to `value`, as [`get`](Cache::get) reads it: for a caller that keeps a room for values, since no
-    /// other copy is made of a hit. It says whether there is one. If there is none, and none is loaded, `value` stays.
+    /// Writes the key's value to `value`, as [`get`](Cache::get) reads it, and says whether there is one. If there is none, and
+    /// none is loaded, `value` stays. It is for a caller that reuses its memory for values: a hit isn't copied once more.
     ///
     /// An `Err` is `LoaderFailed` or `HistoryFull`, and leaves `value` as it was. It may wait, also as long as the loader does.
     /// Condition: the session may call the cache.
@@ -120,7 +120,7 @@ impl Cache {
         access.get_into(rt, key, value)
     }
 
-    /// The session's next call on one key, if it can be done at once. What it replies is written to `reply`.
+    /// Carries out the session's next call on one key, if it can be done at once. Its reply is written to `reply`.
     pub(crate) fn try_call(
         &self,
         session: &mut Session,
@@ -144,9 +144,9 @@ impl Cache {
         access.try_call(key, op, reply)
     }
 
-    /// The session's next call, whole, which runs a processor on one key (JSR 107, "Entry Processors"). It gives the processor's
-    /// result, or none. An `Err` is the first fault of the loader, the processor and the writer, which leaves the entry as it
-    /// was; or it is `HistoryFull`, and then nobody was asked and nothing changes.
+    /// Runs a processor on one key, as the session's next call (JSR 107, "Entry Processors"). It returns the processor's result,
+    /// or none. An `Err` is the first fault of the loader, the processor and the writer, which leaves the entry as it was; or it
+    /// is `HistoryFull`, and then nobody was asked and nothing changes.
     ///
     /// It may wait, as long as the processor, the loader and the writer do, and as any call does; it holds no stripe meanwhile.
     /// No other call changes the entry between the moment at which the processor is shown it and the processor's net effect.
@@ -183,7 +183,7 @@ impl Cache {
     }
 }
 
-/// The laws of every stripe that a whole call of a session rests on, in one call.
+/// The laws of every stripe on which the contract of a whole call rests.
 fn laws()
     ensures lending { PhaseLaws }
     ensures numbers { OwnNumbers }

@@ -1,18 +1,23 @@
 //! The calls on one key, each whole (JSR 107, `javax.cache.Cache`).
 //!
 //! A call is the session's next one. It is one step of the key's stripe, which is appended to the stripe's history. An `Err` is a
-//! fault of the loader or the writer, with its code: then the step was made, with this reply, and leaves the entry as it was. Or
-//! it is `HistoryFull`: the stripe's history has too few free places, or a number is at its end. Then nobody was asked, and nothing
-//! changes.
+//! fault of the loader or the writer, with its code: then the step was made, with this fault as its reply, and leaves the entry
+//! as it was. Or it is `HistoryFull`: the stripe's history has too few free places, or the call's or the next reservation's
+//! number would overflow. Then nobody was asked, and nothing changes.
 //!
-//! Others may call the cache meanwhile. So a call may wait: while another phase is made on the key's stripe, until a key that
-//! another call has reserved is free (`Busy`), until less than `RESERVATIONS_MAX` keys of the stripe are reserved
-//! (`TooManyInFlight`), or less than `JOINERS_MAX` calls have joined a load there (`TooManyJoiners`), and for the answer of a
-//! load that it has joined. Neither progress nor fairness is promised: a call that waits may wait for ever.
+//! Others may call the cache meanwhile, so a call may wait:
 //!
-//! After a call its session has seen the key's stripe up to there: its whole history, all generations in a row, which begins with
-//! what it had seen before and has the call's own step behind that. Each generation is legal, from what the one before left. The
-//! session's own steps there are the former ones and this one.
+//! - while another phase is made on the key's stripe;
+//! - until a key that another call has reserved is free (`Busy`);
+//! - until fewer than `RESERVATIONS_MAX` keys of the stripe are reserved (`TooManyInFlight`), or fewer than `JOINERS_MAX` calls
+//!   have joined a load there (`TooManyJoiners`);
+//! - for the answer of a load that it has joined.
+//!
+//! Neither progress nor fairness is promised.
+//!
+//! After a call its session has seen the whole history of the key's stripe up to there, all generations one after another. It
+//! begins with what the session had seen before, and has the call's own step behind that. Each generation is legal, from what the
+//! one before left. The session's own steps there are the former ones and this one.
 //!
 //! Condition of each call: the session may call the cache. It is one that this cache has given out, and has no reservation and no
 //! join out.
@@ -54,8 +59,8 @@ impl Cache {
 
     /// Whether the key has an entry (`containsKey`). It never loads.
     ///
-    /// An `Err` is `HistoryFull`. It may wait, but for no loader, writer or load.
-    /// Condition: the session may call the cache.
+    /// An `Err` is `HistoryFull`. It may wait, but not for a loader, a writer or a load. Condition: the session may call the
+    /// cache.
     pub fn contains_key<R: Wait>(
         &self,
         rt: &R,
@@ -268,9 +273,9 @@ impl Cache {
     }
 }
 
-/// What a call returns that replies with a value: the value, or none; or the fault of its step, or why it was refused.
+/// The result of a call that replies with a value: the value or none, the fault of its step, or its refusal.
 ///
-/// `ended` says whether the call was refused; if it wasn't, `reply` is what its step replies.
+/// `ended` says whether the call was refused. If it wasn't, `reply` is the reply of its step.
 pub(crate) fn value_of(ended: Result<(), Refusal>, reply: &Reply) -> Result<Option<Value>, Refusal>
     ensures { result ≡ value_in (ended_with ended reply.now) }
 {
@@ -282,7 +287,7 @@ pub(crate) fn value_of(ended: Result<(), Refusal>, reply: &Reply) -> Result<Opti
     }
 }
 
-/// What a call returns that replies with yes or no.
+/// The result of a call that replies with yes or no.
 pub(crate) fn flag_of(ended: Result<(), Refusal>, reply: &Reply) -> Result<bool, Refusal>
     ensures { result ≡ flag_in (ended_with ended reply.now) }
 {
@@ -294,7 +299,7 @@ pub(crate) fn flag_of(ended: Result<(), Refusal>, reply: &Reply) -> Result<bool,
     }
 }
 
-/// What a call returns that replies with nothing.
+/// The result of a call that replies with nothing.
 pub(crate) fn unit_of(ended: Result<(), Refusal>, reply: &Reply) -> Result<(), Refusal>
     ensures { result ≡ unit_in (ended_with ended reply.now) }
 {

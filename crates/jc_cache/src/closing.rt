@@ -36,8 +36,8 @@ use thiserror::Error;
 
 /// A stripe of a closed cache: the history of its present generation, and what was cached at its end. Contracts see its last state.
 ///
-/// The history is stored as the cache stored it, in a few bytes for each event. What the stripe opened with isn't: only contracts see
-/// it. It is nothing, if the cache was made by [`CacheOwner::new`]; [`CacheOwner::reopen`] says how to know it.
+/// The history is stored as the cache stored it, in a few bytes for each event. What the stripe opened with isn't stored: only
+/// contracts see it. It is nothing if the cache was made by [`CacheOwner::new`]; [`CacheOwner::reopen`] says how to know it.
 #[derive(Drop)]
 pub struct ClosedStripe {
     stripe: Box<Stripe>,
@@ -56,7 +56,7 @@ impl Model for ClosedStripe {
 }
 
 impl ClosedStripe {
-    /// How many events the history has. It is legal from what the generation opened with.
+    /// The number of events in the history, which is legal from what the generation opened with.
     pub fn events_len(&self) -> usize
         ensures len { result ≡ length self.now.history }
         ensures legal { Legal self.now.config self.now.opening self.now.history }
@@ -72,14 +72,14 @@ impl ClosedStripe {
         self.stripe.lives()
     }
 
-    /// How many generations have ended before this history. A count that has reached `u64::MAX` stays there.
+    /// The number of generations that ended before this history. A count that has reached `u64::MAX` stays there.
     pub fn generations_ended(&self) -> u64
         ensures { result ≡ min (length self.now.ended) LAST_NUMBER }
     {
         self.stripe.generations_ended()
     }
 
-    /// What the events of all its generations count, the last one included (JSR 107, "Statistics"). It reads no event.
+    /// The statistics of the events of all its generations, the last one included (JSR 107, "Statistics"). It reads no event.
     pub fn statistics(&self) -> Statistics
         ensures { result ≡ statistics_of (all_occurrences self.now) }
     {
@@ -131,7 +131,7 @@ pub struct Closed {
 #[derive(Drop, Error)]
 #[error("{refusal}")]
 pub struct CloseFault {
-    /// Why: `StillReserved` or `OutOfMemory`; or `Busy`, see [`CacheOwner::close`].
+    /// The reason: `StillReserved` or `OutOfMemory`; or `Busy`, see [`CacheOwner::close`].
     pub refusal: Refusal,
     /// The owner of the cache.
     pub owner: CacheOwner,
@@ -139,7 +139,7 @@ pub struct CloseFault {
     pub sessions: Vec<Session>,
 }
 
-/// It shows the refusal alone.
+/// Shows the refusal alone.
 impl fmt::Debug for CloseFault {
     fn fmt<W: fmt::Write>(&self, f: &mut fmt::Formatter<W>) -> fmt::Result {
         write!(f, "CloseFault {:?}", self.refusal)
@@ -147,14 +147,14 @@ impl fmt::Debug for CloseFault {
 }
 
 impl CacheOwner {
-    /// Ends the cache, with all of its sessions. What was cached is still in the store of record, if every change was written
-    /// through. Each session's loader and writer come back.
+    /// Ends the cache, with all of its sessions, and returns their loaders and writers. What was cached is still in the store of
+    /// record, if every change was written through.
     ///
     /// It is refused, and hands everything back, if a session was not handed in, or if a reservation or an answer that was not
-    /// picked up is out (`StillReserved`), and if an allocation failed (`OutOfMemory`), tested in this order. It never waits.
+    /// picked up is out (`StillReserved`), or if an allocation failed (`OutOfMemory`), tested in this order. It never waits.
     ///
-    /// `Busy` would say that somebody held a stripe though all sessions are handed in. No session holds one between its calls, so
-    /// nobody is there who could.
+    /// `Busy` would say that somebody held a stripe though all sessions are handed in. No session holds a stripe between its
+    /// calls, so that can't happen.
     ///
     /// Condition: the sessions are of this cache.
     pub fn close(self, alloc: Global, sessions: Vec<Session>) -> Result<Closed, CloseFault>
@@ -174,12 +174,12 @@ impl CacheOwner {
         })
     }
 
-    /// Ends the cache without its sessions, which may be gone: as [`CacheOwner::close`] does, but their loaders and writers don't come
-    /// back, and nothing is said of what the sessions have seen. Use it if the cache had clients, and you don't need their sessions
-    /// back.
+    /// Ends the cache as [`CacheOwner::close`] does, but without its sessions, which may be gone. Their loaders and writers don't
+    /// come back, and what the sessions have seen isn't stated. Use it if the cache had clients, and you don't need their
+    /// sessions back.
     ///
-    /// It is refused, and hands the owner back, if a reservation or an answer that was not picked up is out (`StillReserved`), and if an
-    /// allocation failed (`OutOfMemory`), tested in this order; or as `Busy`, see there. It never waits.
+    /// It is refused, and hands the owner back, if a reservation or an answer that was not picked up is out (`StillReserved`), or
+    /// if an allocation failed (`OutOfMemory`), tested in this order; or as `Busy`, see there. It never waits.
     pub fn end(self, alloc: Global) -> Result<Closed, CloseFault>
         ensures ok { IfOk result (λ c. HasEnded self c.stripes.items c.outside.items c.seats.items c.legal) }
         ensures err { IfErr result (λ f. HasNotEnded self f.refusal f.owner f.sessions.items) }
@@ -247,7 +247,8 @@ impl CacheOwner {
     }
 }
 
-/// All stripes, if nothing is out at any, and a list with room for what the sessions bring. An `Err` leaves all at their locks.
+/// Takes all stripes, if nothing is out at any, and makes a list with room for what the sessions bring. An `Err` leaves all
+/// stripes at their locks.
 fn take_stripes(
     alloc: Global,
     locks: &[HistLock],

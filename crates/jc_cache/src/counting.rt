@@ -1,4 +1,4 @@
-//! What a cache counts.
+//! The statistics of a cache.
 ghost use Rattle.std.specs.Prelude.{◌≡◌};
 ghost use Rattle.jc_model.specs.Statistics.{statistics_of};
 ghost use Rattle.jc_stripe.specs.Occurrences.{all_occurrences};
@@ -16,11 +16,11 @@ use jc_session::{Agent, Session};
 use std::sync::Wait;
 
 impl Cache {
-    /// What the steps of all sessions count so far, in all generations, each with whether its key had an entry before it (JSR 107,
-    /// "Statistics"; `CacheStatisticsMXBean`).
+    /// The statistics of the steps of all sessions so far, in all generations (JSR 107, "Statistics"; `CacheStatisticsMXBean`).
+    /// Each step counts by whether its key had an entry before it.
     ///
-    /// It reads one stripe after another, each as it is then, and reads no event. The session has seen of each stripe what was
-    /// counted there.
+    /// It reads one stripe after another, each as it is then, and reads no event. The session has then seen of each stripe what
+    /// was counted there.
     ///
     /// It may wait for a stripe while a phase is made there. It appends nothing to a history and takes no memory: the session's own
     /// steps, its counts and its numbers stay.
@@ -36,7 +36,7 @@ impl Cache {
 }
 
 impl Closed {
-    /// What the steps of all sessions have counted, in all generations (JSR 107, "Statistics"). It reads no event.
+    /// The statistics of the steps of all sessions, in all generations (JSR 107, "Statistics"). It reads no event.
     pub fn statistics(&self) -> Statistics
         ensures { result ≡ statistics_of (occurred_in self.now.stripes.items) }
     {
@@ -44,7 +44,7 @@ impl Closed {
     }
 }
 
-/// What these stripes count, all together.
+/// Adds up the statistics of these stripes.
 fn count_each(stripes: &[ClosedStripe]) -> Statistics
     ensures { result ≡ statistics_of (occurred_in stripes.now) }
 {
@@ -56,7 +56,7 @@ fn count_each(stripes: &[ClosedStripe]) -> Statistics
     total
 }
 
-/// Reads at each of these locks what its stripe counts, and counts it all together.
+/// Reads the statistics of the stripe at each of these locks, and adds them up.
 fn read_each<R: Wait>(
     rt: &R,
     locks: &[HistLock],
@@ -77,7 +77,7 @@ fn read_each<R: Wait>(
     total
 }
 
-/// Takes the stripe, reads what it counts, and gives it back.
+/// Takes the stripe, reads its statistics, and gives it back.
 fn read_at<R: Wait>(rt: &R, lock: &HistLock, agent: &mut Agent, seat: &mut Seat) -> Statistics
     requires { (agent.old.hands.held ≡ 0) × IsSessionSeat lock.now agent.old.caller.session seat.old }
     ensures agent { agent.new ≡ agent.old }

@@ -9,10 +9,10 @@ use jc_types::Refusal;
 use std::alloc::Global;
 
 impl CacheOwner {
-    /// A session for each of these, in their order, each as by [`CacheOwner::session`].
+    /// Gives out a session for each of these, in their order, as [`CacheOwner::session`] does.
     ///
-    /// An `Err` says why there is no further one: `TooManySessions`, `NoLoader`, `NoWriter` or `OutOfMemory`. Then those that were made
-    /// and all boxes are dropped, and [`CacheOwner::end`] is what ends the cache.
+    /// An `Err` says why there is no further one: `TooManySessions`, `NoLoader`, `NoWriter` or `OutOfMemory`. Then the sessions
+    /// that were made and all boxes are dropped, and only [`CacheOwner::end`] can end the cache.
     pub fn enlist_all(
         &mut self,
         alloc: Global,

@@ -1,4 +1,4 @@
-//! Generations that a session ends, to keep what was done.
+//! The end of a generation by a session, which archives its events.
 ghost use Rattle.std.specs.Prelude.{◌≡◌, ◌<◌};
 ghost use Rattle.jc_stripe.specs.State.{State};
 ghost use Rattle.jc_lock.specs.Views.{Finds, after_give, after_take};
@@ -16,13 +16,13 @@ use std::alloc::AllocError;
 use std::sync::Wait;
 
 impl Cache {
-    /// Ends the present generation of a stripe of a cache that lives on, and appends its events, the oldest first. It says how many
-    /// generations of the stripe had ended before. None says that there is nothing to end: nothing has happened in it, the answer of
-    /// a load is there that nobody has picked up, or the cache doesn't live on; then nothing changes.
+    /// Ends the present generation of a stripe of a cache that lives on, and appends its events, the oldest first. It returns how
+    /// many generations of the stripe had ended before. `None` says that there is nothing to end, and nothing changes: nothing
+    /// has happened in the generation, a load's answer is there that nobody has picked up, or the cache doesn't live on.
     ///
-    /// Use it to archive the history: a generation is whole and legal, and leaves what the next one opens with. A
-    /// generation that was full before ended without it, and its events are gone: then a number is missing between two that it says.
-    /// So a record is whole if each stripe is asked for more often than its history is filled.
+    /// Use it to archive the history: a generation is whole and legal, and leaves what the next one opens with. A generation that
+    /// was full before has ended without this call, and its events are gone; then the numbers that this call returns have a gap.
+    /// So an archive is complete if each stripe is asked for more often than its history is filled.
     ///
     /// It may wait for the stripe while a phase is made there, and holds it while the events are copied. An `Err` says that an
     /// allocation failed, and changes nothing. The session's own steps, its counts and its numbers stay.

@@ -1,17 +1,17 @@
 //! A cache of stripes, each under a lock of its own, that threads share; its sessions, and whole calls (JSR 107,
 //! `javax.cache.Cache`).
 //!
-//! Threads share a cache by `&Cache`. Each has a session of its own, which it doesn't share: what a session has seen of the
-//! cache, contracts know. With it comes what a service needs of the crates below: keys and values, the shape of a cache,
-//! refusals, and the traits of its loader, writer and entry processors.
+//! Threads share a cache by `&Cache`. Each thread has a session of its own, which it doesn't share; contracts state what a
+//! session has seen of the cache. The crate also has what a service needs of the crates below: keys and values, the shape of a
+//! cache, refusals, and the traits of its loader, writer and entry processors.
 //!
 //! Why it is so:
-//! - Phase calls take tickets, joins and done values as the stripe gives them: what is needed of the stripe is tested when it is taken. Of
-//!   which cache a ticket is isn't: one of another cache is taken if the same reservation is out here.
-//! - That a session is of a cache is shown by its seats. A session's room is its list of seats.
-//! - `close` tests whether something is out, and only then takes memory. It answers `Busy` if somebody holds a stripe though all sessions
-//!   are there; nobody can, but the lock's rule doesn't say so.
-//! - Stripes are taken beside the door where no phase is made: look, meet, statistics, end of a generation, close.
+//! - Phase calls take tickets, joins and done values as the stripe gives them, and test what they need of the stripe once it is
+//!   taken. Which cache a ticket comes from isn't tested: a ticket of another cache is taken if the same reservation is out here.
+//! - A session shows by its seats that it is of a cache, since each seat is of one lock.
+//! - `close` tests whether something is out, and only then takes memory. It returns `Busy` if somebody holds a stripe though all
+//!   sessions are there; nobody can, but the lock's rule doesn't say so.
+//! - Calls that make no phase take the stripe without the engine's door: look, meet, statistics, end of a generation, close.
 #![tactic(auto)]
 
 mod cache;

@@ -9,9 +9,9 @@ use jc_session::{Agent, Session};
 use std::sync::Wait;
 
 impl Cache {
-    /// Two sessions meet: after it the hearer knows all that the teller knows of the cache. Of each stripe in order, the teller's
-    /// front is brought up to date, and is a prefix of the hearer's from then on. Use it to hand work on: the hearer's next calls are
-    /// ordered after everything that the teller has seen.
+    /// Makes two sessions meet: afterwards the hearer knows all that the teller knows of the cache. At each stripe in order, the
+    /// teller's front is brought up to date, and is a prefix of the hearer's from then on. Use it to hand work on: the hearer's
+    /// next calls are ordered after everything that the teller has seen.
     ///
     /// It may wait for a stripe while a phase is made there. It appends nothing to a history and takes no memory: the own steps of
     /// both sessions, their counts and their numbers stay.
@@ -27,7 +27,7 @@ impl Cache {
     }
 }
 
-/// At each of these locks the seat of the first row is brought up to date, and tells the seat of the second row what it has seen.
+/// Brings the seat of the first row at each of these locks up to date, and tells the seat of the second row what it has seen.
 fn tell_each<R: Wait>(
     rt: &R,
     locks: &[HistLock],
@@ -48,7 +48,7 @@ fn tell_each<R: Wait>(
     }
 }
 
-/// The teller's seat takes the stripe and gives it back, and tells the hearer's what it has seen.
+/// The teller's seat takes the stripe, gives it back, and tells the hearer's seat what it has seen.
 fn tell_at<R: Wait>(
     rt: &R,
     lock: &HistLock,

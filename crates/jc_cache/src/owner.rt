@@ -24,11 +24,11 @@ use std::marker::Model;
 
 /// The owner of a cache: creates it, hands out sessions, lends it to threads, and closes it.
 ///
-/// It has a seat of its own at each lock, which gives the numbers of sessions out. A seat isn't shared between threads, so an owner
-/// isn't; its cache is.
+/// It has a seat of its own at each lock, from which the sessions get their numbers. Threads don't share a seat, so they don't
+/// share an owner either, only its cache.
 ///
-/// Contracts see in it what these seats have noted of each stripe, and what they have seen of the history: a session that it gives
-/// out begins with that.
+/// Contracts see in it what these seats have noted of each stripe, and what they have seen of the history. A session that it
+/// gives out begins with that.
 #[derive(Drop)]
 pub struct CacheOwner {
     pub(crate) cache: Cache,
@@ -58,7 +58,7 @@ impl Model for CacheOwner {
     ghost invariant = { λ o. IsWhole o.cache.config o.given o.cache.locks o.seats.items };
 }
 
-/// Locks round these stripes, each with its first seat. An `Err` says that an allocation failed.
+/// Makes locks round these stripes, each with its first seat. An `Err` says that an allocation failed.
 ///
 /// Condition: they are all stripes of a cache of this shape, and nothing has happened in them.
 fn locks(
@@ -91,8 +91,8 @@ fn live_on(stripes: &mut [Stripe])
     }
 }
 
-/// The owner of a cache of this shape that opens with these entries, and lives on or doesn't, and those for which it had no room. An
-/// `Err` says that an allocation failed.
+/// Makes the owner of a cache of this shape that opens with these entries, and lives on or doesn't. It also returns the entries
+/// that had no room. An `Err` says that an allocation failed.
 ///
 /// Conditions: `config.check()` is `Ok`; each key is there once.
 pub(crate) fn open_with(
@@ -126,7 +126,7 @@ pub(crate) fn open_with(
     Ok((owner, dropped))
 }
 
-/// A seat for the next session at each lock.
+/// Makes a seat for the next session at each lock.
 fn split(locks: &[HistLock], own: &mut Vec<Seat>, seats: &mut Vec<Seat>)
     requires locks { map (λ (seat : TableId × View). seat.0) own.old.items ≡ locks.now }
     requires gives { GiveNumbers own.old.items }
@@ -140,10 +140,10 @@ fn split(locks: &[HistLock], own: &mut Vec<Seat>, seats: &mut Vec<Seat>)
 }
 
 impl CacheOwner {
-    /// An empty cache of this shape: each stripe with its first number, and no history. All memory that it may need is taken here,
-    /// but for entries and sessions.
+    /// Makes an empty cache of this shape: each stripe has its first number, and no history. All memory that the cache may need
+    /// is taken here, except for entries and sessions.
     ///
-    /// It is refused if the shape is out of its limits (`BadConfig`), and if an allocation failed (`OutOfMemory`).
+    /// It is refused if the shape is out of its limits (`BadConfig`), or if an allocation failed (`OutOfMemory`).
     pub fn new(alloc: Global, config: &Config) -> Result<CacheOwner, Refusal>
         ensures ok { IfOk result (λ o. OpensWith false config.now [] o) }
         ensures err { IfErr result (λ r. (check config.now ≡ Err r) ⊎ ((check config.now ≡ Ok tt) × (r ≡ OutOfMemory))) }
@@ -151,13 +151,13 @@ impl CacheOwner {
         CacheOwner::empty(alloc, config, false)
     }
 
-    /// An empty cache of this shape that lives on: no call of its sessions is refused because a history is full, up to call number
-    /// `u64::MAX`.
+    /// Makes an empty cache of this shape that lives on: no call of its sessions is refused because a history is full, up to call
+    /// number `u64::MAX`.
     ///
     /// A stripe whose history is full ends its *generation*: its history so far is whole and legal, and is forgotten; the next
-    /// generation begins with what is cached, in its order of use. The call that meets the full stripe does it, and takes no memory
-    /// for it. A stripe waits with it while an answer of a load is there that nobody has picked up; calls that need a place in it wait
-    /// so long, and those that wait for nobody are refused as `Busy`.
+    /// generation begins with what is cached, in its order of use. The call that finds the stripe full does this, and takes no
+    /// memory for it. A generation can't end while a load's answer is there that nobody has picked up. Calls that need a place in
+    /// the history wait so long, and those that never wait are refused as `Busy`.
     ///
     /// It is refused as by [`new`](CacheOwner::new).
     pub fn living(alloc: Global, config: &Config) -> Result<CacheOwner, Refusal>
@@ -167,7 +167,7 @@ impl CacheOwner {
         CacheOwner::empty(alloc, config, true)
     }
 
-    /// An empty cache of this shape, which lives on or doesn't.
+    /// Makes an empty cache of this shape, which lives on or doesn't.
     fn empty(alloc: Global, config: &Config, lives: bool) -> Result<CacheOwner, Refusal>
         ensures ok { IfOk result (λ o. OpensWith lives config.now [] o) }
         ensures err { IfErr result (λ r. (check config.now ≡ Err r) ⊎ ((check config.now ≡ Ok tt) × (r ≡ OutOfMemory))) }
@@ -179,13 +179,14 @@ impl CacheOwner {
         }
     }
 
-    /// A session with a loader and a writer of its own, and a seat at each stripe.
+    /// Gives out a session with a loader and a writer of its own, and a seat at each stripe.
     ///
-    /// It is refused, and the boxes come back, if `SESSIONS_MAX` were given out (`TooManySessions`), if the cache reads through and
-    /// there is no loader (`NoLoader`), if it writes through and there is no writer (`NoWriter`), and if an allocation failed
-    /// (`OutOfMemory`), tested in this order. Sessions that were given out before stay as they are.
+    /// It is refused, and hands the boxes back, if `SESSIONS_MAX` sessions were given out (`TooManySessions`), if the cache reads
+    /// through and there is no loader (`NoLoader`), if it writes through and there is no writer (`NoWriter`), or if an allocation
+    /// failed (`OutOfMemory`), tested in this order. Sessions that were given out before stay as they are.
     ///
-    /// It has made no step, and has seen of each stripe what its owner has: nothing, if no [`CacheOwner::close`] was refused.
+    /// The session has made no step, and has seen of each stripe what its owner has: nothing, if no [`CacheOwner::close`] was
+    /// refused.
     pub fn session(
         &mut self,
         alloc: Global,
@@ -221,7 +222,7 @@ impl CacheOwner {
         &self.cache
     }
 
-    /// Why a session with or without a loader and a writer is refused, if it is.
+    /// The refusal of a session with or without a loader and a writer, if it is refused.
     fn session_refusal(&self, has_loader: bool, has_writer: bool) -> Option<Refusal>
         ensures { result ≡ session_refusal self.now has_loader has_writer }
     {
@@ -237,7 +238,7 @@ impl CacheOwner {
         None
     }
 
-    /// The next session, with its seats in a list that has room for them.
+    /// Gives out the next session. The list has room for its seats.
     fn give_out(
         &mut self,
         seats: Vec<Seat>,

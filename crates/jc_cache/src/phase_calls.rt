@@ -1,10 +1,10 @@
-//! The phases of calls, one at a time, for those who make a call of their own of them. Between two phases of a call, others' phases
-//! may be made on the same stripe, and no stripe is held: there the session's loader, writer or a processor may be called.
+//! The phases of calls, one at a time, for code that builds its own calls of them. Between two phases of a call, others may make
+//! phases on the same stripe. No stripe is held then, so the session's loader, writer or a processor may be called.
 //!
-//! Each takes the key's stripe, makes one phase of the session, and gives the stripe back. It waits while another phase is made there,
-//! and until the stripe is one on which this phase can be made: a first phase until the session has no other call out there, a
-//! commit, a withdrawal or a pick-up until the ticket or the join is out there, as it always is on the cache that gave it. The
-//! session has then seen the stripe up to the phase.
+//! Each function takes the key's stripe, makes one phase of the session, and gives the stripe back. It waits while another phase
+//! is made there, and until its own phase can be made. A first phase waits until the session has no other call out there. A
+//! commit, a withdrawal or a pick-up waits until the ticket or the join is out there, as it always is on the cache that gave it.
+//! The session has then seen the stripe up to the phase.
 ghost use Rattle.std.specs.Prelude.{◌≡◌, ◌+◌, ◌<◌, ◌≤◌, true, false, vec_len, vec_capacity};
 ghost use Rattle.jc_types.specs.Stripes.{stripe_of};
 ghost use Rattle.jc_model.specs.Group.{load_only, write_only};
@@ -33,10 +33,10 @@ use jc_types::{Key, stripe_of};
 use std::sync::Wait;
 
 impl Cache {
-    /// The first phase of the session's current call at a key. Each refusal is an answer of it: it waits out none. If the call is done,
-    /// what it replies is written to `reply`.
+    /// Makes the first phase of the session's current call at a key. It returns each refusal, and waits none out. If the call is
+    /// done, its reply is written to `reply`.
     ///
-    /// Conditions: the session is of this cache, and its own steps let the call begin at the key.
+    /// Conditions: the session is of this cache, and its own steps allow the call at the key.
     pub fn start<R: Wait>(
         &self,
         rt: &R,
@@ -57,7 +57,7 @@ impl Cache {
         self.phase_at(rt, session, at, first, reply)
     }
 
-    /// The last phase of a call whose loader has answered. What the step replies is written to `reply`.
+    /// Makes the last phase of a call whose loader has answered. The step's reply is written to `reply`.
     ///
     /// Conditions: the session is of this cache, and the ticket is of the session; the done value is the answer to its ask.
     pub fn commit_load<R: Wait>(
@@ -79,7 +79,7 @@ impl Cache {
         self.commit(rt, session, ticket, done, reply)
     }
 
-    /// The last phase of a call whose writer has reported. What the step replies is written to `reply`.
+    /// Makes the last phase of a call whose writer has reported. The step's reply is written to `reply`.
     ///
     /// Conditions: the session is of this cache, and the ticket is of the session; the done value is the answer to its ask.
     pub fn commit_write<R: Wait>(
@@ -101,7 +101,7 @@ impl Cache {
         self.commit(rt, session, ticket, done, reply)
     }
 
-    /// The last phase of a call whose processor has run. What the step replies is written to `reply`.
+    /// Makes the last phase of a call whose processor has run. The step's reply is written to `reply`.
     ///
     /// Conditions: the session is of this cache, and the ticket is of the session; the done value is the answer to its ask; the
     /// writer's report is there exactly if the cache writes through and the processor has a net effect to be written, and is the
@@ -127,8 +127,8 @@ impl Cache {
         self.commit(rt, session, ticket, Processed { done, report }, reply)
     }
 
-    /// A call that has joined a load asks for its answer, which is written to `reply`. It does not wait for the answer: `NotYet`
-    /// gives the join back.
+    /// Asks for the answer of a load that a call has joined. The answer is written to `reply`. It does not wait for the answer:
+    /// `NotYet` gives the join back.
     ///
     /// Conditions: the session is of this cache, and the join is of the session.
     pub fn pick_up<R: Wait>(
@@ -148,8 +148,8 @@ impl Cache {
         self.phase_at(rt, session, at, pick_up, reply)
     }
 
-    /// The answer of a load that a call has joined, which is written to `reply`. It waits until the load was answered, or was given
-    /// back (`Again`).
+    /// Waits until a load that a call has joined was answered, and writes the answer to `reply`; or until the load was withdrawn
+    /// (`Again`).
     ///
     /// Conditions: the session is of this cache, and has no reservation out, so that nobody waits for it meanwhile; the join is of the
     /// session.
@@ -171,8 +171,8 @@ impl Cache {
         self.phase_at(rt, session, at, pick_up, reply)
     }
 
-    /// Gives up a call that has reserved its key and asked nobody: nothing is appended, and the entry stays. Each call that has joined
-    /// its load begins again.
+    /// Withdraws a call that has reserved its key and asked nobody: nothing is appended, and the entry stays. Each call that has
+    /// joined its load begins again.
     ///
     /// Conditions: the session is of this cache, and the ticket is of the session and has asked nobody.
     pub fn withdraw<R: Wait>(&self, rt: &R, session: &mut Session, ticket: Ticket)
@@ -222,7 +222,7 @@ impl Cache {
         agent.give(&mut lock, seat, stripe, Counted::Nothing);
     }
 
-    /// The last phase of a call that was answered outside. What the step replies is written to `reply`.
+    /// Makes the last phase of a call that has its outside answer. The step's reply is written to `reply`.
     fn commit<A: Answer, R: Wait>(
         &self,
         rt: &R,
@@ -243,12 +243,13 @@ impl Cache {
         self.phase_at(rt, session, at, Commit { ticket, answer }, reply)
     }
 
-    /// Makes a phase of the session on the stripe with this number. What its call replies, if the phase ends it, is written to `reply`.
+    /// Makes a phase of the session on the stripe with this number. If the phase ends its call, the call's reply is written to
+    /// `reply`.
     ///
-    /// Conditions: the session is of this cache, and the phase is of the session; there is a stripe of this number, and each state in
-    /// which the session may find it has what the phase needs.
+    /// Conditions: the session is of this cache, and the phase is of the session; there is a stripe of this number, and each
+    /// state in which the session may find it has what the phase needs.
     ///
-    /// In line, as [`Access::lend`] is.
+    /// It is inlined, as [`Access::lend`] is.
     #[inline(always)]
     fn phase_at<P: Phase, R: Wait>(
         &self,

@@ -1,4 +1,4 @@
-//! A closed cache that is opened again, in the same shape or another.
+//! The reopening of a closed cache, in the same shape or another.
 ghost use Rattle.std.specs.Prelude.{◌≡◌, ◌⊎◌, None, Some, IfOk, IfErr, not};
 ghost use Rattle.std.specs.List.{list_any};
 ghost use Rattle.jc_types.specs.declared.refusal.Refusal.TheVariants.{OutOfMemory};
@@ -31,13 +31,13 @@ pub struct Reopened {
 #[derive(Drop, Error)]
 #[error("{refusal}")]
 pub struct ReopenFault {
-    /// Why: `BadConfig`, `RepeatedKey` or `OutOfMemory`.
+    /// The reason: `BadConfig`, `RepeatedKey` or `OutOfMemory`.
     pub refusal: Refusal,
     /// The closed cache.
     pub closed: Closed,
 }
 
-/// It shows the refusal alone.
+/// Shows the refusal alone.
 impl fmt::Debug for ReopenFault {
     fn fmt<W: fmt::Write>(&self, f: &mut fmt::Formatter<W>) -> fmt::Result {
         write!(f, "ReopenFault {:?}", self.refusal)
@@ -45,18 +45,18 @@ impl fmt::Debug for ReopenFault {
 }
 
 impl CacheOwner {
-    /// Opens a closed cache again, in this shape, with what it had cached. Old stripe by old stripe, each from its most recently used
-    /// entry on, every entry goes to the stripe of its key, which keeps as many as it has room for. They are in this order of use
-    /// there, and the others are dropped. A cache that lived on lives on.
+    /// Opens a closed cache again, in this shape, with what it had cached. Old stripe by old stripe, each from its most recently
+    /// used entry on, every entry goes to the stripe of its key. That stripe keeps as many entries as it has room for, in this
+    /// order of use, and the others are dropped. A cache that lived on lives on.
     ///
-    /// The new histories are empty, and legal from what is kept. The closed histories end here: read them before. A stripe doesn't
-    /// tell what it was opened with: to check a later history by `legal`, keep the entries that
-    /// [`ClosedStripe::append_entries`] gives of each old stripe, in their order; a stripe's opening is the first `capacity` of
+    /// The new histories are empty, and legal from what is kept. The closed histories end here: read them before. A stripe
+    /// doesn't store what it was opened with. To check a later history by `legal`, keep the entries that
+    /// [`ClosedStripe::append_entries`] gives of each old stripe, in their order: a stripe's opening is the first `capacity` of
     /// those that `stripe_of` sends to it.
     ///
-    /// It is refused, and hands the closed cache back, if the shape is out of its limits (`BadConfig`), if a key is there twice, as in
-    /// stripes of two caches (`RepeatedKey`), and if an allocation failed (`OutOfMemory`), tested in this order. Old and new stripes
-    /// are there together until it returns.
+    /// It is refused, and hands the closed cache back, if the shape is out of its limits (`BadConfig`), if a key is there twice,
+    /// as in stripes of two caches (`RepeatedKey`), or if an allocation failed (`OutOfMemory`), tested in this order. Old and new
+    /// stripes are there together until it returns.
     pub fn reopen(alloc: Global, closed: Closed, config: &Config) -> Result<Reopened, ReopenFault>
         ensures ok { IfOk result (λ r. IsReopened (lived closed.stripes.items) config.now (all_entries closed.stripes.items) r.owner r.dropped.items
             × (r.outside ≡ closed.outside)) }
@@ -81,7 +81,7 @@ impl CacheOwner {
     }
 }
 
-/// The owner of a cache of this shape that opens with what these stripes have cached, and the entries that were dropped.
+/// Opens a cache of this shape with what these stripes have cached. It returns the owner, and the entries that were dropped.
 fn open_again(
     alloc: Global,
     stripes: &[ClosedStripe],
@@ -120,7 +120,7 @@ fn has_repeated_key(stripes: &[ClosedStripe]) -> bool
 {
     let mut found = false;
     for i in 0..stripes.len() {
-        // Each stripe is looked at, since its contract is needed of all: it is as every stripe is.
+        // No stripe is skipped, because the proof needs of each one that it is reached, as every stripe is.
         let shares = shares_with_any(&stripes[i], &stripes[i + 1..]);
         found = found || shares;
     }
@@ -141,7 +141,7 @@ fn shares_with_any(stripe: &ClosedStripe, others: &[ClosedStripe]) -> bool
     false
 }
 
-/// What these stripes have cached, stripe by stripe. An `Err` says that an allocation failed.
+/// Copies what these stripes have cached, stripe by stripe. An `Err` says that an allocation failed.
 fn copy_entries(alloc: Global, stripes: &[ClosedStripe]) -> Result<Vec<(Key, Value)>, AllocError>
     ensures { IfOk result (λ r. r.items ≡ all_entries stripes.now) }
 {

@@ -7,8 +7,8 @@ use crate::cache::Cache;
 use jc_session::Session;
 
 impl Cache {
-    /// Raises the number of the session's next call to `n`, as [`Session::skip_to`] does. The session is of the cache as before, and
-    /// may call it if it might before.
+    /// Raises the number of the session's next call to `n`, as [`Session::skip_to`] does. The session is still of the cache, and
+    /// may call it if it could before.
     ///
     /// Condition: the session is one of this cache's.
     pub fn skip_to(&self, session: &mut Session, n: u64)

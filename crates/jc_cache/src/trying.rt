@@ -1,7 +1,7 @@
-//! The calls that wait for nobody: they never wait, never join a load, and never ask the loader or the writer.
+//! The calls that never wait, never join a load, and never ask the loader or the writer.
 //!
 //! Each is the session's next call. It is refused as `Busy` if another phase is being made on the key's stripe, if the call would
-//! have to ask the loader or the writer or to join a load, and if another call has reserved a key that the call needs free; and as
+//! have to ask the loader or the writer or to join a load, or if another call has reserved a key that the call needs free; and as
 //! `HistoryFull` as any call is. A refused call changes nothing.
 //!
 //! Condition of each call: the session may call the cache.

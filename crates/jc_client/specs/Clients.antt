@@ -1,14 +1,14 @@
 -- Clients, each a session beside the one cache that it may call, and services of many of them.
---     OnSameCache     a client is one of the cache that it was of, and this was done; X is what a contract sees of its cache
---     ClientState     who makes a client's call that was begun last, and how many steps its session has made
---     client_state    of the client of a session
---     new_clients     of clients that have begun no call, of sessions with these numbers, one after another
---     HasWorked       a client of this state has done its work once, and this was returned; its state after that isn't said
---     WorksEach       clients of these states have each done their work once, and this was returned, in their order
---     HasServed       a service was served whole: its cache opened with nothing, as many sessions were given out as brought something, each
---                     of their clients has done its work once, and the cache was ended
---     IsServeRefusal  why a service wasn't served whole: the cache's shape is out of its limits, an allocation failed, a session is refused,
---                     or the cache couldn't be ended
+--     OnSameCache     a client is still one of the same cache, and this was done; X is what a contract sees of its cache
+--     ClientState     the caller of a client's latest call, and the number of steps that its session has made
+--     client_state    the state of a session's client
+--     new_clients     the states of clients that have begun no call, of sessions with these numbers, one after another
+--     HasWorked       a client in this state has done its work once, and returned this; its state after that isn't stated
+--     WorksEach       clients in these states have each done their work once, and returned these results, in their order
+--     HasServed       a whole service was served: its cache opened with nothing, a session was given out for each loader and
+--                     writer, each of their clients has done its work once, and the cache was ended
+--     IsServeRefusal  why a whole service wasn't served: the cache's shape is out of its limits, an allocation failed, a session
+--                     is refused, or the cache couldn't be ended
 use Rattle.std.specs.Prelude.{◌≡◌, ◌+◌, ◌⊎◌, ℕ, zero, suc, List, [], ◌∷◌, length, true, Err}
 use Rattle.jc_types.specs.declared.caller.Caller.{Caller}
 use Rattle.jc_types.specs.declared.config.Config.{Config}

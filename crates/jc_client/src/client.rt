@@ -1,4 +1,4 @@
-//! Clients: who calls a cache without a condition.
+//! Clients: callers of a cache whose calls have no condition.
 ghost use Rattle.std.specs.Prelude.{◌≡◌, ◌<◌, ◌≤◌, Ok, None};
 ghost use Rattle.std.proofs.Props.{props};
 ghost use Rattle.atomic_table.specs.Seated.{table_id_coded};
@@ -20,11 +20,11 @@ use jc_types::Caller;
 use std::alloc::AllocError;
 use std::sync::Wait;
 
-/// A caller of a cache: a session, beside the cache that it may call. That it may is a fact of the type, so no call of a client has a
-/// condition, and who has one states nothing. One thread at a time has it.
+/// A caller of a cache: a session, together with the cache that it may call. The type guarantees that it may, so no call of a
+/// client has a condition, and its user states nothing to the prover. One thread at a time has it.
 ///
-/// Calls for which it has no method, as those with many keys, take `client.cache` and `&mut client.session`. Afterwards the session has
-/// to be one that may call the cache again: each whole call says so.
+/// Calls without a method here, such as those with many keys, take `client.cache` and `&mut client.session`. Afterwards the
+/// session must again be one that may call the cache, as each whole call states.
 #[derive(Drop)]
 pub struct Client<'a> {
     /// The cache.
@@ -35,9 +35,9 @@ pub struct Client<'a> {
 }
 
 impl<'a> Client<'a> {
-    /// A client of this cache.
+    /// Makes a client of this cache.
     ///
-    /// Condition: the session may call the cache, as one that its owner has given out.
+    /// Condition: the session may call the cache, like one that its owner has given out.
     pub fn new(cache: &'a Cache, session: Session) -> Client<'a>
         requires may { MayCall cache.now session }
         ensures cache { result.cache.now ≡ cache.entry.now }
@@ -55,7 +55,7 @@ impl<'a> Client<'a> {
         session
     }
 
-    /// How many steps the session has made on the cache, up to `u64::MAX`, as by [`Session::own`].
+    /// The number of steps that the session has made on the cache, up to `u64::MAX`, as by [`Session::own`].
     pub fn own(&self) -> u64
         ensures { result ≡ self.now.session.agent.counts.own }
     {
@@ -82,7 +82,8 @@ impl<'a> Client<'a> {
         self.cache.skip_to(&mut self.session, n);
     }
 
-    /// What the steps of all sessions count so far, in all generations, as by [`Cache::statistics`] (JSR 107, "Statistics").
+    /// The statistics of the steps of all sessions so far, in all generations, as by [`Cache::statistics`] (JSR 107,
+    /// "Statistics").
     ///
     /// It may wait for a stripe while a phase is made there. It appends nothing to a history and takes no memory.
     pub fn statistics<R: Wait>(&mut self, rt: &R) -> Statistics
@@ -92,8 +93,9 @@ impl<'a> Client<'a> {
         self.cache.statistics(rt, &mut self.session)
     }
 
-    /// Ends the present generation of a stripe of a cache that lives on, and appends its events, as by [`Cache::end_generation`]. It
-    /// says how many generations of the stripe had ended before. None says that there is nothing to end, or no stripe of this number.
+    /// Ends the present generation of a stripe of a cache that lives on, and appends its events, as by [`Cache::end_generation`].
+    /// It returns how many generations of the stripe had ended before. `None` says that there is nothing to end, or no stripe of
+    /// this number.
     ///
     /// It may wait for the stripe while a phase is made there, and holds it while the events are copied. An `Err` says that an
     /// allocation failed, and changes nothing.
@@ -116,7 +118,8 @@ impl<'a> Client<'a> {
             .end_generation(rt, &mut self.session, stripe, out)
     }
 
-    /// Two clients of one cache meet: after it the hearer knows all that this client knows of the cache, as by [`Cache::meet`].
+    /// Makes two clients of one cache meet: afterwards the hearer knows all that this client knows of the cache, as by
+    /// [`Cache::meet`].
     ///
     /// It may wait for a stripe while a phase is made there. It appends nothing to a history and takes no memory.
     ///

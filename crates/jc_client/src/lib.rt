@@ -1,9 +1,9 @@
 //! Clients of a cache, and services of many of them on threads (JSR 107, `javax.cache.Cache`).
 //!
-//! A [`Client`] is a session beside the cache that it may call: its calls have no condition, so whoever has one states nothing to the
-//! prover. [`serve`] runs a whole service: it opens a cache, has a client for each session work on a thread, and ends the cache.
-//! With it comes what a service needs of the crates below: the owner and the sessions of a cache, keys and values, the shape of a
-//! cache, refusals, and the traits of its loader, writer and entry processors.
+//! A [`Client`] is a session, together with the cache that it may call. Its calls have no condition, so its user states nothing
+//! to the prover. [`serve`] runs a whole service: it opens a cache, runs a client for each session on a thread, and ends the
+//! cache. The crate also has what a service needs of the crates below: the owner and the sessions of a cache, keys and values,
+//! the shape of a cache, refusals, and the traits of its loader, writer and entry processors.
 #![tactic(auto)]
 
 mod client;

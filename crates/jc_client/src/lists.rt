@@ -1,4 +1,4 @@
-//! Clients of sessions, and sessions of clients, a list at a time.
+//! Clients made of sessions, and sessions taken from clients, a list at a time.
 ghost use Rattle.std.specs.Prelude.{◌≡◌, All, IfOk, map};
 ghost use Rattle.jc_cache.specs.Sessions.{IsOf, MayCall};
 
@@ -6,9 +6,10 @@ use crate::client::Client;
 use jc_cache::{CacheOwner, Session};
 use std::alloc::{AllocError, Global};
 
-/// A client for each of these sessions, in their order. An `Err` says that an allocation failed; then the sessions are dropped.
+/// Makes a client of each of these sessions, in their order. An `Err` says that an allocation failed; then the sessions are
+/// dropped.
 ///
-/// Condition: the sessions may call the owner's cache, as those may that it has given out.
+/// Condition: the sessions may call the owner's cache, like those that it has given out.
 pub fn clients<'a>(
     owner: &'a CacheOwner,
     alloc: Global,
@@ -26,10 +27,10 @@ pub fn clients<'a>(
     Ok(clients)
 }
 
-/// The sessions of these clients, in their order: a cache is [closed](CacheOwner::close) with all of its sessions. An `Err` says that
-/// an allocation failed; then the clients are dropped.
+/// Returns the sessions of these clients, in their order: a cache is [closed](CacheOwner::close) with all of its sessions. An
+/// `Err` says that an allocation failed; then the clients are dropped.
 ///
-/// Condition: the clients are of the owner's cache. A function of a user's own that is lent a client says so by
+/// Condition: the clients are of the owner's cache. A function of your own that is lent a client states this by
 /// `ensures { client.new.cache ≡ client.old.cache }`.
 pub fn sessions_of(
     owner: &CacheOwner,

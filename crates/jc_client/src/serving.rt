@@ -1,4 +1,4 @@
-//! A service whole: a cache is opened, clients of it work on threads of their own, and it is ended.
+//! A whole service: a cache is opened, its clients work on threads of their own, and it is ended.
 ghost use Rattle.std.specs.Prelude.{◌≡◌, length, map, IfOk, IfErr};
 ghost use Rattle.jc_client.specs.Clients.{HasServed, HasWorked, IsServeRefusal, WorksEach, client_state};
 
@@ -12,26 +12,27 @@ use std::marker::{Send, Sync};
 use std::sync::Wait;
 use std::thread::{self, Threads};
 
-/// What a service does with each client of its cache.
+/// The work of a service with each client of its cache.
 ///
-/// Its relation holds of every call unless an author gives another, so an author who states nothing writes none of the `ghost` lines.
+/// Unless an author gives another relation, it holds of every call. So an author who states nothing leaves out the `ghost` lines.
 pub trait Service<R: Wait, X> {
     ghost use Rattle.jc_client.specs.Clients.{ClientState};
 
-    /// One call of `work`: the client's state before it, what is returned, the client's state after it.
+    /// One call of `work`: the client's state before it, the returned value, and the client's state after it.
     ghost works: { Self → ClientState → X → ClientState → Type 0 } = { λ service before returned after. Unit {0} };
 
-    /// The work of one client, on a thread of its own. Which one it is, its session's number says (`client.caller().session`).
-    /// [`serve`] returns the result to its caller.
+    /// Does the work of one client, on a thread of its own. The session's number (`client.caller().session`) says which client it
+    /// is. [`serve`] returns the result to its caller.
     fn work(&self, rt: &R, client: &mut Client<'_>) -> X
         requires { Unit {0} }
         ensures { works self.now (client_state client.old.session) result (client_state client.new.session) };
 }
 
-/// Has each of these clients do its work, once, on a thread of its own if one can be made, and waits until all have ended. What they
-/// have returned comes back, in the order of the clients. The clients are dropped after their work: [`CacheOwner::end`] is what ends the cache.
+/// Makes each of these clients do its work once, on a thread of its own if one can be made, and waits until all have ended. It
+/// returns their results, in the order of the clients. The clients are dropped after their work, so only [`CacheOwner::end`] can
+/// end the cache.
 ///
-/// An `Err` says that an allocation failed; then some of them may not have worked. It may wait, as long as the work does.
+/// An `Err` says that an allocation failed; then some of the clients may not have worked. It may wait, as long as the work does.
 pub fn work_all<R: Threads + Wait + Sync, X: Send + Drop, S: Service<R, X> + Sync>(
     rt: &R,
     service: &S,
@@ -49,12 +50,12 @@ pub fn work_all<R: Threads + Wait + Sync, X: Send + Drop, S: Service<R, X> + Syn
     )
 }
 
-/// A service whole: a cache of this shape is opened, which lives on; each of these brings a session; a client for each session does its
-/// work, each on a thread of its own if one can be made; and when all have ended, so does the cache. What each client has returned comes
-/// back in the order of the sessions, beside the closed cache, which says what was counted.
+/// Runs a whole service. It opens a cache of this shape that lives on, gives out a session for each loader and writer in
+/// `outside`, and runs a client for each session, each on a thread of its own if one can be made. When all have ended, it ends
+/// the cache. It returns the clients' results in the order of the sessions, and the closed cache, which has the statistics.
 ///
-/// It is refused as by [`CacheOwner::living`], [`CacheOwner::enlist_all`] and [`CacheOwner::end`], and as `OutOfMemory` if what the
-/// clients return finds no room; then some of them may not have worked.
+/// It is refused as by [`CacheOwner::living`], [`CacheOwner::enlist_all`] and [`CacheOwner::end`], and as `OutOfMemory` if there
+/// is no memory for the clients' results; then some of the clients may not have worked.
 ///
 /// It may wait, as long as the clients' work does.
 pub fn serve<R: Threads + Wait + Sync, X: Send + Drop, S: Service<R, X> + Sync>(
@@ -82,7 +83,7 @@ pub fn serve<R: Threads + Wait + Sync, X: Send + Drop, S: Service<R, X> + Sync>(
     }
 }
 
-/// Has this client do its work.
+/// Makes this client do its work.
 fn work_by<R: Wait, X, S: Service<R, X>>(rt: &R, service: &S, client: Client<'_>) -> X
     requires { Unit {0} }
     ensures { HasWorked (S.works service.now) (client_state client.entry.session) result }

@@ -1,8 +1,8 @@
--- What a call keeps that was answered outside.
---     CallAnswer      what the loader or the writer has answered; or what the processor did, and what the writer reported of that, if it was
---                     asked
---     out_of          what was answered, as the outside answers of its step
---     IsAnswered      the one whom the ticket's reservation asks first has answered the ticket's ask
+-- The outside answer of a call.
+--     CallAnswer      the answer of the loader or the writer; or what the processor did, and the writer's report on it, if the
+--                     writer was asked
+--     out_of          the answer, as the outside answers of its step
+--     IsAnswered      whoever the ticket's reservation asks first has answered its ask
 use Rattle.std.specs.Prelude.{◌≡◌, true, Option}
 use Rattle.jc_model.specs.declared.event.Out.{Out}
 use Rattle.jc_model.specs.Group.{load_only, write_only}

@@ -1,15 +1,17 @@
--- What a whole call does outside.
---     change_wanted    the change of the store that the writer table asks for, by what a processor answered, with write-through on
---     AsksLoader       what a step's answer says of the loader: it was called once, with this key, and answered this; or it is untouched
---     AsksWriter       the same of the writer, for the change that was asked for
---     KeepsTypes       the agent's loader and writer are of the types that they had before
---     WritesEffect     the writer was asked once for what a processor's run changes, if that is to be written and there is a change; all else
---                      of the agent stays
---     IsProcessed      a ticket's processor was run once, on the entry that the ticket's first phase found, and the writer was asked for its
---                      net effect, if it is to be; all else of the agent stays
---     own_after        how many steps the agent has made after a call
---     RunsProcessor    what a step's answer says of the processor: it was run once, on the entry that the step found, which it may load with
---                      read-through on if it is missing, and this is what came of it; or it is untouched
+-- The calls outside of a whole call.
+--     change_wanted    the change of the store that the writer table wants after this answer of a processor, with write-through
+--                      on
+--     AsksLoader       the loader's part in a step's outside answers: it was called once, with this key, and answered this; or it
+--                      is untouched
+--     AsksWriter       as `AsksLoader`, for the writer and the change that was asked for
+--     KeepsTypes       the agent's loader and writer have the same types as before
+--     WritesEffect     the writer was called once for the change of a processor's run, if there is one and it is to be written;
+--                      the rest of the agent is unchanged
+--     IsProcessed      a ticket's processor was run once, on the entry that the ticket's first phase found, and the writer was
+--                      called for its net effect, if that is to be written; the rest of the agent is unchanged
+--     own_after        the number of steps that the agent has made, after a call
+--     RunsProcessor    the processor's part in a step's outside answers: it was run once, on the entry that the step found, and
+--                      answered this; with read-through on, it might load a missing entry. Or it is untouched
 use Rattle.std.specs.declared.dyn_box.DynBox.{DynBox}
 use Rattle.std.specs.Prelude.{◌≡◌, ◌&&◌, ℕ, List, Bool, true, Option, None, Result, Ok, Err, is_none, is_some, MatchBool, if◌then◌else◌}
 use Rattle.jc_types.specs.declared.refusal.Refusal.{Refusal}

@@ -1,17 +1,20 @@
 -- Whole calls of an agent on one key, over any gate.
---     MayCallHere     an agent may make its current call at a key: it has nothing out; each state in which a take may find the stripe is
---                     live, and the session's own steps there let the call come; with write-through on there, the agent has a writer
---     MayCallAt       the same of an access
---     MayEnd          an agent may have a ticket's call answered and committed: the ticket has asked nobody and is of its session; each
---                     state in which a take may find the stripe is live; if the writer is asked first, the agent has one
---     Enters          a call up to where it is done, refused, or has somebody to ask: a row of lendings
---     AsksAndEnds     a call from where it has somebody to ask: the loader or the writer is asked, and then the step is committed
+--     MayCallHere     an agent may make its current call at a key: it has nothing out; each state in which a take may find the
+--                     stripe is live, and the session's own steps there allow the call; if write-through is on there, the agent
+--                     has a writer
+--     MayCallAt       as `MayCallHere`, for an access
+--     MayEnd          an agent may ask outside for a ticket and commit its call: the ticket has asked nobody and is of the
+--                     agent's session; each state in which a take may find the stripe is live; if the writer is asked first, the
+--                     agent has one
+--     Enters          a call up to the point at which it is done, refused, or needs an outside answer: a row of lendings
+--     AsksAndEnds     a call from that point on: the loader or the writer is asked, and then the step is committed
 --     IsCall          a whole call
---     IsInvocation    a whole call that runs a processor, which stays of its type
---     IsBusy          a call that waits for nobody wasn't made: somebody else had the stripe, or it was found, and the call can't be made on it
---                     without waiting or asking; if a generation stood in the way, it was tried once more
---     TriesTo         such a call's first phase, at the first try, or at the second if a generation stood in the way of the first
---     IsTried         such a call: it is done at once or refused in the one state that it found, or it is refused as busy
+--     IsInvocation    a whole call that runs a processor, whose type stays the same
+--     IsBusy          a call that never waits wasn't made: somebody else had the stripe, or the call couldn't be made there
+--                     without waiting or asking; if a generation stood in the way, there was one more try
+--     TriesTo         the first phase of such a call, at the first try, or at the second if a generation stood in the way of the
+--                     first
+--     IsTried         such a call: it is done at once or refused in the one state that it found, or it is refused as `Busy`
 use Rattle.std.specs.declared.dyn_box.DynBox.{DynBox}
 use Rattle.std.specs.Prelude.{◌≡◌, ◌⊎◌, ℕ, List, true, false, Option, Result, Ok, Err, IsSome}
 use Rattle.jc_types.specs.declared.caller.Caller.{Caller}

@@ -1,20 +1,22 @@
--- What a session brings to the door of a stripe, and what it leaves there.
+-- A session at the door of a stripe: what a phase needs there, and what it leaves.
 --     KeepsAccess  the access still borrows the same gate, token and agent
 --     IsReady      the agent holds no stripe, and the token has not taken the gate's and speaks for the agent's session
 --     FitsGate     a phase is of this session, and each state in which a take may find the stripe has what the phase needs
---     MakesPhase   the session is at the door again, with these counts, after this phase, or up to there
---     MakesCall    the session is at the door again, after this whole call
---     IsLeft       a stripe that was found in this state is given back without a phase, with its generation ended exactly if it is full and
---                  may end
---     HasWaited    a lending in which the session had to wait: its phase couldn't be made on what was found, or was put off; the generation has
+--     MakesPhase   the session is ready again, with these counts, after this phase, or after the lendings before it
+--     MakesCall    the session is ready again, after this whole call
+--     IsLeft       a stripe that was found in this state is given back without a phase; its generation has ended exactly if it
+--                  was full and might end
+--     HasWaited    a lending in which the session had to wait: its phase couldn't be made, or was put off; the generation has
 --                  ended exactly if it was full and might end
---     waiting      a turn in which the session waits so
+--     waiting      the turn of a phase that waits like this
 --     IsAgain      no lending, or one whose generation stood in the way
---     AreTries     tries of a phase, and how often somebody else had the stripe: one, and one more if a generation stood in the way
---     Misses       so many tries in which somebody else had the stripe, at most one; what the next take finds, it might have found
---     HasTriedOnce a phase was tried once and not made: somebody else had the stripe; or it was found, and the session would have had to wait,
---                  and this says whether its generation stood in the way
---     HasTried     the same, and once more if a generation stood in the way: a row of lendings, and perhaps a miss
+--     AreTries     the tries of a phase, and how often somebody else had the stripe: one, and one more if a generation stood in
+--                  the way
+--     Misses       the number of tries in which somebody else had the stripe, at most one; the next take finds only what this one
+--                  might have found
+--     HasTriedOnce a phase was tried once and not made: somebody else had the stripe, or the session would have had to wait; the
+--                  flag says whether a generation stood in the way
+--     HasTried     as `HasTriedOnce`, with one more try if a generation stood in the way: a row of lendings, and perhaps a miss
 use Rattle.std.specs.Prelude.{◌≡◌, ◌⊎◌, ℕ, zero, suc, List, [], ◌∷◌, Bool, true, false, MatchBool}
 use Rattle.jc_stripe.specs.Renewal.{RenewsIfFull, is_renewable}
 use Rattle.jc_stripe.specs.State.{State}

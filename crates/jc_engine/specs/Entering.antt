@@ -1,8 +1,8 @@
--- How a call goes on until it is done, refused, or has somebody to ask.
---     EntersBy          its lendings up to there, by what is returned beside a reply that was written apart: None says that it is done with this
---                       reply, a ticket that it has reserved its key, and a refusal that nothing was done
---     counts_entered    the counts up to there: a step more, a reservation more, or nothing
---     ended_with        what a whole call replies, or that it was refused, of a reply that was written apart
+-- A call up to the point at which it is done, refused, or needs an outside answer.
+--     EntersBy          its lendings up to there, by what is returned: None if the call is done, with this reply; a ticket if it
+--                       has reserved its key; a refusal if nothing was done
+--     counts_entered    the counts at that point: one step more, one reservation more, or unchanged
+--     ended_with        the reply, which is returned apart, or the refusal
 use Rattle.std.specs.Prelude.{List, Option, None, Some, Result, Ok, Err}
 use Rattle.jc_types.specs.declared.caller.Caller.{Caller}
 use Rattle.jc_types.specs.declared.refusal.Refusal.{Refusal}

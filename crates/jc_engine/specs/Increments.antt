@@ -1,24 +1,24 @@
--- What entry processors leave of an entry that nothing else changes: N increments leave N.
+-- The effect of entry processors on an entry that nothing else changes: N increments leave N.
 --     opening_entry    the entry that a stripe's first opening has at a key
---     count_at         how many events of a history are at a key
---     SetsNext         the event at a place of a stripe's whole history is the step of a processor's call without a fault, and sets a
---                      value that comes next after the entry that the key had in the state in which the step was made
---     AllSetNext       so is each event at a key: none is of another operation, or an eviction
---     next_times       an entry after so many steps, each of which sets the next value of the entry before it
---     LeavesNext       the law: of a key at which each event sets the next value, the entry is the first opening's after as many steps as
---                      there are events
---     LeavesSum        the law for an entry that stands for a number: if each event at a key sets a value of one more, the number is
---                      that of the first opening's entry and the number of events, so no increment is lost
---     IsByTable        an event is as the operation table says: at some entry its step asks for exactly those answers, and replies this;
---                      what shares a load is a `Get`
---     EventsByTable    the law: each event of a stripe's whole history is so
--- A call of a cache's `invoke` that returned a value gives `SetsNext` in every later state of its stripe, that is, one whose whole history
--- begins with what the call's session has seen (proved as `sets_next` in `jc_cache/proofs/Increments.antt`): `decided` is the
--- `state_decided` of its row, and `reached`, `same` and `earlier` are what its `between` says of that; `made_in` is its `alone`, which
--- stays so as the history grows; the event is at the place that its `seat` gives. By `EventsByTable` that event shares no load, so its
--- answers are those that were asked for, its processor was run, and since it replies with a value there was no fault. So `set` and
--- `next` are for the call's `run` to say: what the processor did with the entry of `decided`. If that was missing and a value was loaded,
--- the processor was shown the loaded one, and `next` has to hold of the missing entry all the same.
+--     count_at         the number of events of a history at a key
+--     SetsNext         the event at a place of a stripe's whole history is the step of a processor's call without a fault; it
+--                      sets a value that comes next after the entry that the key had when the step was made
+--     AllSetNext       every event at a key is such a step: none is of another operation, or an eviction
+--     next_times       an entry after `n` steps, each of which sets the next value of the entry before it
+--     LeavesNext       the law: if every event at a key sets the next value, the entry is the first opening's after as many steps
+--                      as there are events
+--     LeavesSum        the law for an entry that stands for a number: if every event at a key adds one, the number is that of the
+--                      first opening's entry plus the number of events, so no increment is lost
+--     IsByTable        an event follows the operation table: at some entry its step asks for exactly these answers, and gives
+--                      this reply; only a `Get` shares a load
+--     EventsByTable    the law: every event of a stripe's whole history follows the table
+-- A call of a cache's `invoke` that returned a value gives `SetsNext` in every later state of its stripe, that is, one whose
+-- whole history begins with what the call's session has seen (proved as `sets_next` in `jc_cache/proofs/Increments.antt`).
+-- `decided` is the `state_decided` of the call's row. Its `between` gives `reached`, `same` and `earlier`; its `alone` gives
+-- `made_in`, which stays true as the history grows; its `seat` gives the place. By `EventsByTable` the event shares no load. So
+-- its answers are those that were asked for, and its processor was run; since it replies with a value, there was no fault. `set`
+-- and `next` are left for the call's `run` to state: what the processor did with the entry of `decided`. If that was missing and
+-- a value was loaded, the processor was shown the loaded one, and `next` has to hold of the missing entry all the same.
 use Rattle.std.specs.Prelude.{◌≡◌, ◌==◌, ◌+◌, ℕ, zero, suc, List, count_by, true, Option, None, Some, slice_get}
 use Rattle.std.specs.Cmp.Lexicographic.{pointwise}
 use Rattle.std.specs.FinMap.{from_entries}

@@ -1,6 +1,6 @@
 -- The state in which a call's step was made.
---     IsNext     the place of a step at a key that was made in this state: it is the next event of the state's whole history, or the
---                next one behind the eviction that made room for the key, which was missing
+--     IsNext     the place of a step at a key that was made in this state: it is the next event of the state's whole history, or
+--                it follows the eviction that made room for the key, which was missing
 use Rattle.std.specs.Prelude.{◌≡◌, ◌⊎◌, ◌+◌, ℕ, List, length, None, Some, slice_get}
 use Rattle.jc_model.specs.Cache.{Bytes, entry_at}
 use Rattle.jc_model.specs.declared.event.Cause.TheVariants.{Full}

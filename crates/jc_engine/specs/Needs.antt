@@ -1,24 +1,27 @@
--- What the phases need of the stripe that a take finds, beside what they test there, and what a first phase makes of it.
---     BeginsIfClear   a call may begin on a live stripe in this state if the stripe is clear for it: a step of it may come after the
---                     session's own steps
+-- The conditions of phases on the stripe that a take finds, beside those that they test there, and the effect of a first phase.
+--     BeginsIfClear   a call may begin on a live stripe in this state, once the stripe is clear for it: the session's own steps
+--                     allow it
 --     StartsAt        a call's first phase on a live stripe that is clear for it
 --     is_alone        a first phase is made only if it asks nobody
---     can_start       a first phase can be made: the stripe is clear for it, needn't end its generation first, and nobody is asked that
---                     mustn't be
---     is_waited_out   a first phase met a refusal that others' calls can end
---     puts_off        a first phase is to be tried again: it met such a refusal, and waits it out
---     StartsBy        a call's first phase, by how it goes about what stands in its way
---     Starts          one that waits
---     IsPutOff        a stripe in this state refuses a call, which waits that out
---     Hits            whether a first phase of a get on a live stripe found its entry, and its value; if it didn't, nothing was done
---     CannotHit       a get can't be a hit on such a stripe: it isn't clear for it, its history has no place, or the entry is missing
---     HasMissed       it wasn't a hit: nothing was done
---     counted_hit     what that changes of its session's counts
+--     can_start       a first phase can be made: the stripe is clear for it, no generation has to end first, and it asks nobody
+--                     if it mustn't
+--     is_waited_out   a first phase was refused for a reason that other calls can end
+--     puts_off        a first phase is to be tried again: it was refused for such a reason, and waits it out
+--     StartsBy        a call's first phase, by what it does if it is blocked
+--     Starts          a first phase that waits if it is blocked
+--     IsPutOff        a stripe in this state refuses a call, which waits the refusal out
+--     Hits            whether the first phase of a get on a live stripe found its entry, and the value; if it didn't, nothing was
+--                     done
+--     CannotHit       a get can't be a hit on this stripe: the stripe isn't clear for it, its history has no place, or the entry
+--                     is missing
+--     HasMissed       a get wasn't a hit: nothing was done
+--     counted_hit     the change of the session's counts
 --     IsReported      after a processor, the writer's report is there exactly if it is due
---     CommitsHere     a call that was answered is to be committed on a live stripe in this state, if its reservation is out there
---     is_early        a pick-up that waits has come too early
---     PicksUpBy       a pick-up, which may wait, and whose reply was written apart
---     IsTooEarly      one that waits would come too early to a stripe in this state
+--     CommitsHere     a call that has its outside answer may be committed on a live stripe in this state, if its reservation is
+--                     out there
+--     is_early        a pick-up that waits is too early
+--     PicksUpBy       a pick-up, which may wait, and whose reply is returned apart
+--     IsTooEarly      a pick-up that waits would be too early on a stripe in this state
 --     PicksUpLate     a pick-up that isn't too early
 use Rattle.std.specs.Prelude.{◌≡◌, ◌⊎◌, Bool, true, false, not, ◌&&◌, None, Some, length}
 use Rattle.jc_types.specs.declared.caller.Caller.{Caller}

@@ -1,10 +1,11 @@
 -- A whole call on a stripe that nobody else has.
---     next_after      the number of the next reservation after a call: the next one if the call had to reserve its key
---     OneStep         the stripe appends the group of one step, which nobody shares, with this reply
---     EndsCall        how a call ends: with one step, or refused as its first phase refuses it, and then nothing is asked and nothing
+--     next_after      the number of the next reservation after a call: one more if the call had to reserve its key
+--     OneStep         the stripe appends the group of one step, which no other step shares, with this reply
+--     EndsCall        the end of a call: one step; or the refusal of its first phase, and then nobody is asked and nothing
 --                     changes
---     IsOwnedCall     a whole call on an owner's stripe: how it ends there, and what it leaves of the agent, the loader and the writer
---     IsOwnedInvocation    one that runs a processor, which is shown the entry that the stripe had and stays of its type
+--     IsOwnedCall     a whole call on an owner's stripe: its end there, and its effect on the agent, the loader and the writer
+--     IsOwnedInvocation    a whole call that runs a processor, which is shown the entry that the stripe had, and whose type stays
+--                          the same
 use Rattle.std.specs.declared.dyn_box.DynBox.{DynBox}
 use Rattle.std.specs.Prelude.{◌≡◌, ◌+◌, ℕ, List, [], Option, None, Some, Result, Ok, Err, if◌then◌else◌}
 use Rattle.jc_types.specs.declared.caller.Caller.{Caller}

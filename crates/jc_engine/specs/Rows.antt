@@ -1,12 +1,14 @@
--- Rows of lendings: what a session did at a stripe, one lending after another.
---     IsLending    one take that finds the stripe in this state, and one give that leaves it in that: at most one phase of the session, or a
---                  renewal, leads there, and what the next take finds comes after what was left
+-- Rows of lendings: the visits of a session at a stripe, one after another.
+--     IsLending    one take that finds the stripe in the first state, and one give that leaves it in the second: at most one
+--                  phase of the session, or a renewal, leads there, and what the next take finds comes after what was left
 --     Row          lendings one after another, each by the states in which the stripe was found and left
---     AllLend      this is so of each of these lendings
---     Turn         what a session does at a stripe: what is so of each lending in which it waits, and of the one in which it makes its phase
---     IsTurn       these lendings are such a turn: in all but the last one the session had to wait, and in the last one it made its phase
---     LentPhase    a row of lendings that are such a turn; the last one made at most one phase of the session
---     PhaseLaws    the laws of one lending: what a phase and a renewal leave of the stripe, and of the session's own steps
+--     AllLend      the condition holds of each of these lendings
+--     Turn         the visits of a session up to one phase: a condition on each lending in which it waits, and one on the lending
+--                  in which it makes its phase
+--     IsTurn       these lendings are such a turn: in all but the last one the session had to wait, and in the last one it made
+--                  its phase
+--     LentPhase    a row of lendings that is such a turn; the last one made at most one phase of the session
+--     PhaseLaws    the laws of one lending: the effect of a phase and of a renewal on the stripe, and on the session's own steps
 use Rattle.std.specs.Prelude.{◌≡◌, ◌⊎◌, ◌++◌, ℕ, List, [], ◌∷◌}
 use Rattle.jc_stripe.specs.State.{State}
 use Rattle.jc_stripe.specs.OnePhase.{IsPhaseOf, OnePhase}

@@ -1,4 +1,4 @@
--- What the phases need stays until the next take.
+-- The conditions of phases still hold at the next take.
 use Rattle.std.proofs.Common.{ap, sym, subst, ◌∙◌, List}
 use Rattle.jc_types.specs.declared.caller.Caller.{Caller}
 use Rattle.jc_types.specs.declared.config.Config.{Config}

@@ -1,20 +1,20 @@
--- The turns of a call at its key's stripe: each is a phase that it makes there, and why it had to wait before; and the row of lendings of a
--- whole call, turn by turn.
+-- The turns of a call at its key's stripe: each is a phase that it makes there, with its reasons to wait before; and the row of
+-- lendings of a whole call, turn by turn.
 --     StartWaits    a first phase had to wait: it couldn't be made, or was put off
---     starting      a first phase that waits; a get may also have looked for a hit in vain
---     trying        one that is made only if it asks nobody, and waits for nothing
---     picking       a pick-up that waits
---     committing    a commit
+--     starting      the turn of a first phase that waits; a get may also have looked for a hit in vain
+--     trying        the turn of a first phase that never waits, and is made only if it asks nobody
+--     picking       the turn of a pick-up that waits
+--     committing    the turn of a commit
 --     IsRejoin      these lendings are two turns: a load was joined, and the call was told to retry
---     AreRejoins    so many times that
---     IsBegunRow    the same, and a first phase that is the last one, which began so
---     EndsBy        how a call ends after its first phase, what was asked outside for it, and its lendings from there on
+--     AreRejoins    this many such pairs of turns
+--     IsBegunRow    such pairs of turns, and then the first phase with this outcome
+--     EndsBy        the end of a call after its first phase: its result, its outside answers, and its lendings from there on
 --     IsCallRow     the lendings of a whole call: loads that it joined in vain, its first phase, and its end
 --     HasLookedFirst
---                   the lendings of a get: in the first one it found its entry, and that is all; or it couldn't be a hit there, and left the
---                   stripe as it was
---     state_of_step the state in which a call's step was made, by what its first phase began: that in which it was committed, if it had
---                   somebody to ask, and else that in which the stripe was found first
+--                   the lendings of a get: in the first one it found its entry, and there are no others; or it couldn't be a hit
+--                   there, and left the stripe as it was
+--     state_of_step the state in which a call's step was made, by the outcome of its first phase: that of its commit, if it
+--                   needed an outside answer, and otherwise that in which its first phase found the stripe
 --     state_found, state_decided
 --                   the state in which a call's first phase found the stripe, and the one in which its step was made
 use Rattle.std.specs.Prelude.{◌≡◌, ◌⊎◌, ◌++◌, ℕ, zero, suc, List, [], ◌∷◌, true, IsTrue, Result, Ok, Err}

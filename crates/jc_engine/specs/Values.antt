@@ -1,6 +1,7 @@
--- What a call returns that replies with a value.
---     value_in      the value, if there is one: a fault is an error
---     value_into    the same where the value is written to a room: whether there is one, and what the room holds; without a value it stays
+-- The results of calls that reply with a value.
+--     value_in      the value, if there is one; a fault is an error
+--     value_into    the result if the value is written to the caller's memory: whether there is one, and what the memory has;
+--                   without a value it is unchanged
 use Rattle.std.specs.Prelude.{Bool, true, false, Option, None, Some, Result, Ok, Err}
 use Rattle.jc_types.specs.declared.refusal.Refusal.{Refusal}
 use Rattle.jc_model.specs.Cache.{Bytes}

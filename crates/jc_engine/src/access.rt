@@ -5,7 +5,7 @@ use jc_session::Agent;
 /// The access of a session to one stripe: the gate that lends the stripe, the token that takes it there, and the session's agent.
 /// Phases and whole calls are its methods.
 ///
-/// Its parts stay where they are; an access borrows them for a call.
+/// An access only borrows these three, for one call.
 #[derive(Drop)]
 pub struct Access<'a, G: Gate> {
     /// The gate, which lends the stripe.

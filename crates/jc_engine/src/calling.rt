@@ -16,18 +16,18 @@ use jc_types::{Key, Refusal};
 use std::sync::Wait;
 
 impl<'a, G: Gate> Access<'a, G> {
-    /// The agent's current call, whole: its first phase, then the loader or the writer while no stripe is held, and its last phase; or
-    /// the answer of a load that it has joined. It writes what the call replies to `reply`.
+    /// Carries out the agent's current call: its first phase, then the loader or the writer while no stripe is held, then its
+    /// last phase; or it takes the answer of a load that it has joined. The call's reply is written to `reply`.
     ///
     /// It waits while others hold the stripe, for the loader or the writer, for a load that it has joined, and until it may begin
-    /// (`Busy`, `TooManyInFlight` and `TooManyJoiners` are waited out). Nothing says that it returns. Of the refusals that change
-    /// nothing it answers `HistoryFull` alone.
+    /// (`Busy`, `TooManyInFlight` and `TooManyJoiners` are waited out). It may wait for ever. Of the refusals that change
+    /// nothing, it returns `HistoryFull` alone.
     ///
-    /// Conditions: the agent holds no stripe, and has no reservation and no join out; the token has not taken the gate's stripe and
-    /// speaks for the session; the stripe that a take finds is live, the session's own steps there let the call come, and if it has
-    /// write-through on, the agent has a writer. The operation runs no processor.
+    /// Conditions: the agent holds no stripe, and has no reservation and no join out; the token has not taken the gate's stripe
+    /// and speaks for the session; the stripe that a take finds is live, and the session's own steps there allow the call; if the
+    /// stripe has write-through on, the agent has a writer; the operation runs no processor.
     ///
-    /// Out of line: a [`get`](Access::get_into) that is a hit shouldn't clear the room of what the loader answers.
+    /// It is not inlined, so that a hit of [`get_into`](Access::get_into) doesn't clear memory for the loader's answer.
     #[inline(never)]
     pub fn call<R: Wait>(
         &mut self,
@@ -55,10 +55,10 @@ impl<'a, G: Gate> Access<'a, G> {
         }
     }
 
-    /// Asks the loader or the writer, whichever the ticket's reservation asks first, and commits the call. No stripe is held while they
-    /// are asked. It writes what the step replies to `reply`.
+    /// Asks the loader or the writer, whichever the ticket's reservation asks first, while no stripe is held, and commits the
+    /// call. The step's reply is written to `reply`.
     ///
-    /// Out of line: a call that is done at once shouldn't clear the room of what is answered.
+    /// It is not inlined, so that a call that is done at once doesn't clear memory for an outside answer.
     #[inline(never)]
     fn ask_and_end<R: Wait>(&mut self, rt: &R, ticket: Ticket, reply: &mut Reply)
         requires ready { IsReady G.is_free G.speaks_for self.old }

@@ -1,4 +1,4 @@
-//! The door to a stripe: any phase, over any gate. It takes the stripe, makes the phase, gives the stripe back and counts.
+//! The door to a stripe, for every phase and every gate: it takes the stripe, makes the phase, gives the stripe back and counts.
 ghost use Rattle.std.specs.Prelude.{◌≡◌, IfOk, IfErr};
 ghost use Rattle.jc_stripe.specs.State.{State};
 ghost use Rattle.jc_stripe.specs.OnePhase.{IsPhaseOf};
@@ -25,33 +25,34 @@ pub trait Phase {
     ghost use Rattle.jc_session.specs.Counting.{IsCounted};
     ghost use Rattle.jc_session.specs.declared.counts.Counted.{Counted as CountedBy};
 
-    /// What it gives.
+    /// The outcome of the phase.
     type Answer;
 
-    /// The number of the session whose phase it is.
+    /// The number of the phase's session.
     ghost who: { Self → ℕ };
 
-    /// What it needs of each stripe that it may find.
+    /// The condition of the phase on each stripe that it may find.
     ghost needs: { Self → State → Type 0 };
 
-    /// It can be made on a stripe in this state.
+    /// The phase can be made on a stripe in this state.
     ghost due: { Self → State → Type 0 };
 
-    /// It isn't made on a stripe in this state, though it can be: the refusal isn't returned, the call waits and tries again.
+    /// The phase can be made on a stripe in this state, but is put off: the refusal isn't returned, the call waits and tries
+    /// again.
     ghost puts_off: { Self → State → Type 0 };
 
-    /// What it gives of the one state, the reply that it writes, if it has one, and what it leaves.
+    /// The effect of the phase: the state before it, its outcome, the reply that it writes, if any, and the state after it.
     ghost makes: { Self → State → Self.Answer → Replied → State → Type 0 };
 
-    /// What it adds to its session's counts, or takes off them.
+    /// The change of the session's counts by the phase.
     ghost counts: { Self.Answer → CountedBy };
 
     /// Whether the phase may run now, on this stripe.
     fn is_due(&self, stripe: &Stripe) -> bool
         ensures { IsTrue result ↔ due self.now stripe.now };
 
-    /// The phase. If its call is done, it writes what that replies to `reply`, so that a value isn't copied on the way. An `Err` gives
-    /// it back: it is put off, and the stripe stays as it was.
+    /// Makes the phase. If the phase ends its call, it writes the call's reply to `reply`, so that a value isn't copied on the
+    /// way. An `Err` gives the phase back: it is put off, and the stripe stays as it was.
     fn make(self, stripe: &mut Stripe, reply: &mut Reply) -> Result<Self::Answer, Self>
         requires needs { needs self stripe.old }
         requires due { due self stripe.old }
@@ -59,26 +60,26 @@ pub trait Phase {
             × IsCounted (counts answer) (who self) stripe.old stripe.new) }
         ensures back { IfErr result (λ back. (back ≡ self) × (stripe.new ≡ stripe.old) × puts_off self stripe.old) };
 
-    /// What it adds to its session's counts, or takes off them.
+    /// The change of the session's counts by the phase.
     fn counted(answer: &Self::Answer) -> Counted
         ensures { result ≡ counts answer.now };
 
-    /// Other sessions' phases leave what it needs.
+    /// Phases of other sessions keep the condition.
     ghost stays: { (p : Self) (a b : State) → ComesAfter (who p) a b → needs p a → needs p b };
 }
 
 impl<'a, G: Gate> Access<'a, G> {
-    /// Lends a stripe to a phase, as soon as the phase can be made there. What the call replies, if the phase ends it, is written to
-    /// `reply`.
+    /// Lends a stripe to a phase, as soon as the phase can be made there. If the phase ends its call, the call's reply is written
+    /// to `reply`.
     ///
-    /// It waits while somebody else holds the stripe. If the phase can't be made on the stripe that it finds, or is put off, it gives
-    /// the stripe back, with its generation ended if that may end, and tries again, after a pause if the agent has no reservation out.
-    /// Nothing says that it returns.
+    /// It waits while somebody else holds the stripe. If the phase can't be made on the stripe that it finds, or is put off, it
+    /// gives the stripe back and tries again, after a pause if the agent has no reservation out. Before it gives the stripe back,
+    /// it ends the stripe's generation if that may end. It may wait for ever.
     ///
-    /// Conditions: the agent holds no stripe; the token has not taken the gate's and speaks for the session, whose phase it is; each
-    /// stripe that a take may find has what the phase needs.
+    /// Conditions: the agent holds no stripe; the token has not taken the gate's and speaks for the session, whose phase it is;
+    /// each stripe that a take may find has what the phase needs.
     ///
-    /// In line: a phase may have what was answered outside, and shouldn't be copied once more.
+    /// It is inlined, so that a phase that has an outside answer isn't copied once more.
     #[inline(always)]
     pub fn lend<P: Phase, R: Wait>(&mut self, rt: &R, phase: P, reply: &mut Reply) -> P::Answer
         requires ready { IsReady G.is_free G.speaks_for self.old }
@@ -115,9 +116,9 @@ impl<'a, G: Gate> Access<'a, G> {
         unreachable!()
     }
 
-    /// Makes a phase, if the stripe is there and the phase can be made now, or after the generation that stood in its way has ended. An
-    /// `Err` gives it back: nothing was done, but that the stripe's generation may have ended. Then the stripe wasn't there, or each that
-    /// was found was one on which the phase can't be made, or on which it is put off.
+    /// Makes a phase, if the stripe is there and the phase can be made now, or after the end of a generation that stood in its
+    /// way. An `Err` gives the phase back: nothing was done, except that the stripe's generation may have ended. Either the
+    /// stripe wasn't there, or the phase couldn't be made, or was put off, on each stripe that was found.
     ///
     /// It never waits. Conditions: those of [`lend`](Access::lend).
     pub fn try_lend<P: Phase>(&mut self, phase: P, reply: &mut Reply) -> Result<P::Answer, P>
@@ -150,9 +151,9 @@ impl<'a, G: Gate> Access<'a, G> {
         }
     }
 
-    /// Makes a phase, if the stripe is there and the phase can be made now. An `Err` gives it back: nothing was done, but that the
-    /// stripe's generation may have ended. It also says whether the stripe was there and its generation was one that may end, so that
-    /// another try may do.
+    /// Makes a phase, if the stripe is there and the phase can be made now. An `Err` gives the phase back: nothing was done,
+    /// except that the stripe's generation may have ended. Its flag says whether another try may succeed: the stripe was there,
+    /// and its generation was one that may end.
     ///
     /// It never waits. Conditions: those of [`lend`](Access::lend).
     fn lend_once<P: Phase>(&mut self, phase: P, reply: &mut Reply) -> Result<P::Answer, (P, bool)>
@@ -192,7 +193,7 @@ impl<'a, G: Gate> Access<'a, G> {
         }
     }
 
-    /// Gives a stripe back on which no phase was made, with its generation ended if that may end.
+    /// Gives back a stripe on which no phase was made, and ends its generation if that may end.
     ///
     /// Conditions: the agent holds the stripe, as the token has taken it; the token speaks for the session.
     fn leave(&mut self, stripe: Box<Stripe>)

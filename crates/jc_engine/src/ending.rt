@@ -1,4 +1,5 @@
-//! The last phase of a call that has somebody to ask: it is committed with what was answered, or given back unasked.
+//! The last phase of a call that needs an outside answer: the call is committed with the answer, or withdrawn before anybody is
+//! asked.
 ghost use Rattle.std.specs.Prelude.{◌↔◌, IsTrue};
 ghost use Rattle.jc_stripe.specs.State.{IsOut};
 
@@ -7,7 +8,7 @@ use jc_model::Reply;
 use jc_session::Counted;
 use jc_stripe::{Appended, Ask, LoadDone, ProcDone, Stripe, Ticket, WriteDone};
 
-/// What was answered for a call that has reserved its key: by the loader, the writer, or the processor.
+/// An outside answer for a call that has reserved its key: of the loader, the writer, or the processor.
 pub trait Answer {
     ghost use Rattle.std.specs.Prelude.{◌≡◌};
     ghost use Rattle.jc_stripe.specs.State.{IsOut};
@@ -17,10 +18,10 @@ pub trait Answer {
     ghost use Rattle.jc_engine.specs.Answered.{CallAnswer, out_of};
     ghost use Rattle.jc_engine.specs.Needs.{CommitsHere};
 
-    /// The same, among all that may be answered.
+    /// The answer, among all outside answers.
     ghost answered: { Self → CallAnswer };
 
-    /// Commits the ticket's call, and writes what it replies to `reply`.
+    /// Commits the ticket's call, and writes the call's reply to `reply`.
     fn commit(self, stripe: &mut Stripe, ticket: Ticket, reply: &mut Reply) -> Appended
         requires out { IsOut stripe.old ticket.reservation }
         requires here { CommitsHere ticket (answered self) stripe.old }
@@ -48,7 +49,7 @@ impl Answer for WriteDone<Ask> {
     }
 }
 
-/// What the processor did, and what the writer reported of that, if it was asked. It can't be dropped or copied.
+/// What a processor did, and what the writer reported on it, if the writer was asked. It can't be dropped or copied.
 pub struct Processed {
     /// What the processor did.
     pub done: ProcDone<Ask>,
@@ -67,11 +68,11 @@ impl Answer for Processed {
     }
 }
 
-/// The last phase of a call that was answered outside. It can be made where the ticket's reservation is out.
+/// The last phase of a call that has its outside answer. It can be made where the ticket's reservation is out.
 pub struct Commit<A> {
     /// The ticket of its reservation.
     pub ticket: Ticket,
-    /// What was answered.
+    /// The outside answer.
     pub answer: A,
 }
 
@@ -113,7 +114,7 @@ impl<A: Answer> Phase for Commit<A> {
     }
 }
 
-/// The end of a call that has reserved its key and asked nobody: its reservation is given back, and the calls that have joined its
+/// The end of a call that has reserved its key and asked nobody: its reservation is withdrawn, and the calls that have joined its
 /// load begin again. It can be made where the ticket's reservation is out.
 pub struct Withdraw {
     /// The ticket of its reservation.

@@ -1,4 +1,4 @@
-//! A call up to where it is done, refused, or has somebody to ask.
+//! A call up to the point at which it is done, refused, or needs an outside answer.
 ghost use Rattle.std.specs.Prelude.{◌≡◌, ℕ};
 ghost use Rattle.std.specs.Bool.{OnTrue, OnFalse};
 ghost use Rattle.jc_stripe.specs.Polled.{Answer, Again};
@@ -21,15 +21,15 @@ use jc_types::{Key, Refusal};
 use std::sync::Wait;
 
 impl<'a, G: Gate> Access<'a, G> {
-    /// The agent's current call, up to where it is done, refused, or has somebody to ask. A ticket says that it has reserved its key, and
-    /// has somebody to ask; None that it is done, and what it replies is written to `reply`: it has made its step, or has shared another
-    /// call's load. An `Err` says that nothing was done.
+    /// Carries the agent's current call to the point at which it is done, refused, or needs an outside answer. A ticket says that
+    /// the call has reserved its key and needs an outside answer. `None` says that it is done: it has made its step, or has
+    /// shared another call's load, and its reply is written to `reply`. An `Err` says that nothing was done.
     ///
-    /// It waits out `Busy`, `TooManyInFlight` and `TooManyJoiners`. A call that joins a load waits until that is answered; if it was
-    /// given back unanswered, the call begins again.
+    /// It waits out `Busy`, `TooManyInFlight` and `TooManyJoiners`. A call that joins a load waits for the load's answer; if the
+    /// load is withdrawn, the call begins again.
     ///
-    /// Conditions: the agent holds no stripe, and has no reservation and no join out; the token has not taken the gate's stripe and
-    /// speaks for the session; the stripe that a take finds is live, and the session's own steps there let the call come.
+    /// Conditions: the agent holds no stripe, and has no reservation and no join out; the token has not taken the gate's stripe
+    /// and speaks for the session; the stripe that a take finds is live, and the session's own steps there allow the call.
     pub(crate) fn enter<R: Wait>(
         &mut self,
         rt: &R,
@@ -62,9 +62,9 @@ impl<'a, G: Gate> Access<'a, G> {
         unreachable!()
     }
 
-    /// Waits for the answer of a load that was joined, and writes it to `reply`. `false` says that the load was given back unanswered.
+    /// Waits for the answer of a load that was joined, and writes it to `reply`. `false` says that the load was withdrawn.
     ///
-    /// Out of line: a call that joins no load shouldn't clear the room of a pick-up.
+    /// It is not inlined, so that a call that joins no load doesn't clear memory for a pick-up.
     #[inline(never)]
     fn pick_up<R: Wait>(&mut self, rt: &R, join: Join, reply: &mut Reply) -> bool
         requires ready { IsReady G.is_free G.speaks_for self.old }

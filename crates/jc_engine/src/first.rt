@@ -16,9 +16,9 @@ use jc_types::{Caller, Key};
 pub enum How {
     /// It waits out `Busy`, `TooManyInFlight` and `TooManyJoiners`.
     Waits,
-    /// Each refusal is its answer.
+    /// It returns each refusal.
     Now,
-    /// Each refusal is its answer, and it is made only if it asks nobody: neither the loader, the writer or a processor, nor another
+    /// It returns each refusal, and is made only if it asks nobody: neither the loader, the writer or a processor, nor another
     /// call's load.
     Alone,
 }
@@ -34,7 +34,7 @@ impl How {
         }
     }
 
-    /// Whether a first phase that was begun so is put off.
+    /// Whether a first phase with this outcome is put off.
     fn puts_off(self, started: &Started) -> bool
         ensures { (reply : Replied) → result ≡ puts_off self (begun_with started.now reply) }
     {
@@ -45,7 +45,7 @@ impl How {
     }
 }
 
-/// Whether a first phase has met a refusal that others' calls can end.
+/// Whether a first phase was refused for a reason that other calls can end.
 fn is_waited_out(started: &Started) -> bool
     ensures { (reply : Replied) → result ≡ puts_off How.Waits (begun_with started.now reply) }
 {
@@ -62,7 +62,7 @@ pub struct First<'a> {
     pub caller: Caller,
     /// Its key.
     pub key: &'a Key,
-    /// What is called.
+    /// Its operation.
     pub op: &'a Op,
     /// What it does if it is blocked.
     pub how: How,

@@ -24,9 +24,9 @@ use jc_types::{Caller, Key, Refusal, Value};
 use std::sync::Wait;
 
 impl<'a, G: Gate> Access<'a, G> {
-    /// The agent's current call, if it is a `get`, whole: a hit, or else as [`call`](Access::call) makes it. It writes the key's value to
-    /// `value`, and says whether there is one; if not, `value` stays. An `Err` is a fault of the loader, or `HistoryFull`; then `value`
-    /// stays, too.
+    /// Carries out the agent's current call as a `get`: a hit at once, anything else as [`call`](Access::call) does. It writes
+    /// the key's value to `value`, and says whether there is one; if not, `value` stays. An `Err` is a fault of the loader, or
+    /// `HistoryFull`; then `value` stays, too.
     ///
     /// It may wait as any call does. Conditions: those of [`call`](Access::call).
     pub fn get_into<R: Wait>(
@@ -52,8 +52,8 @@ impl<'a, G: Gate> Access<'a, G> {
         self.get_in_phases(rt, key, value)
     }
 
-    /// The agent's current call, if it is a `get` and isn't a hit. It is a function of its own so that a hit doesn't clear the room of a
-    /// reply.
+    /// Carries out the agent's current call as a `get` that isn't a hit. It is a function of its own, so that a hit doesn't clear
+    /// memory for a reply.
     fn get_in_phases<R: Wait>(
         &mut self,
         rt: &R,
@@ -74,10 +74,10 @@ impl<'a, G: Gate> Access<'a, G> {
         write_value(&reply, value)
     }
 
-    /// The first phase of the agent's current call, if it is a `get` that finds its entry. It writes the value to `value`, and says
-    /// whether it found one. If not, nothing was done, and `value` stays.
+    /// Makes the first phase of the agent's current call, if it is a `get` that finds its entry. It writes the value to `value`,
+    /// and says whether it found one. If not, nothing was done, and `value` stays.
     ///
-    /// It waits while somebody else holds the stripe, and never for anything else. Conditions: those of [`call`](Access::call).
+    /// It waits while somebody else holds the stripe, and for nothing else. Conditions: those of [`call`](Access::call).
     fn hit<R: Wait>(&mut self, rt: &R, key: &Key, value: &mut Value) -> bool
         requires ready { IsReady G.is_free G.speaks_for self.old }
         requires may { MayCallAt G.finds key.now self.old }
@@ -125,7 +125,7 @@ fn hit_on(stripe: &mut Stripe, caller: Caller, key: &Key, value: &mut Value) -> 
     stripe.hit_into(caller, key, value)
 }
 
-/// What it adds to its session's counts.
+/// The change of the session's counts.
 fn counted_hit(is_hit: bool) -> Counted
     ensures { result ≡ counted_hit is_hit }
 {

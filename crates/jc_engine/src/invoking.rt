@@ -29,12 +29,13 @@ pub struct Invocation<'a> {
 }
 
 impl<'a, G: Gate> Access<'a, G> {
-    /// The agent's current call, whole, which runs a processor: its first phase, then the processor and, if its net effect is to be
-    /// written, the writer, while no stripe is held, and its last phase. It writes what the call replies to `reply`.
+    /// Carries out the agent's current call, which runs a processor: its first phase, then the processor and, if its net effect
+    /// is to be written, the writer, then its last phase. No stripe is held while the processor and the writer are called. The
+    /// call's reply is written to `reply`.
     ///
     /// It waits as [`call`](Access::call) does, but joins no load.
     ///
-    /// Conditions: those of [`call`](Access::call), but for the operation; and write-through is on or off as the stripe has it.
+    /// Conditions: those of [`call`](Access::call), except for the operation; and `write_through` is what the stripe has.
     pub fn invoke<R: Wait>(
         &mut self,
         rt: &R,
@@ -71,8 +72,8 @@ impl<'a, G: Gate> Access<'a, G> {
     }
 }
 
-/// Runs the processor, and has its net effect written if it is to be: the call may then be committed. The agent holds no stripe
-/// meanwhile.
+/// Runs the processor, and calls the writer if the net effect is to be written. The call may then be committed. The agent holds
+/// no stripe meanwhile.
 fn run<R: Wait>(
     rt: &R,
     agent: &mut Agent,
@@ -94,8 +95,8 @@ fn run<R: Wait>(
     Processed { done, report }
 }
 
-/// Calls the writer for a processor's net effect: once, with write-through on, if there is a change to ask for. The agent holds no
-/// stripe meanwhile.
+/// Calls the writer for a processor's net effect: once, if write-through is on and there is a change. The agent holds no stripe
+/// meanwhile.
 fn write_effect<R: Wait>(
     rt: &R,
     agent: &mut Agent,

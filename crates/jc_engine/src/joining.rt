@@ -7,11 +7,12 @@ use jc_model::Reply;
 use jc_session::Counted;
 use jc_stripe::{Join, Picked, Stripe};
 
-/// The pick-up of a call that has joined a load. It can be made where the join is out. The answer, if there is one, is written.
+/// The pick-up of a joined load's answer. It can be made where the join is out. If there is an answer, it is written to the
+/// reply.
 pub struct PickUp {
-    /// What it has joined.
+    /// The join of the call.
     pub join: Join,
-    /// Whether it waits until the load was answered or given back. Else it is an answer too that it wasn't yet.
+    /// Whether the pick-up waits until the load was answered or withdrawn. Otherwise it may return that there is no answer yet.
     pub waits: bool,
 }
 

@@ -1,16 +1,17 @@
 //! Phases and whole calls of one agent on one key, over any gate.
 //!
-//! A phase takes the stripe, is made and gives it back. A whole call is made of phases, with the loader, the writer or the
-//! processor called between them, while no stripe is held. What is stated here holds over every gate: what a take may find is the
-//! gate's to say. So the same code serves a plainly owned stripe and one that threads share.
+//! A phase takes the stripe, is made, and gives the stripe back. A whole call is made of phases; between them the loader, the
+//! writer or the processor is called, while no stripe is held. The contracts here hold over every gate, since each gate states
+//! what a take may find.
 //!
 //! Why it is so:
-//! - The engine knows a gate and no lock: over a lock the clause of a seat's view follows, over an owner that two phases are one step.
-//! - One door (`lend`): a phase is tested before it is handed over (`is_due`, `make`), so what a last phase holds is never handed back. A
-//!   phase lent by `&mut` cost 70 to 100 instructions more; the three answers as one enum 850.
-//! - Beside the door the try of a hit: it is made once, and writes into its caller's room.
-//! - `call_owned` wants a stripe that doesn't live on. A `try_` call tries once more after a renewal, in another lending.
-//! - `invoke` shares the phases of the eleven; only its middle differs.
+//! - The engine knows a gate and no lock, so that the same code serves both: over a lock its contract gives what a seat has seen,
+//!   over a plain owner that two phases are one step.
+//! - There is one door (`lend`). It tests a phase (`is_due`) before it hands it over (`make`), so that what a last phase holds is
+//!   never handed back. Lending a phase by `&mut` cost 70 to 100 instructions more, and one enum for the three answers cost 850.
+//! - The try of a hit doesn't use the door, because it is made once and writes into its caller's memory.
+//! - A lending has at most one phase, or a renewal. So a `try_` call tries once more after a renewal, in another lending, and
+//!   `call_owned` needs a stripe that doesn't live on.
 #![tactic(auto)]
 
 mod access;

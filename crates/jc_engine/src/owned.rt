@@ -15,12 +15,12 @@ use jc_stripe::phase_laws::{joins_only_loads, whole_call};
 use jc_types::{Key, Refusal};
 use std::sync::Wait;
 
-/// The agent's current call, whole, on a stripe that nobody else has: it is one step there, whose
-/// reply is written to `reply`, or it is refused and changes nothing.
+/// Carries out the agent's current call on a stripe that nobody else has. The call is one step there, whose reply is written to
+/// `reply`; or it is refused and changes nothing.
 ///
 /// It waits for the loader or the writer.
 ///
-/// Conditions: those of [`call`](Access::call), and the owner has its stripe, which doesn't live on, and no reservation and no join is
+/// Conditions: those of [`call`](Access::call); the owner has its stripe, which doesn't live on; no reservation and no join is
 /// out there.
 pub fn call_owned<R: Wait>(
     rt: &R,
@@ -48,8 +48,8 @@ pub fn call_owned<R: Wait>(
     access.call(rt, key, op, reply)
 }
 
-/// The agent's current call, whole, which runs a processor, on a stripe that nobody else has: it is one step there, on the entry that
-/// the processor was shown, whose reply is written to `reply`, or it is refused and changes nothing.
+/// Carries out the agent's current call, which runs a processor, on a stripe that nobody else has. The call is one step there, on
+/// the entry that the processor was shown, and its reply is written to `reply`; or it is refused and changes nothing.
 ///
 /// It waits for the processor, the loader and the writer.
 ///

@@ -1,4 +1,4 @@
-//! A call that waits for nobody.
+//! A call that never waits.
 ghost use Rattle.std.specs.Prelude.{◌≡◌};
 ghost use Rattle.jc_stripe.specs.State.{State};
 ghost use Rattle.jc_engine.specs.Asking.{own_after};
@@ -15,14 +15,14 @@ use jc_stripe::Started;
 use jc_types::{Key, Refusal};
 
 impl<'a, G: Gate> Access<'a, G> {
-    /// The agent's current call, if it can be done at once; what it replies is written to `reply`: it never waits, never joins a load and
-    /// never asks anybody outside.
+    /// Carries out the agent's current call, if it can be done at once, and writes its reply to `reply`. It never waits, never
+    /// joins a load and never asks anybody outside.
     ///
-    /// It is refused as `Busy` if somebody else holds the stripe, if the stripe has a call of this session out, and if the call would
-    /// have to ask the loader, the writer or a processor, or to join a load; and else as any call is.
+    /// It is refused as `Busy` if somebody else holds the stripe, if this session has a call out on the stripe, or if the call
+    /// would have to ask the loader, the writer or a processor, or to join a load. Otherwise it is refused as any call is.
     ///
-    /// Conditions: the agent holds no stripe; the token has not taken the gate's and speaks for the session; the stripe that a take
-    /// finds is live, and the session's own steps there let the call come.
+    /// Conditions: the agent holds no stripe; the token has not taken the gate's and speaks for the session; the stripe that a
+    /// take finds is live, and the session's own steps there allow the call.
     pub fn try_call(&mut self, key: &Key, op: &Op, reply: &mut Reply) -> Result<(), Refusal>
         requires ready { IsReady G.is_free G.speaks_for self.old }
         requires begins { (a : State) → G.finds self.old.gate.now self.old.token.now a

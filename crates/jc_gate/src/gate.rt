@@ -11,7 +11,7 @@ use std::sync::Wait;
 
 /// Lends a stripe to the holders of tokens, one at a time.
 pub trait Gate {
-    /// The token of one who takes and gives back: a seat, or nothing.
+    /// The token of a user of the stripe: a seat, or nothing.
     type Token;
 
     /// The token speaks for the session with this number: no one else makes phases of that session meanwhile.

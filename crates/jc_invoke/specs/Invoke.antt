@@ -1,10 +1,11 @@
 -- Whole calls that run a processor on many keys.
---     result_of        a key's result, by how it ended: its value, its fault or its refusal; a processor that gives none has no result
---     result_at        that of a key that is so far
+--     result_of        the result of a key, by its end: its value, its fault or its refusal; if the processor gave no value,
+--                      there is none
+--     result_at        the result of a key in this state
 --     result_entries   each key that has a result, with it, in the call's order
---     IsInvokedAll     a session's next call, carried out for these keys, each of which ended in one way, in rounds that asked this outside
---     IsRefusedWhole   a call with too many keys, or one for which an allocation failed: nothing changes
---     InvokesAll       such a call, by what it returns: the result of each key that has one, or that it is refused whole
+--     IsInvokedAll     a session's next call, carried out for these keys, each with its end, in rounds with these calls outside
+--     IsRefusedWhole   a call has too many keys, or an allocation failed, and nothing changes
+--     InvokesAll       such a call, with what it returns: the result of each key that has one, or its refusal as a whole
 use Rattle.std.specs.declared.dyn_box.DynBox.{DynBox}
 use Rattle.std.specs.Prelude.{◌≡◌, ◌≤◌, ◌<◌, ◌⊎◌, ℕ, List, length, map, Option, None, Some, Result, Ok, Err}
 use Rattle.indexmap.specs.IndexMap.{IndexMap}

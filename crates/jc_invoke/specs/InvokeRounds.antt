@@ -1,8 +1,9 @@
--- The rounds of a call with many keys, each with a processor.
+-- The rounds of a call that runs a processor on many keys.
 --     IsInvoked    each operation of the call is an `Invoke`
 --     IsReady      the call runs a processor at each key, and this is the memory for what a round asks outside
---     HaveAsked    the processor, the loader and the writer were called for exactly these rounds, and are of the same types
---     RunsOn       rounds of the call, which have asked so
+--     HaveAsked    the processor, the loader and the writer were called for exactly these rounds, and have the same types as
+--                  before
+--     RunsOn       rounds of the call, with these calls outside
 use Rattle.std.specs.declared.dyn_box.DynBox.{DynBox}
 use Rattle.std.specs.Prelude.{◌≡◌, ℕ, List, map}
 use Rattle.jc_types.specs.declared.config.Config.{Config}

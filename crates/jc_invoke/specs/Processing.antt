@@ -1,13 +1,14 @@
--- What a round asks outside for the keys that it has reserved: a processor for each of them, and then the writer.
---     TakesKey       a round's room may take a run at this key more
---     MayNote        it may note what the writer is to be asked for after this ticket's processor, which did this
---     HasNoted       it has noted that of this run
---     IsToBeRun      a ticket whose processor is to be run: nobody was asked
---     KeepsRunsRoom  there is as much room for runs, and in a cache that doesn't write through the batches are as they were
---     KeepsProcessing  the processor and its arguments are lent as before
---     IsTicketRun    the processor was run for a ticket, and this is in the room after it
---     MayRunEach     the processor may be run for each of these tickets, and then the writer be asked: nobody was asked, and the room is empty
---     HasRunEach     the processor was run for each of these tickets, and this is in the room after it
+-- The calls outside of one round: a processor for each key that it has reserved, and then the writer.
+--     TakesKey       a round's memory has room for one more run, at this key
+--     MayNote        the round may note the change for the writer after this run of this ticket's processor
+--     HasNoted       the round has noted the change of this run
+--     IsToBeRun      a ticket whose processor is to be run: nobody was asked for it
+--     KeepsRunsRoom  there is as much room for runs, and in a cache that doesn't write through the batches are unchanged
+--     KeepsProcessing  the same processor and arguments are lent as before
+--     IsTicketRun    the processor was run for a ticket, and this is the round's memory after it
+--     MayRunEach     the processor may be run for each of these tickets, and then the writer be called: nobody was asked, and the
+--                    memory has no runs yet
+--     HasRunEach     the processor was run for each of these tickets, and this is the round's memory after it
 --     IsRoundAsked   the processor was run for each of these tickets and then the writer was asked: these are the answers
 use Rattle.std.specs.declared.dyn_box.DynBox.{DynBox}
 use Rattle.std.specs.Prelude.{◌≡◌, ◌==◌, ◌≤◌, ◌<◌, ◌+◌, ◌++◌, ℕ, List, [], ◌∷◌, length, map, Bool, true, false, vec_capacity}

@@ -1,8 +1,9 @@
--- What a round takes in memory before its first phase.
---     IsRoomFor     room for so many keys, and nothing in it yet, in a cache that writes through or doesn't
---     LeavesBatches what a round with this room leaves for the next one: without write-through its batches, with nothing in them
---     IsNextRoom    the room of the next round, of what a round has left, once its answers were taken: there is some without write-through
---     IsMemoryFor   the memory of a whole call for these keys, in a cache of this shape: none of them was started
+-- The memory that a round takes before its first phase.
+--     IsRoomFor     room for this number of keys, with nothing in it yet, in a cache that writes through or doesn't
+--     LeavesBatches the batches that a round leaves for the next one: its own, empty, without write-through
+--     IsNextRoom    the memory of the next round, of what a round has left, once its answers were taken: there is some without
+--                   write-through
+--     IsMemoryFor   the memory of a whole call for these keys, in a cache of this shape: no key was started
 use Rattle.std.specs.Prelude.{◌≡◌, ◌≤◌, ℕ, List, [], length, Bool, true, false, Option, None, Some, vec_capacity}
 use Rattle.indexmap.specs.IndexMap.{spare}
 use Rattle.jc_types.specs.declared.config.Config.{Config}

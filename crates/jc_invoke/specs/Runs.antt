@@ -1,14 +1,16 @@
--- What a call with many keys, each with a processor, asks outside, round by round.
---     change_if       a change that is of the kind that a batch asks for
+-- The calls outside of a call that runs a processor on many keys, round by round.
+--     change_if       a change, if it is of the kind that a batch asks for
 --     batch_changes   the changes of one kind of these runs, each with its key
---     RunBehavior     what a loader, a writer and a processor may answer, and how their states go on
---     run_behavior    that of these relations
---     in_boxes        the same of a loader and a writer in boxes
---     RunsOne         a run: the processor was run once, on this key and entry, and the loader was called exactly if it has answered
---     RunsEach        these runs, one after the other, each from what the one before has left
---     WritesKind      the writer was called once for exactly these changes, if there are any, and else it wasn't; what it returned is dropped
+--     RunBehavior     the answers that a loader, a writer and a processor may give, and the changes of their states
+--     run_behavior    the behavior of these relations
+--     in_boxes        the behavior of a loader and a writer in boxes
+--     RunsOne         a run: the processor was run once, on this key and entry, and the loader was called exactly if the run has
+--                     a load's answer
+--     RunsEach        these runs, one after another, each from the state that the one before has left
+--     WritesKind      the writer was called once for exactly these changes, if there are any, and otherwise it wasn't called;
+--                     what it returned is dropped
 --     CallsRound      the calls outside of one round: the runs, then the batch of writes, then that of deletes
---     CallsEach       those of all rounds, in their order
+--     CallsEach       the calls outside of all rounds, in their order
 use Rattle.std.specs.declared.dyn_box.DynBox.{DynBox}
 use Rattle.std.specs.Prelude.{◌≡◌, ℕ, List, [], ◌∷◌, Bool, true, false, Option, None, Some, Result, if◌then◌else◌}
 use Rattle.std.specs.List.{filter_map}

@@ -26,12 +26,12 @@ use jc_types::{BULK_KEYS_MAX, Config, Key, Refusal, Value};
 use std::alloc::{AllocError, Global};
 use std::sync::Wait;
 
-/// Runs a processor on one key, as the session's next call (JSR 107, `javax.cache.Cache.invoke`). It gives the processor's result, or
-/// none. An `Err` is the first fault of the loader, the processor and the writer, which leaves the entry as it was; or it is
-/// `HistoryFull`, and then nobody was asked and nothing changes.
+/// Runs a processor on one key, as the session's next call (JSR 107, `javax.cache.Cache.invoke`). It returns the processor's
+/// result, or none. An `Err` is the first fault of the loader, the processor and the writer, which leaves the entry as it was; or
+/// it is `HistoryFull`, and then nobody was asked and nothing changes.
 ///
-/// It may wait, as long as the processor, the loader and the writer do, and for other calls; it holds no stripe meanwhile. No other
-/// call changes the entry between the moment at which the processor is shown it and the processor's net effect.
+/// It may wait, as long as the processor, the loader and the writer do, and for other calls; it holds no stripe meanwhile. No
+/// other call changes the entry between the moment at which the processor is shown it and the processor's net effect.
 ///
 /// Condition: the session may call the cache.
 pub fn invoke<R: Wait>(
@@ -51,27 +51,33 @@ pub fn invoke<R: Wait>(
     cache.invoke(rt, session, key, processor, args)
 }
 
-/// Runs a processor on many keys, as the session's next call (JSR 107, `javax.cache.Cache.invokeAll`). The map that it returns has
-/// each key's result, in the order of the keys: the value that the processor gave, the first fault of the loader, the processor and
-/// the writer, which leaves the key's entry as it was, or the key's refusal. A key whose processor gave none isn't in it.
+/// Runs a processor on many keys, as the session's next call (JSR 107, `javax.cache.Cache.invokeAll`). The returned map has each
+/// key's result, in the order of the keys: the value that the processor gave, the first fault of the loader, the processor and
+/// the writer, which leaves the key's entry as it was, or the key's refusal. A key whose processor gave no value isn't in it.
 ///
-/// The call works in rounds. A round reserves each key that it can, in their order and without waiting; one that is reserved, or
-/// whose stripe has as many reservations as may be, is put off to a later round. The processor is then run on each key that the
-/// round has reserved, in order; each run may call the loader, for its key alone, if that is missing and read-through is on. With
-/// write-through the writer is then called at most twice: once (`writeAll`) for the keys whose net effect is a value, and once
-/// (`deleteAll`) for those with a remove, the second also if the first failed. A key that the writer leaves in a collection failed; a
-/// fault that leaves none is dropped. Then the keys are committed, in order. Each key is one step of its stripe, with the number of
-/// this one call. Between two rounds the call waits for a change, with no reservation out. In all rounds together the processor is run
-/// on keys of the call alone, and on none of them twice. A call of which no key is put off, with at most
-/// [`RESERVATIONS_MAX`](jc_types::RESERVATIONS_MAX) keys in each stripe, has one round that runs it, if any; in a cache that lives on, a
-/// full history puts off, too.
+/// The call works in rounds:
 ///
-/// A key is refused with `HistoryFull` if its stripe's history is near full or a number is at its end, and with `OutOfMemory` if, with
-/// write-through and once the processor was run, the memory of a later round could not be taken. An `Err` says that the call is refused
-/// whole, and nothing changes: there are more than [`BULK_KEYS_MAX`](jc_types::BULK_KEYS_MAX) keys (`TooManyKeys`), or the memory for
-/// the first round and the results could not be taken (`OutOfMemory`).
+/// - A round reserves each key that it can, in their order and without waiting. One that is reserved, or whose stripe has as many
+///   reservations as it may, is put off to a later round.
+/// - The processor is then run on each key that the round has reserved, in order. Each run may call the loader, for its key
+///   alone, if that is missing and read-through is on.
+/// - With write-through the writer is then called at most twice: once (`writeAll`) for the keys whose net effect is a value, and
+///   once (`deleteAll`) for those with a remove, the second also if the first failed. A key that the writer leaves in a
+///   collection failed; a fault that leaves none is dropped.
+/// - Then the keys are committed, in order. Between two rounds the call waits for a change, with no reservation out.
 ///
-/// It may wait, as long as the processor, the loader and the writer do and for other calls' reservations, and holds no stripe
+/// Each key is one step of its stripe, with the number of this one call. In all rounds together the processor is run on keys of
+/// the call alone, and on none of them twice. If no key is put off, and each stripe has at most
+/// [`RESERVATIONS_MAX`](jc_types::RESERVATIONS_MAX) of the keys, at most one round runs it. In a cache that lives on, a full
+/// history also puts a key off.
+///
+/// A key is refused with `HistoryFull` if its stripe's history is nearly full, or the call's or a reservation's number would
+/// overflow. With write-through, it is refused with `OutOfMemory` if, once the processor was run, the memory of a later round
+/// could not be taken. An `Err` says that the call is refused whole, and nothing changes: there are more than
+/// [`BULK_KEYS_MAX`](jc_types::BULK_KEYS_MAX) keys (`TooManyKeys`), or the memory for the first round and the results could not
+/// be taken (`OutOfMemory`).
+///
+/// It may wait, as long as the processor, the loader and the writer do and for other calls' reservations. It holds no stripe
 /// meanwhile.
 ///
 /// Condition: the session may call the cache.
@@ -106,7 +112,7 @@ pub fn invoke_all<R: Wait>(
     }
 }
 
-/// Carries out the session's next call, for these keys. It returns their results.
+/// Carries out the session's next call for these keys. It returns their results.
 fn carry_out<R: Wait>(
     rt: &R,
     cache: &Cache,
@@ -140,14 +146,14 @@ fn carry_out<R: Wait>(
     results
 }
 
-/// What a call takes in memory before its first phase. It can't be dropped.
+/// The memory that a call takes before its first phase. It can't be dropped.
 struct Memory<'a> {
     results: IndexMap<Key, Result<Value, Refusal>>,
     call: BulkCall<'a>,
     room: RoundRoom,
 }
 
-/// The memory of a call for these keys, none of which was started, in a cache of this shape. An `Err` says that an allocation failed.
+/// The memory of a call for these keys, in a cache of this shape: no key was started. An `Err` says that an allocation failed.
 fn memory_for<'a>(
     alloc: Global,
     config: &Config,

@@ -1,4 +1,4 @@
-//! What a call of many keys, each with a processor, returns of them.
+//! The results of a call that runs a processor on many keys.
 ghost use Rattle.std.specs.Prelude.{◌≡◌, ◌==◌, ◌≤◌, ◌<◌, ◌+◌, ◌++◌, [], false, length, option_map};
 ghost use Rattle.std.specs.List.{IsDistinct, cons_option, list_any};
 ghost use Rattle.std.specs.Map.{keys_of};
@@ -15,7 +15,7 @@ use jc_model::Reply;
 use jc_rounds::Progress;
 use jc_types::{Key, Refusal, Value};
 
-/// A key's result, by how it ended. A processor that gives none has no result.
+/// The result of a key that has ended. A processor that gives no value has no result.
 fn result_of(ended: &Result<Reply, Refusal>) -> Option<Result<Value, Refusal>>
     ensures { result ≡ result_of ended.now }
 {
@@ -27,7 +27,7 @@ fn result_of(ended: &Result<Reply, Refusal>) -> Option<Result<Value, Refusal>>
     }
 }
 
-/// The result of a key that is so far, if it has one.
+/// The result of a key in this state, if it has one.
 fn result_at(progress: &Progress) -> Option<Result<Value, Refusal>>
     ensures { result ≡ result_at progress.now }
 {

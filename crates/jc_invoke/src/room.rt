@@ -1,26 +1,26 @@
-//! What one round takes in memory for what it asks outside.
+//! The memory of one round for what it asks outside.
 use jc_rounds::{Answers, WriteCall};
 use jc_stripe::{Ask, ProcDone};
 use std::alloc::{AllocError, Global};
 
-/// What a round takes in memory for what it asks outside, before its first phase: room for its keys, and nothing in it yet. It can't
-/// be dropped.
+/// The memory that a round takes for what it asks outside, before its first phase: room for its keys, with nothing in it yet. It
+/// can't be dropped.
 pub(crate) struct RoundRoom {
     /// Whether the cache writes through.
     pub(crate) through: bool,
-    /// What the processor did: nothing yet.
+    /// The processor's runs: none yet.
     pub(crate) runs: Vec<ProcDone<Ask>>,
-    /// What is to be written: nothing yet.
+    /// The changes to be written: none yet.
     pub(crate) writes: WriteCall,
-    /// What is to be deleted: nothing yet.
+    /// The keys to be deleted: none yet.
     pub(crate) deletes: WriteCall,
 }
 
-/// The batches of a round that had nothing to write, in a cache that doesn't write through: nothing is in them. They can't be dropped.
+/// The empty batches of a round that had nothing to write, in a cache that doesn't write through. They can't be dropped.
 pub(crate) struct Batches {
-    /// What is to be written.
+    /// The batch of writes.
     pub(crate) writes: WriteCall,
-    /// What is to be deleted.
+    /// The batch of deletes.
     pub(crate) deletes: WriteCall,
 }
 
@@ -57,8 +57,8 @@ impl RoundRoom {
         }
     }
 
-    /// The room of the next round, of what a round has left whose answers were all taken. It takes no memory. A round that had a batch
-    /// for the writer leaves none.
+    /// The memory of the next round, of what a round has left, once all its answers were taken. It takes no new memory. A round
+    /// that had a batch for the writer leaves none.
     pub(crate) fn again(answers: Answers, rest: Option<Batches>) -> Option<RoundRoom>
         requires { (config : Config) × (round : ProcessRound) × AreAnswers config (ProcessAll round) answers [] }
         ensures { IsNextRoom rest answers result }
@@ -77,7 +77,7 @@ impl RoundRoom {
         }
     }
 
-    /// Lets go of the room of a round that has asked nobody.
+    /// Frees the memory of a round that has asked nobody.
     pub(crate) fn end(self)
         requires { (keys : ℕ) × (through : Bool) × IsRoomFor keys through self }
     {

@@ -1,4 +1,4 @@
-//! The rounds of a call with many keys, each with a processor: what each of them asks outside, and with which memory.
+//! The rounds of a call that runs a processor on many keys, with their calls outside and the memory for them.
 ghost use Rattle.std.specs.Prelude.{◌≡◌, ℕ, Bool, IfErr, IfOk, IfSome, None};
 ghost use Rattle.jc_rounds.specs.Underway.{IsOver, Past};
 ghost use Rattle.jc_rounds.specs.Running.{HasRun};
@@ -14,11 +14,11 @@ use jc_rounds::BulkCall;
 use std::alloc::{AllocError, Global};
 use std::sync::Wait;
 
-/// All rounds, until each key has ended. Each that has reserved keys runs the processor on them, and then asks the writer.
+/// Makes rounds until each key has ended. A round that has reserved keys runs the processor on them, and then asks the writer.
 ///
-/// Between two rounds it pauses until something has changed on the stripe of a key that was put off, with no reservation out. Nothing
-/// says that it returns. Without write-through each round uses the memory of the first one. With it, the memory for what a round after one
-/// that has asked is to ask outside is taken before its first phase; if it can't be, each key that waits is refused.
+/// Between two rounds it pauses until something has changed on the stripe of a key that was put off, with no reservation out. It
+/// may wait for ever. Without write-through each round uses the memory of the first one. With it, a round after one that has
+/// asked takes new memory for its calls outside, before its first phase; if the allocation fails, each key that waits is refused.
 pub(crate) fn run_rounds<R: Wait>(
     rt: &R,
     cache: &Cache,
@@ -59,7 +59,7 @@ pub(crate) fn run_rounds<R: Wait>(
     unreachable!()
 }
 
-/// The memory for what the next round asks outside: what the last one has left, or as much anew. An `Err` says that an allocation
+/// The memory for the next round's calls outside: what the last round has left, or as much anew. An `Err` says that an allocation
 /// failed.
 fn next_room(
     alloc: Global,
@@ -76,7 +76,7 @@ fn next_room(
     }
 }
 
-/// Lets go of what the last round has left.
+/// Frees what the last round has left.
 fn end_room(left: Option<RoundRoom>)
     requires { (keys : ℕ) × (through : Bool) × IfSome left (λ room. IsRoomFor keys through room) }
 {

@@ -1,4 +1,4 @@
-//! What a round asks outside for the keys that it has reserved: a processor for each of them, and then the writer.
+//! The calls outside of one round: a processor for each key that it has reserved, and then the writer.
 ghost use Rattle.std.specs.Prelude.{◌≡◌, vec_capacity};
 ghost use Rattle.jc_cache.specs.Sessions.{HasAsked, HoldsNothing};
 ghost use Rattle.jc_rounds.specs.Answers.{done_room};
@@ -17,7 +17,7 @@ use jc_types::Value;
 use std::alloc::Global;
 use std::sync::Wait;
 
-/// What is run at each key of a call, and where the memory of its rounds comes from.
+/// The processor that a call runs at each key, and the allocator of its rounds.
 #[derive(Drop)]
 pub(crate) struct Processing<'a> {
     /// The allocator.
@@ -29,15 +29,15 @@ pub(crate) struct Processing<'a> {
 }
 
 impl RoundRoom {
-    /// Runs the processor once for each of these tickets, in their order, each run from what the one before has left. Then the writer is
-    /// called, at most twice: for what is to be written, and for what is to be deleted, also if the first call failed. What it returns
-    /// is dropped: each key that it leaves in a collection is told in the answers. In a cache that doesn't write through the batches come
-    /// back as they were, for a later round.
+    /// Runs the processor once for each of these tickets, in their order, each run from the state that the one before has left.
+    /// Then the writer is called, at most twice: for the writes, and for the deletes, also if the first call failed. What it
+    /// returns is dropped, since the answers have each key that it leaves in a collection. In a cache that doesn't write through,
+    /// the batches come back as they were, for a later round.
     ///
     /// It may wait, as long as the processor, the loader and the writer do. It takes no memory.
     ///
-    /// Conditions: the session is of the cache; nobody was asked for any of these tickets, and their keys differ; there is room for all
-    /// of them.
+    /// Conditions: the session is of the cache; nobody was asked for any of these tickets, and their keys differ; there is room
+    /// for all of them.
     pub(crate) fn ask<R: Wait>(
         self,
         rt: &R,
@@ -75,7 +75,7 @@ impl RoundRoom {
         }
     }
 
-    /// Runs the processor once for each of these tickets, and notes what the writer is to be asked for.
+    /// Runs the processor once for each of these tickets, and notes the changes for the writer.
     fn run_each<R: Wait>(
         &mut self,
         rt: &R,
@@ -96,7 +96,7 @@ impl RoundRoom {
         }
     }
 
-    /// Runs the processor for one ticket, and notes what the writer is to be asked for.
+    /// Runs the processor for one ticket, and notes the change for the writer, if there is one.
     fn run_one<R: Wait>(
         &mut self,
         rt: &R,
@@ -118,7 +118,7 @@ impl RoundRoom {
         self.runs.push_reserved(done);
     }
 
-    /// Notes what the writer is to be asked for after a processor: with write-through on its net effect, if there is a change.
+    /// Notes the change for the writer after a processor's run: with write-through on its net effect, if there is one.
     fn note(&mut self, ticket: &mut Ticket, done: &ProcDone<Ask>)
         requires may { MayNote self.old ticket.old done.now }
         ensures noted { HasNoted (record { reservation = ticket.old.reservation; load = done.now.load; process = done.now.process })

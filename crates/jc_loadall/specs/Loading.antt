@@ -1,19 +1,20 @@
--- What a loadAll did.
---     PieceEnd        how a piece ended: how each of its keys did, in their order, and the fault or refusal that its call met first, if it
---                     met one
---     out_of_memory   the keys of a piece whose call was refused whole, since an allocation failed
---     LoadsPiece      a session's next call, which loads the keys of a piece: it is carried out, and its cause is one of the first that it
---                     met; or it is refused whole, and nothing changes
---     ClientLoadsPiece  the same of a client: its session does so on its cache, of which it still is
---     all_ends        how the keys of the first so many pieces ended, in the order of the keys
---     first_cause     the cause of the first of so many pieces that has one
---     LoadsInPieces   each of the pieces of these keys was loaded by one of these, sessions or clients, once, and ended so: there is a share
---                     of the pieces for each, who loaded them one after another, and did nothing else
---     EndsInPieces    the same, and this was returned: that it is done, or the cause of the first piece that has one, with each key that
---                     ended in a fault or a refusal
---     completion_of   what a listener hears of a call that has returned this
---     of_clients      what a call of clients returns that has ended so
---     OnReturn        what is so if a call of clients returns that there is none, and what is so of what it returns otherwise
+-- The effect of a `loadAll`.
+--     PieceEnd        the end of a piece: the end of each of its keys, in their order, and the first fault or refusal that its
+--                     call met, if any
+--     out_of_memory   the ends of a piece's keys, if its call was refused whole because an allocation failed
+--     LoadsPiece      a session's next call, which loads the keys of a piece: it is carried out, and its cause is one of the
+--                     first that it met; or it is refused whole, and nothing changes
+--     ClientLoadsPiece  as `LoadsPiece`, for a client: its session does so on the client's cache, which stays the same
+--     all_ends        the ends of the keys of the first `n` pieces, in the order of the keys
+--     first_cause     the first cause among those of the first `n` pieces
+--     LoadsInPieces   each piece of these keys was loaded once, by one of these sessions or clients, with this end: each has a
+--                     share of the pieces, loaded them one after another, and did nothing else
+--     EndsInPieces    as `LoadsInPieces`, with the result: that it is done, or the cause of the first piece that has one, with
+--                     each key that ended in a fault or a refusal
+--     completion_of   what a listener hears of a call with this result
+--     of_clients      the result of a call of clients that has ended like this
+--     OnReturn        one condition if a call of clients returns that there is no client, and another one on what it returns
+--                     otherwise
 use Rattle.std.specs.Prelude.{◌≡◌, ◌<◌, ◌⊎◌, ◌++◌, ℕ, zero, suc, List, [], length, map, Bool, Option, None, Some, Result, Ok, Err, slice_index_or}
 use Rattle.std.specs.Option.{option_or}
 use Rattle.std.specs.List.{concat}

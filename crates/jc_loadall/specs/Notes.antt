@@ -1,17 +1,17 @@
--- What a worker notes of a piece, and what a call makes of the notes of all workers.
---     IsResultOf      what is noted of a piece whose call returned this: a call that names no key, and whose cause is that an allocation
---                     failed, was refused whole
+-- The notes of a worker about its pieces, and what a call makes of the notes of all workers.
+--     IsResultOf      the note of a piece whose call returned this: a call that names no key, and whose cause is that an
+--                     allocation failed, was refused whole
 --     cause_noted     the cause of a piece that failed
---     refusal_noted   the fault or refusal that a key of a piece ended in, if it did
---     entries_noted   each of these keys that ended in one, with it, in their order
---     IsNoteOf        what was noted of a piece with these keys tells how it ended
---     LoadsAndNotes   the keys of a piece were loaded so, and this was noted of it
---     find_note       what is noted of a piece, if it is
---     result_in       the same, of a piece of which something is noted
---     first_noted     the first cause that is noted of so many pieces, by what is noted of each
---     AreWithin       the keys of these entries are among the first so many of these
---     MayAdd          the keys of this map are among the first so many of these, and there is room in it for the others
---     all_noted       each key of so many pieces that ended in a fault or a refusal, with it, in the order of the keys
+--     refusal_noted   the fault or refusal in which a key of a piece ended, if it did
+--     entries_noted   each of these keys that has one, with it, in their order
+--     IsNoteOf        the note of a piece with these keys fits its end
+--     LoadsAndNotes   the keys of a piece were loaded, and this is the note of it
+--     find_note       the note of a piece, if there is one
+--     result_in       the note of a piece that has one
+--     first_noted     the first cause in the notes of the first `n` pieces
+--     AreWithin       the keys of these entries are among the first `n` of these keys
+--     MayAdd          the keys of this map are among the first `n` of these keys, and there is room in it for the others
+--     all_noted       each key of the first `n` pieces that ended in a fault or a refusal, with it, in the order of the keys
 use Rattle.std.specs.Prelude.{◌≡◌, ◌==◌, ◌≤◌, ◌+◌, ◌⊎◌, ◌++◌, ℕ, zero, suc, List, [], ◌∷◌, length, Bool, true, Option, None, Some, Result, Ok, Err, option_map, take, unwrap_or, if◌then◌else◌}
 use Rattle.std.specs.Option.{option_or}
 use Rattle.std.specs.List.{AllByRecursion, filter_map}

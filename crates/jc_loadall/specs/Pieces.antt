@@ -1,5 +1,5 @@
--- How keys are cut into pieces.
---     piece_count    how many pieces so many keys are cut into
+-- The pieces into which keys are cut.
+--     piece_count    the number of pieces for this number of keys
 --     piece_at       the keys of the piece with this number, in their order
 use Rattle.std.specs.Prelude.{◌+◌, ◌-◌, ◌*◌, ◌/◌, ℕ, List, take, drop}
 use Rattle.jc_model.specs.Cache.{Bytes}

@@ -1,16 +1,16 @@
--- Workers, each of whom loads pieces by a tool, with a function that loads one piece.
+-- Workers, each of which loads pieces by a tool, with a function that loads one piece.
 --     CanLoadBy    the function may be called with the keys of a piece and this tool
---     LoadsBy      a call of the function with these keys: what it returns, and the tool before and after
+--     LoadsBy      a call of the function with these keys: its result, and the tool before and after
 --     Keeps        each call of the function leaves a tool with which it may be called again
---     CanLoadByAll   there is a tool, and the function may be called with each, and can be called again
---     CanLoad      a worker can load the piece with this number: there is such a piece; there is room for its keys, and to note how it
---                  ended; and the function may be called with the tool
---     DoesPiece    a piece was loaded with the tool, and the worker noted how it ended
---     AreLoadedBy  each piece of these keys was loaded once, with this result: there is a share of the pieces for each tool, with which
---                  they were loaded one after another
---     EndsByTeam   the same, and this was returned: that it is done, or the first cause that is noted, with each key of which a fault or
---                  a refusal is noted
---     IsIdle       a worker has loaded nothing, and has room for so many notes
+--     CanLoadByAll   there is a tool; the function may be called with each tool, and can be called again
+--     CanLoad      a worker can load the piece with this number: there is such a piece; there is room for its keys, and for the
+--                  note of its end; and the function may be called with the tool
+--     DoesPiece    a piece was loaded with the tool, and the worker noted its end
+--     AreLoadedBy  each piece of these keys was loaded once, with this result: each tool has a share of the pieces, which were
+--                  loaded with it one after another
+--     EndsByTeam   as `AreLoadedBy`, with the result of the call: that it is done, or the first cause that is noted, with each
+--                  key of which a fault or a refusal is noted
+--     IsIdle       a worker has loaded nothing, and has room for this number of notes
 use Rattle.std.specs.Prelude.{◌≡◌, ◌==◌, ◌<◌, ◌≤◌, ◌+◌, ◌++◌, ℕ, List, [], ◌∷◌, length, slice_index_or, vec_capacity, Result}
 use Rattle.std.specs.List.{All, IsDistinct, concat}
 use Rattle.std.specs.Cmp.Lexicographic.{pointwise}

@@ -21,18 +21,18 @@ use std::alloc::Global;
 use std::sync::Wait;
 use std::thread::Threads;
 
-/// Loads many keys by many clients side by side (JSR 107, `javax.cache.Cache.loadAll`), each by its own session and on its own cache:
-/// that of a service is one for all. What is loaded, and how the clients share it, is as by [`load_all`](crate::load_all) of sessions.
-/// The call has no condition.
+/// Loads many keys by many clients side by side (JSR 107, `javax.cache.Cache.loadAll`). Each client loads by its own session on
+/// its own cache; a service's clients share one. What is loaded, and how the clients share it, is as by
+/// [`load_all`](crate::load_all) of sessions. The call has no condition.
 ///
-/// It waits until all clients have ended, each as long as its loader does: the first client on the calling thread, each other one on a
-/// thread of its own, if one can be started. It takes memory before the first piece, and for each piece.
+/// It waits until all clients have ended, each as long as its loader does: the first client on the calling thread, each other one
+/// on a thread of its own, if one can be started. It takes memory before the first piece, and for each piece.
 ///
-/// An `Err` is [`Failed`](LoadAllFault::Failed), as the fault of `load_all`: it names each key that failed, and every other key is
-/// loaded, if it was to be; or the whole is refused, and nothing changes. Or it is [`NoClient`](LoadAllFault::NoClient), if the list of
-/// clients is empty: then there was no call, and nobody is told.
+/// An `Err` is [`Failed`](LoadAllFault::Failed), as the fault of `load_all`: it names each key that failed, and every other key
+/// is loaded, if it was to be; or the whole is refused, and nothing changes. Or it is [`NoClient`](LoadAllFault::NoClient), if
+/// the list of clients is empty: then there was no call, and the listener hears nothing.
 ///
-/// The listener is told once how the call ended, before it returns: of success, or of the cause.
+/// Otherwise the listener is told once how the call ended, before it returns: of success, or of the cause.
 pub fn load_all_by_clients<'a, R: Wait + Threads + Sync, L: CompletionListener>(
     alloc: Global,
     rt: &R,
@@ -60,7 +60,7 @@ pub fn load_all_by_clients<'a, R: Wait + Threads + Sync, L: CompletionListener>(
     of_clients(ended)
 }
 
-/// What a call of clients returns that has ended so.
+/// The result of a call of clients.
 fn of_clients(ended: Result<(), BulkFault>) -> Result<(), LoadAllFault>
     ensures { result ≡ of_clients ended }
 {

@@ -1,8 +1,8 @@
-//! Why a `loadAll` of clients has failed.
+//! The faults of a `loadAll` of clients.
 use jc_bulk::BulkFault;
 use thiserror::Error;
 
-/// What became of a `loadAll` of clients of which a key failed, or that was refused whole, or that nobody was to make.
+/// The outcome of a `loadAll` of clients that had no client, that was refused whole, or of which a key failed.
 #[derive(Debug, Drop, Error)]
 pub enum LoadAllFault {
     /// The list of clients is empty, so nothing was loaded. A call needs at least one client.

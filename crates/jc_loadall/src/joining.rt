@@ -1,4 +1,4 @@
-//! What the notes of all workers say together.
+//! The results of all pieces, joined.
 ghost use Rattle.std.specs.Prelude.{◌≡◌, ◌==◌, ◌*◌, ◌+◌, ◌<◌, ◌≤◌, ◌++◌, [], IfNone, IfSome, None, Some, length, map};
 ghost use Rattle.std.specs.List.{IsDistinct, flat_map};
 ghost use Rattle.std.specs.Cmp.Lexicographic.{pointwise};
@@ -14,8 +14,8 @@ use indexmap::IndexMap;
 use jc_bulk::insert_some;
 use jc_types::{Key, Refusal};
 
-/// Joins what is noted of all pieces: the first cause; and each key that ended in a fault or a refusal, in the order of the
-/// keys. It takes no memory.
+/// Joins the notes of all pieces: it returns the first cause, and adds each key that ended in a fault or a refusal, in the order
+/// of the keys. It takes no memory.
 ///
 /// Conditions: the keys are cut into `pieces` pieces, and they all differ; there is room for all, and none is there yet.
 pub(crate) fn join_notes<F>(
@@ -36,7 +36,7 @@ pub(crate) fn join_notes<F>(
     cause
 }
 
-/// Adds each key of a piece that failed to those of the pieces before it. It returns the cause of the piece, if it has one.
+/// Adds each key of a piece that failed behind those of the pieces before it. It returns the cause of the piece, if it has one.
 fn join_piece<F>(
     workers: &[Worker<'_, F>],
     keys: &[Key],
@@ -59,7 +59,7 @@ fn join_piece<F>(
     }
 }
 
-/// What a worker has noted of a piece, if one has.
+/// The note of a piece, if a worker has one.
 fn result_of<'w, 'a, F>(workers: &'w [Worker<'a, F>], piece: usize) -> Option<&'w PieceResult>
     ensures none { IfNone result (find_note piece (flat_map (λ w. w.notes.items) workers.now) ≡ None) }
     ensures some { IfSome result (λ r. find_note piece (flat_map (λ w. w.notes.items) workers.now) ≡ Some r.now) }
@@ -74,7 +74,8 @@ fn result_of<'w, 'a, F>(workers: &'w [Worker<'a, F>], piece: usize) -> Option<&'
 
 /// Adds each key of a piece that ended in a fault or a refusal, in their order. It takes no memory.
 ///
-/// Conditions: there is such a piece, and the keys all differ; of its keys and later ones none is there; there is room for all.
+/// Conditions: there is such a piece, and the keys all differ; none of its keys and of later ones is there; there is room for
+/// all.
 fn insert_piece(
     noted: &PieceResult,
     keys: &[Key],

@@ -1,8 +1,8 @@
 //! `loadAll` on a cache that threads share, by many sessions or clients side by side (JSR 107, `javax.cache.Cache.loadAll`).
 //!
-//! The keys are cut into pieces, and the pool of `jc_pool` does them: each worker is lent a tool for the time of the call, a session or
-//! a client, and loads one piece after another by it, by `load_keys` of `jc_bulk`. What the pieces ended with is joined in the order of
-//! the keys.
+//! The keys are cut into pieces, and the pool of `jc_pool` does them. Each worker is lent a session or a client for the time of
+//! the call, and loads one piece after another with it, by `load_keys` of `jc_bulk`. The results of the pieces are joined in the
+//! order of the keys.
 #![tactic(auto)]
 
 mod clients;

@@ -24,14 +24,16 @@ use std::thread::Threads;
 /// key that has an entry is loaded only if it is to be replaced. A value that is loaded is cached, and not written through; a key for
 /// which nothing is found keeps what it has. A session without a loader loads nothing.
 ///
-/// The keys are cut into pieces of [`PIECE_KEYS`](crate::PIECE_KEYS), in their order. Each session loads one piece after another, each
-/// by a call of its own ([`load_keys`]), until none is left: the first session on the calling thread, each other one on a thread of
-/// its own. A session for which no thread can be started leaves its share to the others. It returns once all have ended.
+/// The keys are cut into pieces of [`PIECE_KEYS`](crate::PIECE_KEYS), in their order. Each session loads one piece after another,
+/// each by a call of its own ([`load_keys`]), until none is left: the first session on the calling thread, each other one on a
+/// thread of its own. A session for which no thread can be started leaves its share to the others. It returns once all have
+/// ended.
 ///
-/// An `Err` names each key that ended in a fault (`LoaderFailed`) or was refused, in the order of the keys; every other key is loaded,
-/// if it was to be. A piece whose call was refused whole, since an allocation failed, has each of its keys refused with
-/// `OutOfMemory`. The cause is that of the first piece that has one. Or the whole is refused, and nothing changes: there are more than
-/// [`BULK_KEYS_MAX`](jc_types::BULK_KEYS_MAX) keys (`TooManyKeys`), or an allocation before the first piece failed (`OutOfMemory`).
+/// An `Err` names each key that ended in a fault (`LoaderFailed`) or was refused, in the order of the keys; every other key is
+/// loaded, if it was to be. If the call of a piece was refused whole, because an allocation failed, each key of the piece is
+/// refused with `OutOfMemory`. The cause is that of the first piece that has one. Or the whole is refused, and nothing changes:
+/// there are more than [`BULK_KEYS_MAX`](jc_types::BULK_KEYS_MAX) keys (`TooManyKeys`), or an allocation before the first piece
+/// failed (`OutOfMemory`).
 ///
 /// The listener is told once how the call ended, before it returns: of success, or of the cause.
 ///

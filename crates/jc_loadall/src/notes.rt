@@ -1,18 +1,18 @@
-//! What a worker notes of the pieces that it loads.
+//! The notes of a worker about the pieces that it loads.
 ghost use Rattle.std.specs.Prelude.{◌≡◌, IfNone, IfSome, None, Some};
 ghost use Rattle.jc_loadall.specs.Notes.{IsResultOf, cause_noted, find_note, refusal_noted};
 
 use jc_bulk::BulkFault;
 use jc_types::{Key, Refusal};
 
-/// How a piece ended, as far as its call told.
+/// The end of a piece, as its call returned it.
 #[derive(Drop)]
 pub(crate) enum PieceResult {
     /// No key failed.
     Loaded,
     /// The call names each key that failed.
     Failed(BulkFault),
-    /// The call was refused whole, since an allocation failed. So each key of the piece is refused.
+    /// The call was refused whole, because an allocation failed. So each key of the piece is refused.
     Refused,
 }
 
@@ -24,7 +24,7 @@ pub(crate) struct Note {
 }
 
 impl PieceResult {
-    /// What the call of a piece returned.
+    /// The result of a piece whose call returned this.
     pub(crate) fn of(ended: Result<(), BulkFault>) -> PieceResult
         ensures { IsResultOf ended result }
     {
@@ -49,7 +49,7 @@ impl PieceResult {
         }
     }
 
-    /// The fault or refusal that a key of the piece ended in, if it did.
+    /// The fault or refusal in which a key of the piece ended, if it did.
     pub(crate) fn refusal_at(&self, key: &Key) -> Option<Refusal>
         ensures { result ≡ refusal_noted self.now key.now }
     {
@@ -61,7 +61,7 @@ impl PieceResult {
     }
 }
 
-/// What is noted of a piece, if it is.
+/// The note of a piece, if there is one.
 pub(crate) fn find_note(notes: &[Note], piece: usize) -> Option<&PieceResult>
     ensures none { IfNone result (find_note piece notes.now ≡ None) }
     ensures some { IfSome result (λ r. find_note piece notes.now ≡ Some r.now) }

@@ -1,4 +1,4 @@
-//! How keys are cut into pieces.
+//! The pieces into which keys are cut.
 ghost use Rattle.std.specs.Prelude.{◌≡◌, ◌==◌, ◌*◌, ◌+◌, ◌<◌, ◌≤◌, ◌++◌, ◌∷◌, ◌^◌, [], ℕ, false, length, min};
 ghost use Rattle.std.specs.List.{IsDistinct};
 ghost use Rattle.std.specs.Cmp.Lexicographic.{pointwise};
@@ -12,7 +12,7 @@ use indexmap::IndexSet;
 use jc_types::Key;
 use std::ops::Range;
 
-/// Into how many pieces `keys` keys are cut.
+/// The number of pieces into which `keys` keys are cut.
 pub(crate) fn piece_count(keys: usize) -> usize
     requires { keys < 2 ^ 63 }
     ensures { result ≡ piece_count keys }
@@ -30,9 +30,9 @@ pub(crate) fn places_of(keys: usize, piece: usize) -> Range<usize>
     start..keys.min(start + PIECE_KEYS)
 }
 
-/// Makes the set that of a piece's keys. It takes no memory.
+/// Fills the set with the keys of a piece alone. It takes no memory.
 ///
-/// Conditions: there is such a piece, and the keys all differ; the set has room for those of a piece.
+/// Conditions: there is such a piece, and the keys all differ; the set has room for the keys of a piece.
 pub(crate) fn fill(set: &mut IndexSet<Key>, keys: &[Key], piece: usize)
     requires piece { (piece < piece_count (length keys.now)) × IsDistinct (pointwise ◌==◌) keys.now }
     requires room { PIECE_KEYS ≤ length set.old.keys + spare set.old }
@@ -47,7 +47,7 @@ pub(crate) fn fill(set: &mut IndexSet<Key>, keys: &[Key], piece: usize)
     }
 }
 
-/// Adds a key, after those that are there. It takes no memory.
+/// Adds a key behind the others. It takes no memory.
 ///
 /// Conditions: there is room, and the key isn't in the set.
 fn insert_new(set: &mut IndexSet<Key>, key: &Key)

@@ -39,7 +39,7 @@ pub(crate) fn load_or_refuse<
     }
 }
 
-/// Loads the keys in pieces, by as many workers side by side as there are tools, and says how the call ended.
+/// Loads the keys in pieces, by as many workers side by side as there are tools, and returns how the call ended.
 ///
 /// An `Err` says that an allocation failed. Nothing was loaded, and the tools are as they were.
 ///
@@ -63,7 +63,7 @@ fn load_by_team<T: Send, F: Fn(&IndexSet<Key>, &mut T) -> PieceResult + Sync, R:
     Ok(BulkFault::unless_done(alloc, cause, failed))
 }
 
-/// Creates the workers, who have loaded nothing yet, each with room for its notes. An `Err` says that an allocation failed.
+/// Creates the workers, each of which has loaded nothing, and has room for its notes. An `Err` says that an allocation failed.
 fn hire<'a, F>(
     alloc: Global,
     load: &'a F,

@@ -1,4 +1,4 @@
-//! Workers, each of which loads pieces by a session.
+//! Workers, each of which loads pieces by a session or a client.
 ghost use Rattle.std.specs.Prelude.{◌≡◌, ◌==◌, ◌+◌, ◌≤◌, ◌<◌, map, length, vec_len, vec_capacity, IfOk, All, IfSome, IfNone, None, Some, [], List};
 ghost use Rattle.std.specs.List.{IsDistinct, flat_map};
 ghost use Rattle.std.specs.Cmp.Lexicographic.{pointwise};
@@ -23,7 +23,7 @@ pub(crate) struct Worker<'a, F> {
     keys: &'a [Key],
     /// The keys of the piece that it loads.
     piece_keys: IndexSet<Key>,
-    /// How its pieces ended, in the order in which it loaded them.
+    /// The ends of its pieces, in the order in which it loaded them.
     pub(crate) notes: Vec<Note>,
 }
 
@@ -66,7 +66,7 @@ impl<'a, T, F: Fn(&IndexSet<Key>, &mut T) -> PieceResult> WorkWith<T> for Worker
     }
 }
 
-/// One call of the function that loads a piece.
+/// Calls the function that loads a piece.
 ///
 /// Conditions: it may be called with the tool; the keys are no more than those of a piece, and they all differ.
 fn load_by<T, F: Fn(&IndexSet<Key>, &mut T) -> PieceResult>(

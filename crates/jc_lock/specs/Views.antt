@@ -1,7 +1,7 @@
 -- The knowledge of a seat, and its change by each call.
 --     IsPhaseBy            at most one phase of a seat's session leads from one state to another; none, if the seat is no
 --                          session's
---     IsTurnBy             the same, or a renewal leads from one to the other
+--     IsTurnBy             as `IsPhaseBy`, or a renewal leads from one to the other
 --     empty_stripe         a stripe of the smallest shape with nothing in it, which a seat that is gone notes
 --     unopened_view        the first seat of a lock that isn't made yet: it holds the stripe, and the slot is empty
 --     opened_view          the first seat once it has taken the slot
@@ -23,8 +23,8 @@
 --     front_note           a note of a seat's front, in a seat of its own
 --     with_note            a seat into which a note, or a seat that ends, was joined: the lendings and misses are added
 --     longer               the longer one of two lists
---     with_longer_front    its front is the longer one of its own and the note's
---     after_join           both at once: a seat into which another one was joined
+--     with_longer_front    the seat with the longer front of its own and the note's
+--     after_join           a seat into which another one was joined: `with_note`, and then the longer front
 --     IsSeated             a seat isn't spent; if it holds the stripe, it has the slot, which is empty, otherwise it has no slot
 use Rattle.std.specs.Prelude.{◌≡◌, ℕ, ◌+◌, ◌≤◌, ◌⊎◌, true, false, List, [], ◌∷◌, ◌++◌, length, Option, Some, None, cond, nat_lt}
 use Rattle.std.specs.FinMap as map

@@ -25,6 +25,6 @@ pub struct View {
     /// Its lendings, the oldest first: the states in which it found and left the stripe. Only a take and the give after it add
     /// one, so a clause about a call's lendings is about what the call did.
     pub lendings: LinkedList<(Stripe, Stripe)>,
-    /// How often it tried to take the stripe, and somebody else held it.
+    /// The number of its tries that found the stripe held by somebody else.
     pub misses: u64,
 }

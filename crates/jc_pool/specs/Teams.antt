@@ -1,7 +1,7 @@
--- Workers, each with its tool, who claim with one claimer.
+-- Workers, each with its tool, that claim with one claimer.
 --     CanBegin     a claimer is of this counter and for these workers, of whom there is at least one, and has claimed nothing;
 --                  there are as many tools, and each worker can do every piece
---     CanBeginHalves    the same of the workers of two halves, the second of which is half of all, rounded down
+--     CanBeginHalves    as `CanBegin`, for the workers of two halves, the second of which is half of all, rounded down
 --     HasEnded     one worker has ended, after just the pieces that its claimer claimed
 --     HaveEnded    the workers have ended, after just the pieces that their claimer claimed, each of them after its share
 use Rattle.std.specs.Prelude.{◌≡◌, ℕ, ◌<◌, ◌+◌, ◌/◌, ◌++◌, List, All, length}

@@ -39,7 +39,7 @@ pub fn run_pieces<W: Work + Send, R: Threads + Sync>(
     run_pieces_with(alloc, rt, workers, tools.as_mut_slice(), pieces)
 }
 
-/// As [`run_pieces`], with a tool for each worker: the one at the worker's own place in `tools`.
+/// Does the pieces as [`run_pieces`] does, with a tool for each worker: the one at its own place in `tools`.
 ///
 /// An `Err` says that an allocation failed. No piece was done, and workers and tools are as they were.
 ///
@@ -70,8 +70,8 @@ pub fn run_pieces_with<T: Send, W: WorkWith<T> + Send, R: Threads + Sync>(
     Ok(())
 }
 
-/// All these workers claim and do pieces until none is left. The list is halved at each step, so that the stack grows as the
-/// logarithm of its length.
+/// Makes all these workers claim and do pieces until none is left. The list is halved at each step, so that the stack grows as
+/// the logarithm of its length.
 ///
 /// Conditions: the claimer is for just these workers, of whom there is at least one, and nothing was claimed with it; there are
 /// as many tools; each worker can do every piece.
@@ -97,15 +97,15 @@ fn work_side_by_side<T: Send, W: WorkWith<T> + Send, R: Threads + Sync>(
     work_in_halves(desk, claimer, first, first_tools, rest, rest_tools);
 }
 
-/// What all workers share.
+/// The data that all workers share.
 struct Desk<'a, R> {
-    /// What starts threads.
+    /// The runtime, which starts threads.
     rt: &'a R,
     /// The counter that they claim from.
     counter: &'a Counter,
 }
 
-/// The first half of the workers works on this thread, and the others on a new one. If no thread can be started, the others work
+/// Runs the first half of the workers on this thread, and the others on a new one. If no thread can be started, the others work
 /// afterwards on this one.
 ///
 /// Conditions: as for all of them together; the second half is half of them, rounded down, and there are as many tools for each.
@@ -136,7 +136,7 @@ fn work_in_halves<T: Send, W: WorkWith<T> + Send, R: Threads + Sync>(
     counter.join(claimer, other);
 }
 
-/// One worker claims and does pieces until none is left.
+/// Makes one worker claim and do pieces until none is left.
 ///
 /// Conditions: the claimer is for one worker, and nothing was claimed with it; the worker can do every piece.
 fn work<T, W: WorkWith<T>>(counter: &Counter, claimer: &mut Claimer, worker: &mut W, tool: &mut T)

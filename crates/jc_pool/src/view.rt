@@ -18,6 +18,6 @@ pub(crate) struct Claims {
     pub claimed: LinkedList<usize>,
     /// The number of its workers that haven't ended.
     pub working: usize,
-    /// The number of its workers that have ended: each found once that no piece is left.
+    /// The number of its workers that have ended: each has found, once, that no piece is left.
     pub ended: usize,
 }

@@ -1,21 +1,22 @@
--- What was answered outside for the keys that a round has reserved.
+-- The outside answers for the keys that a round has reserved.
 --     key_of            the key of an ask
---     RunState          a reservation, and what its processor did
---     key_run           that as a run
---     done_of           its done value, in a running cache
---     reservations_of   the reservations of these
---     is_change_of      a change is of the kind that a batch asks for: a delete or a write
---     claim_after       what the writer is asked for after a run in such a batch, if it is; `through` is whether the cache writes through
---     claims_after      after these runs
---     reports           what the writer has reported of these runs in such a batch
---     IsToBeAnswered    a round asked for the key of a reservation, which asks first whom the round asked
---     AreProcessed      the processor has run for each of these reservations, and the writer has reported where it is due
---     IsReportedOn      the first of these runs, with the reports of all of them, the first one last
---     TakesReport       the report on it, if one is due, and the reports that are left
---     done_room         for how many done values of whom a round asks first there is memory
---     AreAnswers        these answer each of these reservations, with what a round said of its key
---     CommitsNext       a last phase at the key of a reservation, by the first of the answers: it is the step of a phase at that key alone,
---                       with what the round said of the key, and the other answers are left
+--     RunState          a reservation, and the answers of its run
+--     key_run           the run, by its key
+--     done_of           the done value of the run, in a live cache
+--     reservations_of   the reservations of these runs
+--     is_change_of      a change is of the kind that a batch asks for: a delete, or a write
+--     claim_after       the writer's ask after a run, in a batch of this kind, if there is one; `through` is whether the cache
+--                       writes through
+--     claims_after      the writer's asks after these runs
+--     reports           the writer's reports on these runs, in a batch of this kind
+--     IsToBeAnswered    a round asked for the key of a reservation, and asked whoever the reservation asks first
+--     AreProcessed      the processor has run for each of these reservations, and the writer has reported where it was asked
+--     IsReportedOn      the first of these runs, with the reports on all of them, the first one last
+--     TakesReport       the report on the first run, if one is due, and the reports that are left
+--     done_room         the number of done values for which there is memory
+--     AreAnswers        these are the answers for each of these reservations, as a round gave them for its key
+--     CommitsNext       a last phase at the key of a reservation, by the first of the answers: it makes the step of a phase at
+--                       that key alone, with the round's answer for the key, and leaves the other answers
 use Rattle.std.specs.Prelude.{◌≡◌, ◌∷◌, ℕ, vec_capacity, List, map, reverse, Bool, true, false, not, Option, None, Some, if◌then◌else◌}
 use Rattle.std.specs.List.{AllByRecursion, IsAmong, filter_map}
 use Rattle.jc_types.specs.declared.config.Config.{Config}

@@ -1,9 +1,9 @@
--- Which keys a call asks for outside.
+-- The keys for which a call asks outside.
 --     reserved_keys  the keys of these reservations, in their order
---     AsksFor        a round asks for keys of the call alone, and only for what their operations ask for
+--     AsksFor        a round asks only for keys of the call, and only for what their operations ask for
 --     IsInOrder      a round asks for its keys in the order of the call's
---     AsksEachOnce   the rounds of a call that ask: each asks for some key, in order, and no key is asked for twice
---     HasAsked       the same of a call that is under way: each key that was asked for is reserved or over
+--     AsksEachOnce   the rounds of a call that ask: each asks for at least one key, in order, and no key is asked for twice
+--     HasAsked       as `AsksEachOnce`, for a call that is under way: each key that was asked for is reserved or has ended
 use Rattle.std.specs.Prelude.{◌≡◌, ◌==◌, ℕ, List, [], All, true, false, Option, Some, slice_get, map}
 use Rattle.std.specs.List.{IsAmong, IsDistinct, filter}
 use Rattle.std.specs.Map.{keys_of}

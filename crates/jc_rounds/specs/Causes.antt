@@ -1,9 +1,11 @@
--- The cause that a call with many keys tells.
+-- The cause that a call with many keys returns.
 --     HasFailed    the session had seen a step of the call that replied this fault
---     HasMet       so it had, or the writer had returned it in one of these rounds
---     HasRefused   by what it had seen, a key of the call has ended in this refusal: no round had asked for it, and the seat had found the
---                  stripe full for it; or an allocation failed, after a round that asked, in a call whose later rounds take memory
---     IsFirst      if the call had met a fault by the end of one of its rounds, its cause is one that it had met by then, or such a refusal
+--     HasMet       `HasFailed`, or the writer had returned this fault in one of these rounds
+--     HasRefused   by what the session had seen, a key of the call has ended in this refusal: no round had asked for it, and the
+--                  seat had found the stripe full for it; or an allocation failed, after a round that asked, in a call whose
+--                  later rounds take memory
+--     IsFirst      if the call had met a fault by the end of one of its rounds, its cause is a fault that it had met by then, or
+--                  such a refusal
 use Rattle.std.specs.Prelude.{◌≡◌, ◌⊎◌, ◌++◌, ℕ, List, [], ◌∷◌, Option, Some, Err}
 use Rattle.std.specs.List.{IsAmong}
 use Rattle.atomic_table.specs.Seated.{TableId}

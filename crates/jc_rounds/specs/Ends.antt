@@ -1,10 +1,10 @@
--- How each key of a call ended.
---     KeyEnd          a key of the call, its operation, and how it ended: with its step's reply, or refused
+-- The ends of the keys of a call.
+--     KeyEnd          a key of the call, its operation, and its end: its step's reply, or its refusal
 --     key_ops         the keys with their operations, in the call's order
---     key_end, key_ends    how a key ended, if it is over, and how these keys did, in their order
---     reply_value     the value that a key's step replied, if it did
---     value_at        that of a key that is so far
---     entries_by      each key of whose end something is said, with that, in the call's order
+--     key_end, key_ends    the end of a key, if it has ended, and the ends of these keys, in their order
+--     reply_value     the value in the reply of a key's step, if there is one
+--     value_at        the value of a key in this state
+--     entries_by      each key for whose end this function gives something, with that, in the call's order
 --     failed_entries  each key that ended in a fault or a refusal, with it, in the call's order
 --     found_entries   each key whose step replied a value, with it, in the call's order
 use Rattle.std.specs.Prelude.{◌++◌, List, [], ◌∷◌, map, Option, None, option_map, Result, Ok, Err}

@@ -1,7 +1,7 @@
 -- One phase of a call with many keys, at one of them.
 --     MayStep      the session is of this cache, and has made no step of its current call at this key
---     IsKeyPhase   a phase of the session's current call at this key: it may have seen more of each stripe, this is changed of its counts,
---                  and no other key's steps have changed; and this is so of the key
+--     IsKeyPhase   a phase of the session's current call at this key: the session may have seen more of each stripe, its counts
+--                  change like this, and no other key's steps have changed; and this holds of the key
 use Rattle.std.specs.Prelude.{◌≡◌, []}
 use Rattle.jc_model.specs.Cache.{Bytes}
 use Rattle.jc_session.specs.Counting.{counts_after}

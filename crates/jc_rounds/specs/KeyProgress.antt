@@ -1,10 +1,11 @@
--- How far the keys of a call are.
+-- The states of the keys of a call.
 --     is_waiting           the key waits for a round
 --     is_reserved          the key is reserved
 --     is_joined            the key has joined a load
---     is_settled           the key is neither reserved nor has it joined a load
+--     is_settled           the key neither is reserved nor has joined a load
 --     is_held_back         the key waits, or it has joined a load
 --     StillWaits           the key at this place waits
+<<<<<<< HEAD
 --     all_waiting          so many keys, before the first round
 --     StayEnded            there are as many keys later, and those that have ended stay so
 --     refusal_in           the fault or refusal that a key has ended in, if it did
@@ -17,6 +18,23 @@
 --     IsNoted              a cause that was noted before stays; without one, it is the first of these, if there are such
 --     refused_if_waiting   a key that waits is refused, since the allocation of a later round failed; any other is as it was
 use Rattle.std.specs.Prelude.{◌≡◌, ◌++◌, ℕ, zero, suc, List, [], ◌∷◌, length, Bool, true, false, Option, None, Some, IfSome, Result, Ok, Err, slice_get}
+=======
+--     all_waiting          the states of this number of keys before the first round
+--     StayEnded            there are as many keys later, and those that have ended have the same end
+--     OnlyEnd              each key is later in the same state, or has ended
+--     refusal_in           the fault or refusal in which a key has ended, if it did
+--     failure_at           the fault or refusal of a key in this state
+--     failures             the faults and refusals of all keys
+--     IsCauseIn            there is a cause exactly if there are faults or refusals, and it is one of them
+--     IsMet                a cause that was noted is a fault or refusal of a key, or one of these faults of the writer; without a
+--                          cause the writer has not failed
+--     first_of             the first of a list, if it has one
+--     KeepsCause           a cause that was noted before stays
+--     IsNoted              a cause that was noted before stays; otherwise the cause is the first of these, if there are any
+--     refused_if_waiting   a key that waits is refused, because the allocation of a later round failed; any other key is
+--                          unchanged
+use Rattle.std.specs.Prelude.{◌≡◌, ◌⊎◌, ◌++◌, ℕ, zero, suc, List, [], ◌∷◌, length, Bool, true, false, Option, None, Some, IfSome, Result, Ok, Err, slice_get}
+>>>>>>> 1131b8bf067d994d4e3a0c433a2b83c90aad7d89
 use Rattle.std.specs.List.{IsAmong, filter_map}
 use Rattle.jc_types.specs.declared.refusal.Refusal.{Refusal}
 use Rattle.jc_types.specs.declared.refusal.Refusal.TheVariants.{OutOfMemory}

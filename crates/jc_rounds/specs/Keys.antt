@@ -1,26 +1,30 @@
--- How far a call with many keys is at one of them, by what its session has seen of the key's stripe.
---     MadeOn         the entry that a step's key had in the state in which the step was made
---     IsTold         a step's outside answers: no round asked for the key, and nobody is asked for such an entry; or a round asked whom
---                    such an entry makes the call ask, and said this; or it shares another call's load, and no round asked for the key
---     HasStep        of the call's steps at this key there is exactly one, with this operation and reply and with answers that it was told;
---                    it is in the front, which is the whole history of the noted state, behind the former front
---     WasRefused     the seat has found the stripe, between these views, in a state in which the call might begin at this key and this was its
---                    first refusal, and has left it so
---     TakesMemory    a round after one that has asked takes memory, in such a cache, for a call that does this at its keys: it may write through
---     HasEnded       the key's end: the call has made its one step there; or it was refused, has none, and no round asked for the key; since
---                    an allocation failed only after a round that asked, in a call whose later rounds take memory
---     IsAt           the key is so far: it has no step of the call yet, or has ended
+-- The state of one key of a call with many keys, by what its session has seen of the key's stripe.
+--     MadeOn         the entry of a step's key, in the state in which the step was made, fits this condition
+--     IsTold         the outside answers of a step: no round asked for the key, and the entry asks nobody; or a round asked
+--                    whoever the entry makes the call ask, and this was the answer; or the step shares another call's load, and
+--                    no round asked for the key
+--     HasStep        the call has exactly one step at this key, with this operation and reply and with outside answers that it
+--                    was given; the step is in the front, which is the whole history of the noted state, behind the former front
+--     WasRefused     the seat has found the stripe, between these views, in a state in which the call might begin at this key and
+--                    this was its first refusal, and has left it so
+--     TakesMemory    a later round of a call with this operation takes memory after one that has asked, in a cache of this shape:
+--                    the operation may write through
+--     HasEnded       the end of a key: the call has made its one step there; or the key was refused, has no step, and no round
+--                    asked for it. A failed allocation comes only after a round that asked, in a call whose later rounds take
+--                    memory
+--     IsAt           the key is in this state: it has no step of the call yet, or has ended
 --     IsEarly        the call's number isn't the last one
---     IsTicketFor    a reservation of the call for this key, which asks whom the operation asks first, in a cache of this shape
+--     IsTicketFor    a reservation of the call for this key, which asks whoever the operation asks first, in a cache of this
+--                    shape
 --     IsJoinFor      a join of the call, a `Get`, at this key: a step of the call at the key may come after the former front
---     HasJoined      the seat has found the stripe, between these views, in a state in which the call might begin at this key, and has left it
---                    with a join of the call more, of another call's load
+--     HasJoined      the seat has found the stripe, between these views, in a state in which the call might begin at this key,
+--                    and has left it with one more join, of the call to another call's load
 --     IsHeldBack     between these views the key was put off, or has joined a load
---     HasBegun       how far a first phase leaves the key; a refusal is that of the state that the view keeps
---     IsCommitted    what a commit leaves: the call's one step at the key of its reservation, with these outside answers; the entry that
---                    the key had makes the operation ask first whom the reservation asked
+--     HasBegun       the state of the key after a first phase; a refusal is that of the state that the view notes
+--     IsCommitted    the effect of a commit: the call's one step at the key of its reservation, with these outside answers; the
+--                    entry that the key had makes the operation ask first whoever the reservation asked
 --     IsPickedUp     a pick-up that wasn't too early
---     HasPicked      how far a pick-up leaves the key
+--     HasPicked      the state of the key after a pick-up
 use Rattle.std.specs.List.{IsAmong}
 use Rattle.std.specs.Prelude.{◌≡◌, ◌≤◌, ◌⊎◌, ℕ, List, [], ◌∷◌, length, Bool, true, false, Option, None, Some, Result, Ok, Err, slice_get, nat_lt}
 use mathlib.Core.List.{IsPrefix}

@@ -1,7 +1,7 @@
--- What a call with many keys did at a stripe, by its seat's lendings.
+-- The visits of a call with many keys at a stripe, by its seat's lendings.
 --     IsPhaseAt    a phase of the call at this key: a first phase, a commit or a pick-up
---     OnlyPhases   each of the seat's lendings between two views is such a phase, at a key of which this is so; or it has left the stripe as it
---                  found it, but for a generation that was full and might end. No take has missed the stripe
+--     OnlyPhases   each of the seat's lendings between two views is such a phase, at a key that fits this condition; or it has
+--                  left the stripe as it found it, except that a full generation may have ended. No take has missed the stripe
 use Rattle.std.specs.Prelude.{◌≡◌, ◌⊎◌, List}
 use Rattle.std.specs.List.{AllByRecursion}
 use Rattle.jc_types.specs.declared.caller.Caller.{Caller}

@@ -1,17 +1,20 @@
 -- One call of the loader, or one of the writer, for many asks.
 --     asked_keys        the keys of these asks
---     wanted            each one's key, with the change that it asks for
+--     wanted            the key of each ask, with the change that it asks for
 --     is_delete         whether a batch is one of deletes
---     batch_room        for how many more there is room in a batch
---     LoadCallState     for which asks the loader is to be called, and for how many more there is room
---     WriteCallState    for which asks the writer is to be called, whether they are deletes, and for how many more there is room
---     no_loads, no_writes    for none, with room for so many
---     with_load, with_write  for one more
---     IsLoadCall, IsWriteCall    the asks and their batch, in one order, with room for so many more and for their done values
---     AreSpent          what is left of a loader's call that was made: no ask and no key, and memory for as many asks as keys
---     LoadCallAsked     the loader was called once, and has said this of the keys; the last ask's done value comes first
---     WritesBatch       the writer was called once for exactly these changes, if there are any, and else it wasn't
---     WriteCallAsked    so the writer was called, and has said this of the keys; the last ask's done value comes first
+--     batch_room        the number of changes for which a batch has room
+--     LoadCallState     the model of a loader's call: its asks, and the number of asks for which it still has room
+--     WriteCallState    the model of a writer's call: whether it deletes, its asks, and the number of asks for which it still has
+--                       room
+--     no_loads, no_writes    an empty call with this room
+--     with_load, with_write  the call with one ask more
+--     IsLoadCall, IsWriteCall    the asks and their batch, in one order, with room for this number of further asks and for all
+--                                done values
+--     AreSpent          the memory of a loader's call that was made: no ask and no key, and room for as many asks as keys
+--     LoadCallAsked     the loader was called once, and gave these answers for the keys; the last ask's done value comes first
+--     WritesBatch       the writer was called once for exactly these changes, if there are any, and otherwise it wasn't called
+--     WriteCallAsked    the writer was called like this, and gave these answers for the keys; the last ask's done value comes
+--                       first
 use Rattle.std.specs.Prelude.{◌≡◌, ◌≤◌, ◌+◌, ◌-◌, ◌++◌, ℕ, List, [], ◌∷◌, map, reverse, Bool, true, false, Option, Result, Ok, vec_len, vec_capacity}
 use Rattle.std.specs.Global.{Vec}
 use Rattle.jc_model.specs.Cache.{Bytes}

@@ -1,9 +1,9 @@
--- Rounds of a call, with what they ask outside.
+-- Rounds of a call, with their calls outside.
 --     KeepsTickets   the tickets stand for the same reservations, with as much room for them
 --     HasReserved    a round has reserved keys, and nobody was asked for them yet
---     IsTold         this was asked outside in a round for the keys that it has reserved, and this was answered
---     Ran            rounds of a call, which have asked this outside: the call goes on, and of its session only seats, counts and hands have
---                    changed
+--     IsTold         a round asked this outside for the keys that it has reserved, and these are the answers
+--     Ran            rounds of a call, with these calls outside: the call goes on, and of its session only seats, counts and
+--                    hands have changed
 use Rattle.std.specs.Prelude.{◌≡◌, List, [], map, Option, vec_capacity}
 use Rattle.std.specs.Global.{Vec}
 use Rattle.jc_types.specs.declared.refusal.Refusal.{Refusal}

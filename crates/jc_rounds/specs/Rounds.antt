@@ -1,21 +1,26 @@
--- What a call with many keys asks outside, round by round: one call of the loader, or one of the writer, or a processor on each key and
--- then the writer.
---     LoadRound        one call of the loader: the keys, and what it said of each
---     WriteRound       one call of the writer: the batch, what it returned, and what it said of each key
---     KeyRun           a run of a processor on a key: the entry that it was shown, if any, whether it might load it, and what came of it
---     ProcessRound     a processor's runs, in the order of their keys, and what the writer said of each key of the writes and of the deletes
---     Round            one of these
---     change_of        what the writer is to be asked for after a run: with write-through on the net effect, and nothing after a fault
---     answer_by        what the writer said, by the batch in which the change was
+-- The calls outside of a call with many keys, round by round: one call of the loader, or one of the writer, or a processor on
+-- each key and then the writer.
+--     LoadRound        one call of the loader: the keys, and its answer for each
+--     WriteRound       one call of the writer: the batch, what it returned, and its answer for each key
+--     KeyRun           a run of a processor on a key: the entry that it was shown, if any, whether it might load it, and the
+--                      answers of its loader and itself
+--     ProcessRound     a processor's runs, in the order of their keys, and the writer's answers for the keys of the writes and of
+--                      the deletes
+--     Round            the calls outside of one round
+--     change_of        the change that the writer is asked for after a run: with write-through on the net effect; none after a
+--                      fault
+--     answer_by        the writer's answer, from the batch in which the change was
 --     run_out          the outside answers of a run's step
 --     keys_asked       the keys that were asked for in a round
 --     asked_in         the keys that were asked for in these rounds
---     IsShown          a run on a key was shown what the step at the key is to ask its processor
---     IsAnswer         a step's outside answers are what a round said of its key, and the round asked whom the step is to ask
---     round_returned   what the writer returned, or that all went well
+--     IsShown          a run on a key was shown the entry that the step at the key makes its processor see
+--     IsAnswer         a step's outside answers are a round's answers for its key, and the round asked whoever the step asks
+--                      first
+--     round_returned   what the writer returned in a round that is one call of it; `Ok` in any other round
 --     fault_of         the fault that a call of the writer returned, if it failed
---     round_fault      that of a round that the writer returned, if it failed; after a processor such a fault has no key, and is dropped
---     faults_in        the faults that the writer returned
+--     round_fault      the fault that the writer returned in a round, if it failed; after a processor such a fault has no key,
+--                      and is dropped
+--     faults_in        the faults that the writer returned in these rounds
 use Rattle.std.specs.Prelude.{◌≡◌, ℕ, List, map, Bool, true, Option, None, Some, Result, Ok, Err, if◌then◌else◌}
 use Rattle.std.specs.List.{IsAmong, filter_map, flat_map}
 use Rattle.jc_types.specs.declared.config.Config.{Config}

@@ -1,16 +1,16 @@
--- The rounds of a call, one after the other, and the call as a whole.
+-- The rounds of a call, one after another, and the call as a whole.
 --     HeldInEach     each key that is held back now was put off in each of these rounds, and had no step of the call after it
---     IsRound        one round of the session's current call, which has asked this outside, if it has asked: each key that it leaves waiting was
---                    put off, and it has asked for keys that waited before it
---     with_rounds    these rounds more
---     HasRun         the call with nothing out, after rounds of which each started every key that it could; its cause is one of the first that
---                    it met
+--     IsRound        one round of the session's current call, with its call outside, if it made one: each key that it leaves
+--                    waiting was put off, and it has asked for keys that waited before it
+--     with_rounds    the past with these rounds more
+--     HasRun         the call with nothing out, after rounds each of which started every key that it could; its cause is one of
+--                    the first that it met
 --     EachTakesMemory    a later round takes memory for each of these keys
---     near_places    how many places of a history may be held by promises, and how many one step more needs
---     IsNearFull     the present generation's history has hardly any place left, or a number has come to its end
---     WasNearFull    so was the stripe in a state in which the seat has found it between these views, and has left it
---     IsCarriedOut   a session's next call, carried out for these keys, each of which ended in one way, in rounds that asked this outside; at
---                    each stripe it has changed nothing but by phases at its keys there
+--     near_places    the places of a history that promises may hold, and those that one step more needs
+--     IsNearFull     the present generation's history is nearly full, or the call's or a reservation's number would overflow
+--     WasNearFull    the seat has found the stripe nearly full between these views, and left it so
+--     IsCarriedOut   a session's next call, carried out for these keys, each with its end, in rounds with these calls outside; at
+--                    each stripe it has changed nothing except by phases at its keys there
 use Rattle.std.specs.Prelude.{◌≡◌, ◌≤◌, ◌<◌, ◌+◌, ◌*◌, ◌⊎◌, ◌++◌, ℕ, List, [], ◌∷◌, length, All, true, false, Some, Err, slice_get}
 use mathlib.Core.List.{IsPrefix}
 use Rattle.atomic_table.specs.Seated.{TableId}

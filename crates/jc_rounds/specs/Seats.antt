@@ -1,13 +1,14 @@
--- What a session has seen of each stripe, in a call with many keys.
---     view_at      the view of the session's seat at the stripe with this number; one of a seat that is gone, if there is no such stripe
---     view_of      that of the key's stripe, of so many stripes
---     HasGrown     the front begins with the former one, the stripe is the same, its next reservation's number hasn't fallen, and a front
---                  that is the whole history of the noted state stays so; there are these lendings more
+-- What the session of a call with many keys has seen of each stripe.
+--     view_at      the view of the session's seat at the stripe with this number; if there is no such stripe, the view of a spent
+--                  seat
+--     view_of      the view at the key's stripe, in a cache of this number of stripes
+--     HasGrown     the front begins with the former one, the stripe is the same, its next reservation's number hasn't fallen, and
+--                  a front that is the whole history of the noted state is still so; there are these lendings more
 --     HasFound     the seat has found the stripe in the first state and left it in the second one, in one lending between these views
 --     is_at        this is the key, and it is of the stripe with this number
---     Moves        one phase of the call at this key: every front may have grown; what is said of any other key stays, and so do the steps
---                  of former calls; it has changed nothing but by phases at this key
---     AreBefore    the steps that the session has made are all of this call or of former ones
+--     Moves        one phase of the call at this key: every front may have grown; what was known of any other key still holds,
+--                  and so do the steps of former calls; the stripes have changed only by phases at this key
+--     AreBefore    each step that the session has made is of this call or of a former one
 use Rattle.std.specs.Prelude.{◌≡◌, ◌≤◌, ◌==◌, ◌&&◌, ℕ, zero, suc, List, [], ◌∷◌, ◌++◌, Bool, true, false}
 use Rattle.std.specs.Cmp.Lexicographic.{pointwise}
 use mathlib.Core.List.{IsPrefix}

@@ -1,17 +1,19 @@
 -- A call with many keys, while it is under way.
 --     is_due        the key is one of the call's, and of the stripe with this number
---     IsSoFar       what the session has seen since before the call: each key is so far, at its stripe; no other key has a step of the
---                   call, on any stripe; the steps of former calls are as they were; and at each stripe the
---                   call has changed nothing but by phases at its keys there
---     AreIn         one of these for each key whose progress is such, in the order of the keys, and each fits its key
+--     IsSoFar       what the session has seen since before the call: each key is in its state, at its stripe; no other key has a
+--                   step of the call, on any stripe; the steps of former calls are as they were; and at each stripe the call has
+--                   changed nothing except by phases at its keys there
+--     AreIn         a list with one value for each key whose state fits, in the order of the keys, and each value fits its key
 --     IsUnderway    the session's current call, which has these reservations and joins out
---     IsKept        what a first phase gave is kept: how far the key is, and what is out
---     IsPicked      how far a pick-up leaves a key
---     GoesOn        phases of the call: what has ended stays so, every front may have grown, and no other key is held back than was before
---     IsHeldAt, AreHeldBack    a key that is held back, at this place, or at each before it, was put off between these views or has joined a
---                   load; or it is as this says
+--     IsKept        the outcome of a first phase is kept: the state of the key, and its ticket or join
+--     IsPicked      the state of a key after a pick-up
+--     GoesOn        phases of the call: what has ended stays ended, every front may have grown, and no key is held back that was
+--                   not before
+--     IsHeldAt, AreHeldBack    the key at this place, or each key before it, if it is held back, was put off between these views
+--                   or has joined a load; or the given condition holds
 --     HaveNoStep    no key that is held back has a step of the call
---     AreSettledFrom, AreUnder    no key from a place on is reserved or has joined a load; no key before a place is such
+--     AreSettledFrom, AreUnder    no key from a place on is reserved or has joined a load; no key before a place is in such a
+--                                 state
 use Rattle.std.specs.Prelude.{◌≡◌, ◌⊎◌, ◌==◌, ◌&&◌, ◌≤◌, ◌<◌, ◌++◌, ℕ, List, [], ◌∷◌, length, Bool, true, false, Some, Ok, Err, slice_get, MatchBool, if◌then◌else◌}
 use Rattle.std.specs.Map.{keys_of}
 use Rattle.atomic_table.specs.Seated.{TableId}

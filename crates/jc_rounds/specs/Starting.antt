@@ -1,17 +1,19 @@
 -- A round starts every key that it can.
---     IsRoomFor       room for as many of these keys, or for one more than all stripes may have out
---     AreManyJoined   between these views more keys have joined loads than all stripes may have joiners
---     IsFull          a round has asked for more keys than all stripes may have reserved, or so many keys have joined loads in it
+--     IsRoomFor       room for all these keys, or for one more than all stripes may have out
+--     AreManyJoined   between these views more keys have joined loads than all stripes together may have joiners
+--     IsFull          a round has asked for more keys than all stripes may have reserved, or `AreManyJoined`
 --     HaveJoined      each key that has joined a load has done so between these views
---     IsPutOff        a key that a round leaves waiting: it was put off in it, or has joined a load that was given back, or the round was full
---     RoundEnd        what a round has asked outside, if it has asked, and what the session has seen of each stripe after it
---     calls_of        what these rounds have asked outside
+--     IsPutOff        a key that a round leaves waiting: it was put off in the round, or has joined a load that was withdrawn, or
+--                     the round was full
+--     RoundEnd        the call outside of a round, if it made one, and what the session has seen of each stripe after the round
+--     calls_of        the calls outside of these rounds
 --     seats_after     what the session has seen after these rounds
---     StartsAll       a round starts all it can: each key that these later ones ask for, it has put off. It ends with a step of the call at
---                     each key that it has asked for, and with none at those
---     EachStartsAll   each of these rounds does so
---     HasStartedAll   what a call has asked outside was asked in such rounds
---     IsLeftAlone     none of the keys met another call's reservation or load, or a stripe with as many calls at work as may be
+--     StartsAll       a round starts all it can: it has put off each key for which these later rounds ask. After it there is a
+--                     step of the call at each key for which it has asked, and none at the later rounds' keys
+--     EachStartsAll   each of these rounds starts all it can
+--     HasStartedAll   the calls outside of a call were made in such rounds
+--     IsLeftAlone     none of the keys met another call's reservation or load, or a stripe with as many calls under way as it may
+--                     have
 --     AsksAtMostOnce  a call that was left alone, with no more keys than all stripes may have reserved, asks outside once, if at all
 use Rattle.std.specs.Prelude.{◌≡◌, ◌==◌, ◌≤◌, ◌<◌, ◌*◌, ◌⊎◌, ℕ, List, [], ◌∷◌, length, true, Some, slice_get}
 use Rattle.std.specs.List.{AllByRecursion, IsAmong, IsDistinct, flat_map}

@@ -1,27 +1,27 @@
 -- A call with many keys, between its phases.
---     Past          what a call has behind it: who makes it, what the session had seen of each stripe before it, and its rounds that asked
---     with_round    one round more
+--     Past          the past of a call: its caller, what the session had seen of each stripe before it, and its rounds that asked
+--     with_round    the past with one round more
 --     reserved_by   a ticket's reservation
 --     IsFresh       a ticket for which nobody was asked, of a key for which none of these rounds asked
---     are_fresh     all of these tickets are so
---     AreRooms      the memory of the rounds of a call with so many keys, none of which was started
+--     are_fresh     each of these tickets is fresh
+--     AreRooms      the memory of the rounds of a call with this number of keys, none of which was started
 --     IsNew         a call for these keys before its first round, with room for its rounds
 --     IsOn          the session's current call, with this past, which has these tickets and joins out
---     IsBetween     the same with nothing out, as between two rounds: its cause is one of the faults and refusals that it has met
---     IsPickingNext      the same with the next join taken out
---     Advances      phases of the call: what has ended stays so, and so does a cause that was noted; of the session only its seats and its
---                   counts have changed
---     AdvancesUnnoted    such phases, before what they have met is noted
+--     IsBetween     the call with nothing out, as between two rounds: its cause is one of the faults and refusals that it has met
+--     IsPickingNext      as `IsPicking`, with the next join taken out
+--     Advances      phases of the call: what has ended stays ended, and a cause that was noted stays; of the session only its
+--                   seats and its counts have changed
+--     AdvancesUnnoted    as `Advances`, before the faults that they have met are noted
 --     HasStarted    the first phases of a round were made: each key that waits was put off, and nobody was asked yet
---     IsStarting    the first phases are being made, and are at this place
+--     IsStarting    the first phases are being made, and this place is next
 --     IsAnswered    the tickets' asks were answered in a round of the call
---     IsCommitting  the last phases are being made, and are at this place
---     IsCommittingNext   the same with the next ticket taken out
+--     IsCommitting  the last phases are being made, and this place is next
+--     IsCommittingNext   as `IsCommitting`, with the next ticket taken out
 --     HasCommitted  the last phases were made: no key is reserved
---     IsPicking     the pick-ups are being made, and are at this place
---     HasNoRoom     nothing more may be out
+--     IsPicking     the pick-ups are being made, and this place is next
+--     HasNoRoom     there is no room for one more ticket, or for one more join
 --     KeepsJoined   a first phase: each key that has joined a load has done so since before the round
---     HasRoom       one more key may be reserved or join a load: there is room for that
+--     HasRoom       there is room for one more ticket and for one more join
 --     KeepsRoom     only the tickets and the joins have changed, and there is as much room for them
 --     IsOver        no key waits
 use Rattle.std.specs.Prelude.{◌≡◌, ◌==◌, ◌⊎◌, ◌≤◌, ◌<◌, ℕ, List, [], ◌∷◌, ◌++◌, length, map, reverse, true, false, None, nat_lt, vec_capacity}

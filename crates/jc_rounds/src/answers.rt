@@ -1,4 +1,4 @@
-//! What was answered outside for the keys that a round has reserved, and the last phases that it leads to.
+//! The outside answers of a round, and the last phases that they lead to.
 ghost use Rattle.std.specs.Prelude.{◌≡◌, ◌∷◌, [], List, None, vec_capacity, if◌then◌else◌};
 ghost use Rattle.jc_types.specs.declared.config.Config.{Config};
 ghost use Rattle.jc_mutentry.specs.Done.{effect_change};
@@ -14,18 +14,19 @@ use jc_stripe::phase_laws::{is_uniform, own_steps};
 use jc_stripe::{Ask, LoadDone, ProcDone, Ticket, WriteDone};
 use std::sync::Wait;
 
-/// What was answered outside for the keys that a round has reserved. The last key's answer comes first. They can't be dropped.
+/// The outside answers for the keys that a round has reserved, the last key's first. They can't be dropped.
 pub enum Answers {
-    /// By the loader.
+    /// Answers of the loader.
     Loads(Vec<LoadDone<Ask>>),
-    /// By the writer.
+    /// Answers of the writer.
     Writes(Vec<WriteDone<Ask>>),
-    /// By a processor, and for those whose net effect is to be written by the writer: of the writes, and of the deletes.
+    /// Answers of a processor, and the writer's reports on the net effects that are to be written: of the writes, and of the
+    /// deletes.
     Processes(Vec<ProcDone<Ask>>, Vec<WriteDone<Ask>>, Vec<WriteDone<Ask>>),
 }
 
 impl Answers {
-    /// The last phase of the session's current call at the first key that was answered. What the step replies is written to
+    /// Makes the last phase of the session's current call at the first key that was answered. The step's reply is written to
     /// `reply`.
     ///
     /// Conditions: the session is of this cache; the ticket is of its current call, which isn't its last and has made no step at the
@@ -71,7 +72,7 @@ impl Answers {
         }
     }
 
-    /// The memory of the done values of a processor's runs, of which none is left.
+    /// Returns the memory for the done values of a processor's runs, once none of them is left.
     pub fn into_runs(self) -> Vec<ProcDone<Ask>>
         requires { (config : Config) × (round : ProcessRound) × AreAnswers config (ProcessAll round) self [] }
         ensures none { result.items ≡ [] }
@@ -130,7 +131,8 @@ fn next_report(
     }
 }
 
-/// What the writer is to be asked for after a processor, if the cache writes through: its net effect, and nothing after a fault.
+/// The change that the writer is to be asked for after a processor's run: its net effect, if the cache writes through; none after
+/// a fault.
 pub fn change_after(through: bool, done: &ProcDone<Ask>) -> Option<Change>
     ensures { result ≡ if through then effect_change done.now.load done.now.process else None }
 {

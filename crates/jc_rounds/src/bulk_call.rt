@@ -19,13 +19,13 @@ use jc_types::{JOINERS_MAX, Key, RESERVATIONS_MAX, Refusal, Value};
 use std::alloc::{AllocError, Global};
 use std::sync::Wait;
 
-/// A call with many keys, while it is under way: how far each of its keys is, and what it has out. It can't be dropped.
+/// A call with many keys, while it is under way: the state of each of its keys, and what it has out. It can't be dropped.
 pub struct BulkCall<'a> {
-    /// Its keys, and what it does at each of them.
+    /// Its keys, and the operation at each of them.
     pub(crate) targets: &'a Targets<'a>,
     /// The state of each key.
     pub(crate) progress: Vec<Progress>,
-    /// How many keys a round may reserve.
+    /// The number of keys that a round may reserve.
     pub(crate) most: usize,
     /// The tickets of the keys that a round has reserved, in their order. Each is used for one call outside.
     pub tickets: Vec<Ticket>,
@@ -38,7 +38,7 @@ pub struct BulkCall<'a> {
 impl<'a> BulkCall<'a> {
     /// A call for these keys, none of which was started yet. Each round uses the same memory.
     ///
-    /// Condition: the memory is for as many keys, in the cache's number of stripes.
+    /// Condition: the memory is for this many keys, in the cache's number of stripes.
     pub fn new(targets: &'a Targets<'a>, rooms: Rooms) -> Self
         requires { (stripes : ℕ) × AreRooms (length (ops_of targets.now)) stripes rooms }
         ensures new { (stripes : ℕ) → AreRooms (length (ops_of targets.now)) stripes rooms
@@ -61,7 +61,7 @@ impl<'a> BulkCall<'a> {
         }
     }
 
-    /// How many keys a round may reserve.
+    /// The number of keys that a round may reserve.
     pub fn most(&self) -> usize
         ensures { result ≡ self.now.most }
     {
@@ -85,9 +85,10 @@ impl<'a> BulkCall<'a> {
         }
     }
 
-    /// Pauses once if a key waits, with no reservation out: it may return though nothing has changed. It returns whether one does.
+    /// Pauses once if a key waits, with no reservation out, and returns whether one does. It may return though nothing has
+    /// changed.
     ///
-    /// Conditions: nothing of the call is out.
+    /// Condition: nothing of the call is out.
     pub fn wait<R: Wait>(&self, rt: &R, cache: &Cache, session: &Session) -> bool
         requires { (past : Past) × IsBetween cache.now past session.now self.now }
         ensures over { result ≡ false → IsOver self.now }
@@ -102,7 +103,7 @@ impl<'a> BulkCall<'a> {
         }
     }
 
-    /// Ends each key that waits: it is refused, since the allocation of a later round failed. Nobody was asked for it.
+    /// Refuses each key that waits, because the allocation of a later round failed. Nobody was asked for it.
     pub fn refuse_rest(&mut self)
         ensures progress { self.new.progress.items ≡ map refused_if_waiting self.old.progress.items }
         ensures cause { IsNoted self.old.cause (failures self.new.progress.items) self.new.cause }
@@ -114,7 +115,7 @@ impl<'a> BulkCall<'a> {
         self.note_failures();
     }
 
-    /// How each key of a call that has nothing out is, and the first fault or refusal that the call has met.
+    /// Ends a call that has nothing out. It returns the state of each key, and the first fault or refusal that the call has met.
     pub fn end(self) -> (Vec<Progress>, Option<Refusal>)
         requires { (self.tickets.items ≡ []) × (self.joins.items ≡ []) }
         ensures { (result.0 ≡ self.entry.progress) × (result.1 ≡ self.entry.cause) }
@@ -133,7 +134,7 @@ impl<'a> BulkCall<'a> {
     }
 }
 
-/// What the rounds of a call take in memory but for what they ask outside, before its first phase. It can't be dropped.
+/// The memory that the rounds of a call take before its first phase, without that for their calls outside. It can't be dropped.
 pub struct Rooms {
     progress: Vec<Progress>,
     most: usize,
@@ -166,14 +167,14 @@ impl Rooms {
         }
     }
 
-    /// How many keys a round may reserve: as many as there are, or one more than all stripes may have reserved.
+    /// The number of keys that a round may reserve: all keys, or one more than all stripes may have reserved.
     pub fn most(&self) -> usize
         ensures { result ≡ self.now.most }
     {
         self.most
     }
 
-    /// Lets go of memory that no call was made of.
+    /// Frees memory that no call was made of.
     pub fn end(self)
         requires { (self.tickets.items ≡ []) × (self.joins.items ≡ []) }
     {
@@ -188,7 +189,7 @@ impl Rooms {
     }
 }
 
-/// Room for each of these keys, or for one more than all stripes may have out, if each may have `most`.
+/// Room for all keys, or for one more than all stripes may have out, if each may have `most`.
 fn room_for(most: usize, keys: usize, stripes: usize) -> usize
     requires { 0 < most }
     ensures { IsRoomFor most keys stripes result }
@@ -200,7 +201,7 @@ fn room_for(most: usize, keys: usize, stripes: usize) -> usize
     }
 }
 
-/// The states of all keys, which wait, before the first round.
+/// The states of all keys before the first round: each key waits.
 fn all_waiting(alloc: Global, keys: usize) -> Result<Vec<Progress>, AllocError>
     ensures { IfOk result (λ progress. progress.items ≡ all_waiting keys) }
 {

@@ -1,4 +1,4 @@
-//! The last phases of a round of a call with many keys, once those outside have answered.
+//! The last phases of a round of a call with many keys, once the outside answers are there.
 ghost use Rattle.std.specs.Prelude.{◌≡◌, ◌<◌, ◌+◌, [], length, slice_get, reverse, Some, ◌∷◌};
 ghost use Rattle.jc_rounds.specs.declared.progress.Progress.TheVariants.{Reserved};
 ghost use Rattle.jc_rounds.specs.Answers.{AreAnswers, done_room};
@@ -16,11 +16,9 @@ use jc_types::Value;
 use std::sync::Wait;
 
 impl<'a> BulkCall<'a> {
-    /// The last phases of a round, at each key that is reserved, in their order. It returns the answers, of which none is left, with the
-    /// memory that they had.
+    /// Makes the last phase at each key that is reserved, in their order. It returns the emptied answers, for their memory.
     ///
-    /// Conditions: the call is the session's current one; these answers are what a round of the call has said of the keys that are
-    /// reserved.
+    /// Conditions: the call is the session's current one; these are the round's answers for the keys that are reserved.
     pub(crate) fn commit<R: Wait>(
         &mut self,
         rt: &R,
@@ -46,7 +44,8 @@ impl<'a> BulkCall<'a> {
         left
     }
 
-    /// The last phase at the key of this place, if it is reserved. No key before it is. The last of the tickets is the first key's.
+    /// Makes the last phase at the key of this place, if it is reserved. No key before it is. The first key's ticket is the last
+    /// in the list.
     fn commit_at<R: Wait>(
         &mut self,
         rt: &R,
@@ -72,7 +71,7 @@ impl<'a> BulkCall<'a> {
         }
     }
 
-    /// The last phase at the key of this place, the first one that is reserved.
+    /// Makes the last phase at the key of this place, the first one that is reserved.
     fn commit_ticket<R: Wait>(
         &mut self,
         rt: &R,

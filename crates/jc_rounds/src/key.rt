@@ -1,4 +1,4 @@
-//! The phases of a call with many keys, at one of them, but for the last one.
+//! The first phase and the pick-up of a call with many keys, at one of them.
 ghost use Rattle.std.specs.Prelude.{◌≡◌, [], true};
 ghost use Rattle.jc_model.specs.declared.event.Op.TheVariants.{Get};
 ghost use Rattle.jc_lock.specs.declared.view.View.{View};
@@ -17,10 +17,11 @@ use jc_stripe::{Join, Picked, Started};
 use jc_types::Key;
 use std::sync::Wait;
 
-/// The first phase of the session's current call at one of its keys. Each refusal is an answer of it: it waits out none. If the
-/// call is done, what it replies is written to `reply`.
+/// Makes the first phase of the session's current call at one of its keys. It returns each refusal, and waits none out. If the
+/// call is done at the key, its reply is written to `reply`.
 ///
-/// Conditions: the session is of this cache; its steps are all of this call or of former ones, and none is of this call at this key.
+/// Conditions: the session is of this cache; each of its steps is of this call or of a former one, and none is of this call at
+/// this key.
 pub(crate) fn start_key<R: Wait>(
     rt: &R,
     cache: &Cache,
@@ -41,8 +42,8 @@ pub(crate) fn start_key<R: Wait>(
     cache.start(rt, session, key, op, reply)
 }
 
-/// Waits for the answer of a load that the session's current call has joined at a key, and writes it to `reply`. `Again` says that
-/// the load was given back unanswered; `NotYet` isn't answered.
+/// Waits for the answer of a load that the session's current call has joined at a key, and writes it to `reply`. `Again` says
+/// that the load was withdrawn. It never returns `NotYet`.
 ///
 /// Conditions: the session is of this cache, and has no reservation out; the join is of its current call, which isn't its last and
 /// has made no step at the key.

@@ -13,7 +13,7 @@ use std::alloc::{AllocError, Global};
 use std::marker::Model;
 use std::sync::Wait;
 
-/// What the loader is to be asked for in one call (`loadAll`), with all the memory that this takes. It can't be dropped.
+/// The keys for which the loader is to be called once (`loadAll`), with all the memory that this takes. It can't be dropped.
 pub struct LoadCall {
     asks: Vec<Ask>,
     batch: LoadBatch,
@@ -31,7 +31,7 @@ impl Model for LoadCall {
 }
 
 impl LoadCall {
-    /// Nothing to load, with room for `n` keys. An `Err` says that an allocation failed.
+    /// An empty call, with room for `n` keys. An `Err` says that an allocation failed.
     pub fn new(alloc: Global, n: usize) -> Result<Self, AllocError>
         ensures { IfOk result (λ call. call ≡ no_loads n) }
     {
@@ -46,9 +46,9 @@ impl LoadCall {
         }
     }
 
-    /// Adds an ask, after those that are there. It takes no memory.
+    /// Adds an ask behind the others. It takes no memory.
     ///
-    /// Conditions: there is room; its key isn't that of any of them.
+    /// Conditions: there is room; no other ask has its key.
     pub fn push(&mut self, ask: Ask)
         requires room { 0 < self.old.room }
         requires new { is_among (asked_keys self.old.items) ask.reservation.key ≡ false }
@@ -58,10 +58,10 @@ impl LoadCall {
         self.asks.push_reserved(ask);
     }
 
-    /// Calls the session's loader once, for all of these asks. It returns the done values, the last ask's first, and the memory of the
-    /// call, which serves a later round.
+    /// Calls the session's loader once, for all of these asks. It returns the done values, the last ask's first, and the memory
+    /// of the call for a later round.
     ///
-    /// A failed call fails for each of the keys; a key without an answer isn't found, nor is any without a loader.
+    /// A failed call fails for each of the keys. A key without an answer isn't found, and without a loader none is.
     ///
     /// It may wait, as long as the loader does. It takes no memory of its own.
     ///
@@ -84,7 +84,7 @@ impl LoadCall {
         (done, SpentLoads { asks, batch })
     }
 
-    /// Ends a call that asks for nothing: nobody is asked.
+    /// Ends an empty call: nobody is asked.
     pub fn end(self)
         requires { self.items ≡ [] }
     {
@@ -98,7 +98,7 @@ impl LoadCall {
     }
 }
 
-/// The memory of a call of the loader that was made, but for the done values, which were handed out. It can't be dropped.
+/// The memory of a loader's call that was made, without its done values, which were handed out. It can't be dropped.
 pub struct SpentLoads {
     asks: Vec<Ask>,
     batch: LoadBatch,
@@ -111,7 +111,7 @@ impl SpentLoads {
     ghost use Rattle.jc_rounds.specs.OutsideCalls.{AreSpent, no_loads};
     ghost use Rattle.jc_rounds.specs.Rounds.{LoadAll, LoadRound};
 
-    /// A call for a later round, of this memory and that of its answers: nothing to load, with room for as many keys as before. It
+    /// Makes an empty call for a later round of this memory and that of the answers, with room for as many keys as before. It
     /// takes no memory.
     ///
     /// Condition: none of the answers is left, and there was room for them.

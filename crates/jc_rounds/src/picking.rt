@@ -1,4 +1,4 @@
-//! The pick-ups of a round of a call with many keys: the answers of the loads that it has joined.
+//! The pick-ups of a round of a call with many keys.
 ghost use Rattle.std.specs.Prelude.{◌≡◌, ◌<◌, ◌+◌, length, slice_get, Some, []};
 ghost use Rattle.jc_rounds.specs.declared.progress.Progress.TheVariants.{Joined};
 ghost use Rattle.jc_stripe.specs.Phases.{polled_with};
@@ -17,8 +17,8 @@ use jc_types::Value;
 use std::sync::Wait;
 
 impl<'a> BulkCall<'a> {
-    /// The pick-ups of a round, at each key that has joined a load, in their order. It waits until each load was answered, or was given
-    /// back. Nothing is reserved meanwhile.
+    /// Makes the pick-up at each key that has joined a load, in their order. It waits until each load was answered or withdrawn.
+    /// Nothing is reserved meanwhile.
     ///
     /// Conditions: the call is the session's current one, and no key of it is reserved.
     pub(crate) fn pick_up<R: Wait>(&mut self, rt: &R, cache: &Cache, session: &mut Session)
@@ -35,7 +35,8 @@ impl<'a> BulkCall<'a> {
         self.note_failures();
     }
 
-    /// The pick-up at the key of this place, if it has joined a load. No key before it has. The last of the joins is the first key's.
+    /// Makes the pick-up at the key of this place, if it has joined a load. No key before it has. The first key's join is the
+    /// last in the list.
     fn pick_at<R: Wait>(&mut self, rt: &R, cache: &Cache, session: &mut Session, place: usize)
         requires place { place < length self.old.progress.items }
         requires picking { (past : Past) × IsPicking cache.now past session.old self.old place }
@@ -51,7 +52,7 @@ impl<'a> BulkCall<'a> {
         }
     }
 
-    /// The pick-up at the key of this place, the first one that has joined a load.
+    /// Makes the pick-up at the key of this place, the first one that has joined a load.
     fn pick_join<R: Wait>(
         &mut self,
         rt: &R,
@@ -73,7 +74,7 @@ impl<'a> BulkCall<'a> {
     }
 }
 
-/// The state of a key after a pick-up that wasn't too early, and wrote this reply if it answered.
+/// The state of a key after a pick-up that wasn't too early. If it answered, `reply` is the answer.
 fn after_pick_up(picked: Picked, reply: &Reply) -> Progress
     requires { IsPickedUp (polled_with picked reply.now) }
     ensures { IsPicked (polled_with picked reply.now) result }

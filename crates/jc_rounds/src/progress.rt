@@ -49,7 +49,7 @@ impl Progress {
         }
     }
 
-    /// The fault or the refusal that the key has ended in, if it has.
+    /// The fault or the refusal in which the key has ended, if it has.
     pub fn failure(&self) -> Option<Refusal>
         ensures { result ≡ failure_at self.now }
     {
@@ -61,7 +61,7 @@ impl Progress {
         }
     }
 
-    /// Refuses the key if it waits: the allocation of a later round failed. Nobody was asked for it.
+    /// Refuses the key if it waits, because the allocation of a later round failed. Nobody was asked for it.
     pub(crate) fn refuse_if_waiting(&mut self)
         ensures { self.new ≡ refused_if_waiting self.old }
     {

@@ -1,4 +1,4 @@
-//! The rounds of a call with many keys, but for what they ask outside.
+//! The rounds of a call with many keys, without their calls outside.
 ghost use Rattle.std.specs.Prelude.{◌≡◌, [], true, false};
 ghost use Rattle.jc_rounds.specs.Answers.{AreAnswers, done_room};
 ghost use Rattle.jc_rounds.specs.Rounds.{Round};
@@ -13,11 +13,11 @@ use jc_types::Refusal;
 use std::sync::Wait;
 
 impl<'a> BulkCall<'a> {
-    /// Makes rounds until one has reserved keys, or each key has ended. It returns whether one has: then somebody outside is to be
-    /// asked for its keys, and [`BulkCall::end_round`] ends it. A round that reserves no key asks nobody.
+    /// Makes rounds until one has reserved keys, or each key has ended, and returns whether one has. If so, the caller asks
+    /// outside for these keys, and [`BulkCall::end_round`] ends the round. A round that reserves no key asks nobody.
     ///
-    /// A round begins each key that waits, in their order. Between two rounds the call waits for a change on the stripe of a key that
-    /// was put off, with no reservation out. Nothing says that it returns.
+    /// A round begins each key that waits, in their order. Between two rounds the call waits for a change on the stripe of a key
+    /// that was put off, with no reservation out. It may wait for ever.
     ///
     /// Conditions: the call is the session's current one, and has nothing out.
     pub fn reserve<R: Wait>(&mut self, rt: &R, cache: &Cache, session: &mut Session) -> bool
@@ -42,10 +42,10 @@ impl<'a> BulkCall<'a> {
         unreachable!()
     }
 
-    /// Ends a round that has reserved keys: it commits them by what was answered for them, and waits for the loads that it has joined.
-    /// `fault` is what the writer returned, if it failed. It returns the answers, of which none is left, with the memory that they had.
+    /// Ends a round that has reserved keys: it commits them by their outside answers, and waits for the loads that the round has
+    /// joined. `fault` is what the writer returned, if it failed. It returns the emptied answers, for their memory.
     ///
-    /// Condition: this was answered for the keys of the call that are reserved.
+    /// Condition: these are the answers for the keys of the call that are reserved.
     pub fn end_round<R: Wait>(
         &mut self,
         rt: &R,

@@ -17,7 +17,8 @@ use jc_types::{Key, Value};
 use std::sync::Wait;
 
 impl<'a> BulkCall<'a> {
-    /// The first phases of a round: at each key that waits, in their order and without waiting. A key that is put off waits on.
+    /// Makes the first phase at each key that waits, in their order and without waiting. A key that is put off still waits
+    /// afterwards.
     ///
     /// Conditions: the call is the session's current one, and has nothing out.
     pub(crate) fn start<R: Wait>(&mut self, rt: &R, cache: &Cache, session: &mut Session)
@@ -33,7 +34,8 @@ impl<'a> BulkCall<'a> {
         self.note_failures();
     }
 
-    /// The first phase at the key of this place, if it waits and there is room. No key from there on is reserved or has joined a load.
+    /// Makes the first phase at the key of this place, if it waits and there is room. No key from there on is reserved or has
+    /// joined a load.
     fn start_at<R: Wait>(&mut self, rt: &R, cache: &Cache, session: &mut Session, place: usize)
         requires place { place < length self.old.progress.items }
         requires starting { (past : Past) × IsStarting cache.now past session.old self.old place }
@@ -53,7 +55,7 @@ impl<'a> BulkCall<'a> {
         }
     }
 
-    /// The first phase at the key of this place, which waits, with room for what it leaves out.
+    /// Makes the first phase at the key of this place, which waits. There is room for its ticket or join.
     fn start_waiting<R: Wait>(&mut self, rt: &R, cache: &Cache, session: &mut Session, place: usize)
         requires waits { slice_get self.old.progress.items place ≡ Some Waiting }
         requires room { HasRoom self.old }
@@ -75,7 +77,7 @@ impl<'a> BulkCall<'a> {
         self.progress[place] = progress;
     }
 
-    /// Whether one more call may be begun: if it reserves its key, or joins a load, there is room for that.
+    /// Whether there is room for the ticket or the join of one more key.
     fn has_room(&self) -> bool
         ensures full { result ≡ false → HasNoRoom self.now }
         ensures room { result ≡ true → HasRoom self.now }

@@ -1,4 +1,4 @@
-//! The keys of a call, and what it does at each of them.
+//! The keys of a call, and the operation at each of them.
 ghost use Rattle.std.specs.Prelude.{◌≡◌, ◌<◌, length, slice_get, Some};
 ghost use Rattle.std.specs.Map.{keys_of};
 ghost use Rattle.jc_model.specs.Cache.{Bytes};
@@ -8,7 +8,7 @@ use indexmap::IndexMap;
 use jc_model::Op;
 use jc_types::{Key, Value};
 
-/// The keys of a call, and what it does at each of them. They all differ, if the call is to be made.
+/// The keys of a call, and the operation at each of them. The keys must all differ for a call.
 #[derive(Drop)]
 pub enum Targets<'a> {
     /// The same operation at each of these keys.
@@ -18,7 +18,7 @@ pub enum Targets<'a> {
 }
 
 impl<'a> Targets<'a> {
-    /// How many keys there are.
+    /// The number of keys.
     pub fn len(&self) -> usize
         ensures { result ≡ length (ops_of self.now) }
     {
@@ -28,7 +28,9 @@ impl<'a> Targets<'a> {
         }
     }
 
-    /// The key of this place, which is one of the call's.
+    /// The key at this place.
+    ///
+    /// Condition: the place is below the number of keys.
     pub fn key(&self, place: usize) -> &Key
         requires { place < length (ops_of self.now) }
         ensures { slice_get (keys_of (ops_of self.now)) place ≡ Some result.now }
@@ -42,7 +44,9 @@ impl<'a> Targets<'a> {
         }
     }
 
-    /// What is done at the key of this place, which is one of the call's.
+    /// The operation at the key of this place.
+    ///
+    /// Condition: the place is below the number of keys.
     pub fn op(&self, place: usize) -> Op
         requires { place < length (ops_of self.now) }
         ensures { (key : Bytes) → slice_get (keys_of (ops_of self.now)) place ≡ Some key
@@ -58,7 +62,7 @@ impl<'a> Targets<'a> {
     }
 }
 
-/// The key of this place among these.
+/// The key at this place of the list.
 fn key_in(keys: &[Key], place: usize) -> &Key
     requires { place < length keys.now }
     ensures { slice_get keys.now place ≡ Some result.now }

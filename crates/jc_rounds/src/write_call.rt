@@ -16,7 +16,8 @@ use std::alloc::{AllocError, Global};
 use std::marker::Model;
 use std::sync::Wait;
 
-/// What the writer is to be asked for in one call (`writeAll` or `deleteAll`), with all the memory that this takes. It can't be dropped.
+/// The changes for which the writer is to be called once (`writeAll` or `deleteAll`), with all the memory that this takes. It
+/// can't be dropped.
 pub struct WriteCall {
     asks: Vec<Ask>,
     batch: Batch,
@@ -34,7 +35,7 @@ impl Model for WriteCall {
 }
 
 impl WriteCall {
-    /// Nothing to write, with room for `n` changes. An `Err` says that an allocation failed.
+    /// An empty call of `writeAll`, with room for `n` changes. An `Err` says that an allocation failed.
     pub fn writes(alloc: Global, n: usize) -> Result<Self, AllocError>
         ensures { IfOk result (λ call. call ≡ no_writes false n) }
     {
@@ -42,7 +43,7 @@ impl WriteCall {
         WriteCall::new(alloc, batch, n)
     }
 
-    /// Nothing to delete, with room for `n` changes. An `Err` says that an allocation failed.
+    /// An empty call of `deleteAll`, with room for `n` changes. An `Err` says that an allocation failed.
     pub fn deletes(alloc: Global, n: usize) -> Result<Self, AllocError>
         ensures { IfOk result (λ call. call ≡ no_writes true n) }
     {
@@ -50,7 +51,7 @@ impl WriteCall {
         WriteCall::new(alloc, batch, n)
     }
 
-    /// An empty batch with room for `n` changes, and room for their asks and done values.
+    /// An empty call, with room for `n` changes, their asks and their done values.
     fn new(alloc: Global, batch: Batch, n: usize) -> Result<Self, AllocError>
         requires room { batch_room batch ≡ n }
         requires none { changes_of batch ≡ [] }
@@ -76,9 +77,9 @@ impl WriteCall {
         }
     }
 
-    /// Adds an ask, after those that are there. It takes no memory.
+    /// Adds an ask behind the others. It takes no memory.
     ///
-    /// Conditions: there is room; the ask's change is of the kind that is asked for here; its key isn't that of any of them.
+    /// Conditions: there is room; the ask's change is of this call's kind; no other ask has its key.
     pub fn push(&mut self, ask: Ask)
         requires room { 0 < self.old.room }
         requires kind { is_change_of self.old.deletes ask.change ≡ true }
@@ -89,11 +90,11 @@ impl WriteCall {
         self.asks.push_reserved(ask);
     }
 
-    /// Calls the session's writer once, for all of these asks, unless there are none. It returns the done values, the last ask's first,
-    /// and what the writer returned: it may fail and leave no key.
+    /// Calls the session's writer once, for all of these asks, if there are any. It returns the done values, the last ask's
+    /// first, and what the writer returned, since a writer may fail and leave no key.
     ///
-    /// A key that the writer leaves in the collection failed, with the writer's code or, if it returned normally, with 0; every other
-    /// key was written or deleted.
+    /// A key that the writer leaves in the collection failed, with the writer's code, or with 0 if the writer returned normally.
+    /// Every other key was written or deleted.
     ///
     /// It may wait, as long as the writer does. It takes no memory of its own.
     ///
@@ -119,7 +120,7 @@ impl WriteCall {
         (done, returned)
     }
 
-    /// Ends a batch that asks for nothing: nobody is asked.
+    /// Ends an empty call: nobody is asked.
     pub fn end(self)
         requires { self.items ≡ [] }
     {

@@ -1,4 +1,4 @@
--- The agent after a call outside. Its hands hold no stripe, and all else of it stays.
+-- The agent after a call outside. Its hands hold no stripe, and the rest of it is unchanged.
 --     LoaderAsked       the loader was called once, with the ask's key, and this is its done value; the writer stays
 --     WriterAsked       the writer was called once, for the ask's change, and this is its done value; the loader stays
 --     ProcessorRun      a processor was run once, on the entry of the ask, with at most one call of the loader; the writer stays

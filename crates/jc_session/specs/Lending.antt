@@ -1,7 +1,7 @@
 -- The agent after it has taken a stripe, and after it has given it back.
 --     Taken       the agent holds one stripe, which the token has taken in this state; it is one that a take may find, and is
 --                 reached
---     NotTaken    the stripe was out: the agent stays, and a later take may find what this one might have found
+--     NotTaken    the stripe was out: the agent is unchanged, and a later take may find what this one might have found
 --     Given       the agent holds no stripe, and has counted its phase; the next take finds a state that comes after the one
 --                 given back
 use Rattle.std.specs.Prelude.{◌≡◌, ℕ}

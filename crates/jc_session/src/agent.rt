@@ -88,8 +88,8 @@ impl Agent {
         self.caller
     }
 
-    /// How many steps the agent has made on the cache, up to `u64::MAX`: one for each key of a call that has been answered there
-    /// and not refused.
+    /// The number of steps that the agent has made on the cache, up to `u64::MAX`: one for each key of a call that has been
+    /// answered there and not refused.
     pub fn own(&self) -> u64
         ensures { result ≡ self.now.counts.own }
     {

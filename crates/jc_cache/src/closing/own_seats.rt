@@ -1,6 +1,7 @@
 //! The cache's own seats take all stripes, and learn what the sessions have seen.
 //!
-//! They are passed as a `&mut Vec<Seat>`: a seat takes no bytes, and a pointer to an element of no size in a slice gets no proof.
+//! They are passed as a `&mut Vec<Seat>`, because a seat takes no bytes, and a pointer to an element of no size in a slice gets no
+//! proof.
 ghost use Rattle.std.specs.Prelude.{ℕ, ◌≡◌, ◌≤◌, ◌+◌, ◌++◌, [], IfOk, IfErr, OnOk, All, length, map, slice_get, vec_len, vec_capacity};
 ghost use Rattle.atomic_table.specs.Seated.{TableId};
 ghost use Rattle.jc_stripe.specs.State.{IsIdle};
@@ -15,7 +16,7 @@ use jc_outside::Outside;
 use jc_session::Session;
 use jc_types::Refusal;
 
-/// Tests that nothing is out at the stripe, and nobody else holds it. It is given back as it was.
+/// Tests that nothing is out at the stripe and nobody else holds it, and gives it back as it was.
 fn test_idle(lock: &HistLock, seat: &mut Seat) -> Result<(), Refusal>
     requires { (seat.old.0 ≡ lock.now) × IsFreeSeat seat.old.1 }
     ensures keeps { KeepsSeat Looks seat.old seat.new }
@@ -35,7 +36,7 @@ fn test_idle(lock: &HistLock, seat: &mut Seat) -> Result<(), Refusal>
     Ok(())
 }
 
-/// Tests that nothing is out at any stripe, and nobody else holds one. All are given back as they were.
+/// Tests that nothing is out at any stripe and nobody else holds one, and gives all back as they were.
 pub(super) fn test_all_idle(locks: &[HistLock], own: &mut Vec<Seat>) -> Result<(), Refusal>
     requires { OwnsSeats locks.now own.old.items [] }
     ensures own { KeepsOwn Looks own.old.items own.new.items [] }
@@ -48,7 +49,7 @@ pub(super) fn test_all_idle(locks: &[HistLock], own: &mut Vec<Seat>) -> Result<(
     Ok(())
 }
 
-/// The stripe, if nothing is out there and nobody else holds it.
+/// Takes the stripe, if nothing is out there and nobody else holds it.
 fn take_idle(lock: &HistLock, seat: &mut Seat) -> Result<ClosedStripe, Refusal>
     requires { (seat.old.0 ≡ lock.now) × IsFreeSeat seat.old.1 }
     ensures keeps { KeepsSeat Looks seat.old seat.new }
@@ -65,7 +66,7 @@ fn take_idle(lock: &HistLock, seat: &mut Seat) -> Result<ClosedStripe, Refusal>
     Ok(ClosedStripe { stripe })
 }
 
-/// All stripes, into a list with room for them. If something is out at one, or somebody else holds one, none is taken.
+/// Takes all stripes into a list that has room for them. If something is out at one, or somebody else holds one, none is taken.
 pub(super) fn take_all(
     locks: &[HistLock],
     own: &mut Vec<Seat>,
@@ -107,7 +108,7 @@ fn give_all(locks: &[HistLock], own: &mut Vec<Seat>, stripes: Vec<ClosedStripe>)
     }
 }
 
-/// Ends these seats of a session. The own seats, which have taken the stripes, learn what they have seen.
+/// Ends these seats of a session. The cache's own seats, which have taken the stripes, learn what these have seen.
 fn join_seats(locks: &[HistLock], own: &mut Vec<Seat>, stripes: &[ClosedStripe], seats: Vec<Seat>)
     requires own { OwnsSeats locks.now own.old.items stripes.now }
     requires count { length stripes.now ≡ length locks.now }
@@ -123,7 +124,7 @@ fn join_seats(locks: &[HistLock], own: &mut Vec<Seat>, stripes: &[ClosedStripe],
     }
 }
 
-/// Ends a session, but for its seats, and its loader and writer.
+/// Ends a session, and returns its seats, its loader and its writer.
 ///
 /// Condition: it holds no stripe.
 fn parts_of(session: Session) -> (Vec<Seat>, Outside)
@@ -135,8 +136,8 @@ fn parts_of(session: Session) -> (Vec<Seat>, Outside)
     (seats, agent.into_outside())
 }
 
-/// Ends these sessions, and puts the loader and the writer of each into the list, in the order of the sessions. The own seats,
-/// which have taken the stripes, learn what they have seen.
+/// Ends these sessions, and puts the loader and the writer of each into the list, in the order of the sessions. The cache's own
+/// seats, which have taken the stripes, learn what the sessions have seen.
 ///
 /// Conditions: no session holds a stripe, and there is room for them in the list.
 pub(super) fn join_all(

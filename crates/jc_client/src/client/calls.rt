@@ -1,8 +1,8 @@
-//! The calls of a client on one key, each whole (JSR 107, `javax.cache.Cache`): those of [`Cache`] by its session.
+//! The calls of a client on one key (JSR 107, `javax.cache.Cache`): those of [`Cache`], by the client's session.
 //!
-//! Each is the session's next call, and none has a condition. An `Err` is a fault of the loader or the writer, with its code: then the
-//! call's step was made, and leaves the entry as it was. Or it is `HistoryFull`, and then nobody was asked and nothing changes. How
-//! calls wait, and what the session has seen afterwards, is as of the cache's own calls.
+//! Each is the session's next call, and none has a condition. An `Err` is a fault of the loader or the writer, with its code:
+//! then the call's step was made, and leaves the entry as it was. Or it is `HistoryFull`, and then nobody was asked and nothing
+//! changes. They wait, and show the session what was done, as the cache's own calls do.
 ghost use Rattle.std.specs.Prelude.{◌≡◌, Result};
 ghost use Rattle.jc_types.specs.declared.refusal.Refusal.{Refusal};
 ghost use Rattle.jc_model.specs.declared.event.Op.TheVariants as op;
@@ -27,7 +27,8 @@ impl<'a> Client<'a> {
         self.cache.get(rt, &mut self.session, key)
     }
 
-    /// The key's value, written to `value`, as by [`Cache::get_into`](jc_cache::Cache::get_into), and whether there is one. If there is none, `value` stays.
+    /// Writes the key's value to `value`, as by [`Cache::get_into`](jc_cache::Cache::get_into), and says whether there is one. If
+    /// there is none, `value` stays.
     ///
     /// An `Err` is `LoaderFailed` or `HistoryFull`, and leaves `value` as it was. It may wait, also as long as the loader does.
     pub fn get_into<R: Wait>(
@@ -45,7 +46,7 @@ impl<'a> Client<'a> {
 
     /// Whether the key has an entry, as by [`Cache::contains_key`](jc_cache::Cache::contains_key). It never loads.
     ///
-    /// An `Err` is `HistoryFull`. It may wait, but for no loader, writer or load.
+    /// An `Err` is `HistoryFull`. It may wait, but not for a loader, a writer or a load.
     pub fn contains_key<R: Wait>(&mut self, rt: &R, key: &Key) -> Result<bool, Refusal>
         ensures { OnSameCache self.old.cache self.new.cache
             (Returns loads load_state writes write_state
@@ -65,7 +66,8 @@ impl<'a> Client<'a> {
         self.cache.put(rt, &mut self.session, key, value)
     }
 
-    /// Gives the key a value, and returns the one before, or none, as by [`Cache::get_and_put`](jc_cache::Cache::get_and_put). It never loads.
+    /// Gives the key a value, and returns the one before, or none, as by [`Cache::get_and_put`](jc_cache::Cache::get_and_put). It
+    /// never loads.
     ///
     /// An `Err` is `WriterFailed` or `HistoryFull`. It may wait, also as long as the writer does.
     pub fn get_and_put<R: Wait>(
@@ -141,7 +143,8 @@ impl<'a> Client<'a> {
         self.cache.replace(rt, &mut self.session, key, value)
     }
 
-    /// Gives the key the value `new` if it has the value `old`, and says whether it did, as by [`Cache::replace_if`](jc_cache::Cache::replace_if).
+    /// Gives the key the value `new` if it has the value `old`, and says whether it did, as by
+    /// [`Cache::replace_if`](jc_cache::Cache::replace_if).
     ///
     /// An `Err` is `WriterFailed` or `HistoryFull`. It may wait, also as long as the writer does.
     pub fn replace_if<R: Wait>(
@@ -158,7 +161,8 @@ impl<'a> Client<'a> {
         self.cache.replace_if(rt, &mut self.session, key, old, new)
     }
 
-    /// Gives the key a value if it has an entry, and returns the one before, or none, as by [`Cache::get_and_replace`](jc_cache::Cache::get_and_replace).
+    /// Gives the key a value if it has an entry, and returns the one before, or none, as by
+    /// [`Cache::get_and_replace`](jc_cache::Cache::get_and_replace).
     ///
     /// An `Err` is `WriterFailed` or `HistoryFull`. It may wait, also as long as the writer does.
     pub fn get_and_replace<R: Wait>(
@@ -175,7 +179,8 @@ impl<'a> Client<'a> {
             .get_and_replace(rt, &mut self.session, key, value)
     }
 
-    /// Runs an entry processor on the key, and returns its result, or none, as by [`Cache::invoke`](jc_cache::Cache::invoke) (JSR 107, "Entry Processors").
+    /// Runs an entry processor on the key, and returns its result, or none, as by [`Cache::invoke`](jc_cache::Cache::invoke) (JSR
+    /// 107, "Entry Processors").
     ///
     /// An `Err` is the first fault of the loader, the processor and the writer, or `HistoryFull`. It may wait, also as long as they
     /// do.
