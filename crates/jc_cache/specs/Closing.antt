@@ -18,7 +18,7 @@
 --     HasOnlyLooked  an own seat has taken its stripe and given it back as it was, as often as this
 --     HasLastFound   of its lendings since then there is a last one, which found the stripe in this state and left it so
 --     IsInUse        one of these seats has last found its stripe with a reservation or a join out
---     HasMissed      one of these seats has found its stripe held by somebody else
+--     HasFoundHeld   one of these seats has found its stripe held by somebody else
 --     IsHandedBack   an owner who could not close the cache owns it as before; its seats may have noted and seen more of the stripes
 --     IsEndRefusal   why stripes are not taken from a cache: an own seat has last found something out at its stripe; each has found nothing
 --                    out, and an allocation failed; or one has found its stripe held
@@ -44,7 +44,7 @@ use Rattle.jc_stripe.specs.Renewal.{all_own_steps}
 use Rattle.jc_lock.specs.declared.view.View.{View}
 use Rattle.jc_engine.specs.Rows.{AllLend}
 use Rattle.jc_session.specs.declared.session.Session.{Session}
-use Rattle.jc_cache.specs.Caches.{Log, OwnerState, logs_of}
+use Rattle.jc_cache.specs.Caches.{CacheOwnerState, Log, logs_of}
 
 -- 1. A cache that is closed.
 
@@ -82,12 +82,12 @@ pub record IsTakenAs (seat : TableId × View) (state : State) : Type 0 where
   pub holds : seat.1.holds ≡ true
   pub noted : seat.1.noted ≡ state
 
-pub record AreClosed (owner : OwnerState) (stripes : List State) : Type 0 where
+pub record AreClosed (owner : CacheOwnerState) (stripes : List State) : Type 0 where
   pub count : length stripes ≡ owner.cache.config.stripes
   pub each : (i : ℕ) (state : State) → slice_get stripes i ≡ Some state
       → (noted : State) × (slice_get owner.noted i ≡ Some noted) × IsClosedAt owner.cache.config i owner.given noted state
 
-pub record IsClosed {I J : Type 0} {D : I → Type 0} {E : J → Type 0} (owner : OwnerState) (sessions : List (Session I J D E)) (stripes : List State) : Type 0 where
+pub record IsClosed {I J : Type 0} {D : I → Type 0} {E : J → Type 0} (owner : CacheOwnerState) (sessions : List (Session I J D E)) (stripes : List State) : Type 0 where
   pub stripes_are : AreClosed owner stripes
   pub all : length sessions ≡ owner.given
   pub fronts : (n : ℕ) (session : Session I J D E) → slice_get sessions n ≡ Some session → HasFront stripes session.seats.items
@@ -106,7 +106,7 @@ pub record HasTakenOver (before : Log) (brought : List (State × State)) (seat :
   pub lendings : seat.1.lendings ≡ before.lendings ++ (found, found) ∷ brought
   pub idle : IsIdle found
 
-pub record HasClosed {I J : Type 0} {D : I → Type 0} {E : J → Type 0} (owner : OwnerState) (sessions : List (Session I J D E)) (stripes : List State) (brought : List (Outside I J D E)) (seats : List (TableId × View)) (says : Bool) : Type 0 where
+pub record HasClosed {I J : Type 0} {D : I → Type 0} {E : J → Type 0} (owner : CacheOwnerState) (sessions : List (Session I J D E)) (stripes : List State) (brought : List (Outside I J D E)) (seats : List (TableId × View)) (says : Bool) : Type 0 where
   pub closed : IsClosed owner sessions stripes
   pub taken : AllZip IsTakenAs seats stripes
   pub gave_none : (i : ℕ) (seat : TableId × View) → slice_get seats i ≡ Some seat → seat.1.next_session ≡ Some owner.given
@@ -114,7 +114,7 @@ pub record HasClosed {I J : Type 0} {D : I → Type 0} {E : J → Type 0} (owner
   pub outside : brought ≡ map (λ (session : Session I J D E). session.agent.hands.outside) sessions
   pub legal : says ≡ true
 
-pub record HasEnded {I J : Type 0} {D : I → Type 0} {E : J → Type 0} (owner : OwnerState) (stripes : List State) (brought : List (Outside I J D E)) (seats : List (TableId × View)) (says : Bool) : Type 0 where
+pub record HasEnded {I J : Type 0} {D : I → Type 0} {E : J → Type 0} (owner : CacheOwnerState) (stripes : List State) (brought : List (Outside I J D E)) (seats : List (TableId × View)) (says : Bool) : Type 0 where
   pub closed : AreClosed owner stripes
   pub looked : AreIdle owner.logs (logs_of seats)
   pub taken : AllZip IsTakenAs seats stripes
@@ -132,29 +132,29 @@ abbrev pub IsInUse : (old new : List Log) → Type 0
 IsInUse old new = (i : ℕ) × (before : Log) × (after : Log) × (slice_get old i ≡ Some before) × (slice_get new i ≡ Some after)
     × ((found : State) × HasLastFound before.lendings after.lendings found × (IsIdle found → ⊥))
 
-abbrev pub HasMissed : (old new : List Log) → Type 0
-HasMissed old new = (i : ℕ) × (before : Log) × (after : Log) × (slice_get old i ≡ Some before) × (slice_get new i ≡ Some after) × (before.misses < after.misses)
+abbrev pub HasFoundHeld : (old new : List Log) → Type 0
+HasFoundHeld old new = (i : ℕ) × (before : Log) × (after : Log) × (slice_get old i ≡ Some before) × (slice_get new i ≡ Some after) × (before.misses < after.misses)
 
-pub record IsHandedBack (owner left : OwnerState) : Type 0 where
+pub record IsHandedBack (owner left : CacheOwnerState) : Type 0 where
   pub cache : left.cache ≡ owner.cache
   pub given : left.given ≡ owner.given
   pub noted : AllZip IsOfSameStripe owner.noted left.noted
   pub fronts : AllZip IsPrefix owner.fronts left.fronts
   pub logs : AllZip HasOnlyLooked owner.logs left.logs
 
-abbrev pub IsEndRefusal : Refusal → OwnerState → OwnerState → Type 0
+abbrev pub IsEndRefusal : Refusal → CacheOwnerState → CacheOwnerState → Type 0
 IsEndRefusal refusal owner left =
     ((refusal ≡ StillReserved) × IsInUse owner.logs left.logs)
-    ⊎ (((refusal ≡ OutOfMemory) × AreIdle owner.logs left.logs) ⊎ ((refusal ≡ Busy) × HasMissed owner.logs left.logs))
+    ⊎ (((refusal ≡ OutOfMemory) × AreIdle owner.logs left.logs) ⊎ ((refusal ≡ Busy) × HasFoundHeld owner.logs left.logs))
 
-abbrev pub IsCloseRefusal : OwnerState → ℕ → Refusal → OwnerState → Type 0
+abbrev pub IsCloseRefusal : CacheOwnerState → ℕ → Refusal → CacheOwnerState → Type 0
 IsCloseRefusal owner handed_in refusal left =
     ((handed_in ≢ owner.given) × (refusal ≡ StillReserved) × (left ≡ owner)) ⊎ ((handed_in ≡ owner.given) × IsEndRefusal refusal owner left)
 
-pub record HasNotClosed {I J : Type 0} {D : I → Type 0} {E : J → Type 0} (owner : OwnerState) (sessions : List (Session I J D E)) (refusal : Refusal) (left : OwnerState) (sessions' : List (Session I J D E)) : Type 0 where
+pub record HasNotClosed {I J : Type 0} {D : I → Type 0} {E : J → Type 0} (owner : CacheOwnerState) (sessions : List (Session I J D E)) (refusal : Refusal) (left : CacheOwnerState) (sessions' : List (Session I J D E)) : Type 0 where
   pub why : IsCloseRefusal owner (length sessions) refusal left
   pub back : IsHandedBack owner left × (sessions' ≡ sessions)
 
-pub record HasNotEnded {I J : Type 0} {D : I → Type 0} {E : J → Type 0} (owner : OwnerState) (refusal : Refusal) (left : OwnerState) (sessions : List (Session I J D E)) : Type 0 where
+pub record HasNotEnded {I J : Type 0} {D : I → Type 0} {E : J → Type 0} (owner : CacheOwnerState) (refusal : Refusal) (left : CacheOwnerState) (sessions : List (Session I J D E)) : Type 0 where
   pub why : IsEndRefusal refusal owner left
   pub back : IsHandedBack owner left × (sessions ≡ [])

@@ -1,6 +1,6 @@
 -- The cache's own seats while it is being closed: the first ones have taken their stripes.
 --     KeepsSeat     a seat is the one that it was, at the same lock and stripe; it may have seen more of the history, and lent the stripe so
---     Looks, Whatever    a lending that left the stripe as it was, and any
+--     LeavesUnchanged, Whatever    a lending that left the stripe as it was, and any
 --     KeepSeats     each of these seats is the one that it was
 --     IsFreeSeat    a seat of no session, which has not taken its stripe
 --     HasTaken      a seat of no session, which has taken its stripe in this state: a reached one, nothing is out there, and it has no step of
@@ -24,7 +24,7 @@ use Rattle.jc_stripe.specs.Renewal.{all_own_steps}
 use Rattle.jc_lock.specs.declared.view.View.{View}
 use Rattle.jc_engine.specs.Rows.{AllLend}
 use Rattle.jc_cache.specs.Caches.{logs_of}
-use Rattle.jc_cache.specs.Closing.{HasLastFound, HasMissed, IsInUse}
+use Rattle.jc_cache.specs.Closing.{HasFoundHeld, HasLastFound, IsInUse}
 
 -- 1. Own seats.
 
@@ -41,8 +41,8 @@ pub record KeepsSeat (lends : State → State → Type 0) (before after : TableI
   pub each : AllLend lends row
   pub misses : before.1.misses ≤ after.1.misses
 
-abbrev pub Looks : State → State → Type 0
-Looks found left = left ≡ found
+abbrev pub LeavesUnchanged : State → State → Type 0
+LeavesUnchanged found left = left ≡ found
 
 abbrev pub Whatever : State → State → Type 0
 Whatever found left = Unit {0}
@@ -85,7 +85,7 @@ IsTakeRefusal refusal before after =
     ⊎ ((refusal ≡ Busy) × (before.misses < after.misses))
 
 abbrev pub IsRowRefusal : Refusal → List (TableId × View) → List (TableId × View) → Type 0
-IsRowRefusal refusal old new = ((refusal ≡ StillReserved) × IsInUse (logs_of old) (logs_of new)) ⊎ ((refusal ≡ Busy) × HasMissed (logs_of old) (logs_of new))
+IsRowRefusal refusal old new = ((refusal ≡ StillReserved) × IsInUse (logs_of old) (logs_of new)) ⊎ ((refusal ≡ Busy) × HasFoundHeld (logs_of old) (logs_of new))
 
 -- 3. Seats of sessions.
 

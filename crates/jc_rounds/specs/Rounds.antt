@@ -13,7 +13,7 @@
 --     IsShown          a run on a key was shown what the step at the key is to ask its processor
 --     IsAnswer         a step's outside answers are what a round said of its key, and the round asked whom the step is to ask
 --     round_returned   what the writer returned, or that all went well
---     fault_of         the fault that a call of the writer returned, if it failed
+--     writer_failure   the fault that a call of the writer returned, if it failed
 --     round_fault      that of a round that the writer returned, if it failed; after a processor such a fault has no key, and is dropped
 --     faults_in        the faults that the writer returned
 use Rattle.std.specs.Prelude.{◌≡◌, ℕ, List, map, Bool, true, Option, None, Some, Result, Ok, Err, if◌then◌else◌}
@@ -100,12 +100,12 @@ round_returned (LoadAll r) = Ok tt
 round_returned (WriteAll r) = r.returned
 round_returned (ProcessAll r) = Ok tt
 
-abbrev pub fault_of : Result (Unit {0}) ℕ → Option Refusal
-fault_of (Ok done) = None
-fault_of (Err code) = Some (WriterFailed code)
+abbrev pub writer_failure : Result (Unit {0}) ℕ → Option Refusal
+writer_failure (Ok done) = None
+writer_failure (Err code) = Some (WriterFailed code)
 
 abbrev pub round_fault : Round → Option Refusal
-round_fault round = fault_of (round_returned round)
+round_fault round = writer_failure (round_returned round)
 
 -- 3. All rounds.
 

@@ -5,7 +5,7 @@
 --     HaveJoined      each key that has joined a load has done so between these views
 --     IsPutOff        a key that a round leaves waiting: it was put off in it, or has joined a load that was given back, or the round was full
 --     RoundEnd        what a round has asked outside, if it has asked, and what the session has seen of each stripe after it
---     calls_of        what these rounds have asked outside
+--     rounds_asked    what these rounds have asked outside
 --     seats_after     what the session has seen after these rounds
 --     StartsAll       a round starts all it can: each key that these later ones ask for, it has put off. It ends with a step of the call at
 --                     each key that it has asked for, and with none at those
@@ -24,8 +24,8 @@ use Rattle.jc_model.specs.Cache.{Bytes}
 use Rattle.jc_model.specs.declared.event.Op.{Op}
 use Rattle.jc_model.specs.declared.event.Op.TheVariants.{Get}
 use Rattle.jc_lock.specs.declared.view.View.{View}
-use Rattle.jc_rounds.specs.declared.progress.Progress.{Progress}
-use Rattle.jc_rounds.specs.declared.progress.Progress.TheVariants.{Joined}
+use Rattle.jc_rounds.specs.declared.progress.KeyProgress.{KeyProgress}
+use Rattle.jc_rounds.specs.declared.progress.KeyProgress.TheVariants.{Joined}
 use Rattle.jc_rounds.specs.Keys.{HasJoined, IsHeldBack}
 use Rattle.jc_rounds.specs.Recorded.{steps_of}
 use Rattle.jc_rounds.specs.Rounds.{Round, asked_in}
@@ -45,7 +45,7 @@ pub record AreManyJoined (caller : Caller) (stripes : ℕ) (targets : List (Byte
 abbrev pub IsFull : Caller → ℕ → List (Bytes × Op) → List (TableId × View) → List (TableId × View) → ℕ → Type 0
 IsFull caller stripes targets old new asked = (RESERVATIONS_MAX * stripes < asked) ⊎ AreManyJoined caller stripes targets old new
 
-abbrev pub HaveJoined : Caller → ℕ → List (Bytes × Op) → List (TableId × View) → List (TableId × View) → List Progress → Type 0
+abbrev pub HaveJoined : Caller → ℕ → List (Bytes × Op) → List (TableId × View) → List (TableId × View) → List KeyProgress → Type 0
 HaveJoined caller stripes targets old new progress = (place : ℕ) (key : Bytes) (op : Op) → slice_get targets place ≡ Some (key, op) → slice_get progress place ≡ Some Joined
     → (op ≡ Get) × HasJoined caller (view_of stripes old key) (view_of stripes new key) key op
 
@@ -53,8 +53,8 @@ pub record RoundEnd : Type 0 where
   pub calls : List Round
   pub seats : List (TableId × View)
 
-abbrev pub calls_of : List RoundEnd → List Round
-calls_of ends = flat_map (λ (e : RoundEnd). e.calls) ends
+abbrev pub rounds_asked : List RoundEnd → List Round
+rounds_asked ends = flat_map (λ (e : RoundEnd). e.calls) ends
 
 abbrev pub seats_after : List (TableId × View) → List RoundEnd → List (TableId × View)
 seats_after old [] = old
@@ -74,11 +74,11 @@ module _ (caller : Caller) (stripes : ℕ) (targets : List (Bytes × Op)) where
 
   abbrev pub EachStartsAll : List (TableId × View) → List RoundEnd → Type 0
   EachStartsAll old [] = Unit {0}
-  EachStartsAll old (e ∷ es) = StartsAll old e (calls_of es) × EachStartsAll e.seats es
+  EachStartsAll old (e ∷ es) = StartsAll old e (rounds_asked es) × EachStartsAll e.seats es
 
   pub record HasStartedAll (old new : List (TableId × View)) (rounds : List Round) : Type 0 where
     pub ends : List RoundEnd
-    pub calls_are : calls_of ends ≡ rounds
+    pub calls_are : rounds_asked ends ≡ rounds
     pub seats_are : seats_after old ends ≡ new
     pub each : EachStartsAll old ends
 
