@@ -6,13 +6,13 @@
 --     ends_so         after the last round the call is carried out
 --     got_of          a call that gets, by the keys that it was given
 --     few_of          a call with no more keys than may be, by the keys that it was given
-use Rattle.jc_bulk.proofs.Common.{IndexMap, DoesAll, GetsAll, IsBulkCall, OrNoMemory, OrRefused, TellsFound, causes_of, IsRoomOf, IsRoomOfCall, BulkBehavior, KeysAskAs, RunsOn, BulkFault, Kind, CacheState, MayCall, Session, Bytes, Op, carried_out, failures_are, none_run, opens_call, KeyEnd, failed_entries, found_entries, key_ends, IsCauseIn, Round, faults_in, HasRun, ops_of, IsNew, IsOver, Past, BulkCall, Progress, Refusal, ◌≡◌, ◌==◌, inl, ◌≤◌, ◌++◌, ℕ, List, [], ◌∷◌, length, map, Option, None, Some, IfNone, Result, refl, sym, ap, subst, ◌∙◌, pointwise, Vec, IsDistinct, keys_of}
+use Rattle.jc_bulk.proofs.Common.{IndexMap, DoesAll, GetsAll, IsBulkCall, OrNoMemory, OrRefused, TellsFound, causes_of, IsRoomOf, IsRoomOfCall, BulkBehavior, KeysAskAs, RunsOn, BulkFault, OutsideKind, CacheState, MayCall, Session, Bytes, Op, carried_out, failures_are, none_run, opens_call, KeyEnd, failed_entries, found_entries, key_ends, IsCauseIn, Round, faults_in, HasRun, ops_of, IsNew, IsOver, CallPast, BulkCall, KeyProgress, Refusal, ◌≡◌, ◌==◌, inl, ◌≤◌, ◌++◌, ℕ, List, [], ◌∷◌, length, map, Option, None, Some, IfNone, Result, refl, sym, ap, subst, ◌∙◌, pointwise, Vec, IsDistinct, keys_of}
 use Rattle.jc_types.specs.declared.limits.TheConstants.{BULK_KEYS_MAX}
 use Rattle.jc_session.specs.Sessions.{next_call}
 use Rattle.jc_rounds.specs.declared.targets.Targets.{Targets}
-use Rattle.jc_bulk.specs.declared.carrying.Room.{Room}
+use Rattle.jc_bulk.specs.declared.carrying.BulkRoom.{BulkRoom}
 
-pub own_room : (kind : Kind) (n stripes own : ℕ) (room : Room) (ops : List (Bytes × Op)) → IsRoomOf kind n stripes room → n ≡ length ops → stripes ≡ own → IsDistinct (pointwise ◌==◌) (keys_of ops) × KeysAskAs kind ops → IsRoomOfCall ops own room
+pub own_room : (kind : OutsideKind) (n stripes own : ℕ) (room : BulkRoom) (ops : List (Bytes × Op)) → IsRoomOf kind n stripes room → n ≡ length ops → stripes ≡ own → IsDistinct (pointwise ◌==◌) (keys_of ops) × KeysAskAs kind ops → IsRoomOfCall ops own room
 own_room kind n stripes own room ops is keys same each =
     let kind_is : kind ≡ room.outside.kind = sym (ap (λ s. s.kind) is.outside) in
     record {
@@ -30,7 +30,7 @@ none_failed None ends rounds failed are met = are ∙ none_first (failed_entries
 none_failed (Some cause) ends rounds failed are met = tt
 
 module _ {I J : Type 0} {D : I → Type 0} {E : J → Type 0} where
-  abbrev pub begun : Session I J D E → Past
+  abbrev pub begun : Session I J D E → CallPast
   begun old = record { caller = (next_call old).agent.caller; first = old.seats.items; rounds = [] }
 
   pub first_run : (cache : CacheState) (old next : Session I J D E) (targets : Targets) (call : BulkCall) → MayCall cache old → IsDistinct (pointwise ◌==◌) (keys_of (ops_of targets)) → IsNew targets cache.config.stripes call → next ≡ next_call old → HasRun cache (begun old) next call
@@ -50,13 +50,13 @@ module _ {I J : Type 0} {D : I → Type 0} {E : J → Type 0} (behavior : BulkBe
         first = carried.1;
       }
 
-  pub ends_for : (cache : CacheState) (old next new : Session I J D E) (targets : Targets) (call later : BulkCall) (progress : Vec Progress) (cause : Option Refusal) → next ≡ next_call old → call.targets.now ≡ targets → progress ≡ later.progress → cause ≡ later.cause
+  pub ends_for : (cache : CacheState) (old next new : Session I J D E) (targets : Targets) (call later : BulkCall) (progress : Vec KeyProgress) (cause : Option Refusal) → next ≡ next_call old → call.targets.now ≡ targets → progress ≡ later.progress → cause ≡ later.cause
       → IsOver later → RunsOn behavior cache (begun old) next call new later
       → IsBulkCall behavior cache old (ops_of targets) (key_ends (ops_of targets) progress.items) cause new
   ends_for cache old next new targets call later progress cause next_is targets_are progress_is cause_is over runs =
       let e = ends_so cache old new call later over (subst (λ s. RunsOn behavior cache (begun old) s call new later) next_is runs) in
       subst (λ t. IsBulkCall behavior cache old (ops_of t) (key_ends (ops_of t) progress.items) cause new) (ap (λ t. t.now) runs.targets ∙ targets_are)
-      (subst (λ (p : Vec Progress). IsBulkCall behavior cache old (ops_of later.targets.now) (key_ends (ops_of later.targets.now) p.items) cause new) (sym progress_is)
+      (subst (λ (p : Vec KeyProgress). IsBulkCall behavior cache old (ops_of later.targets.now) (key_ends (ops_of later.targets.now) p.items) cause new) (sym progress_is)
       (subst (λ o. IsBulkCall behavior cache old (ops_of later.targets.now) (key_ends (ops_of later.targets.now) later.progress.items) o new) (sym cause_is) e))
 
   pub few_of : (cache : CacheState) (old new : Session I J D E) (targets same : List (Bytes × Op)) (keys : ℕ) (result : Result (Unit {0}) BulkFault) → targets ≡ same → keys ≤ BULK_KEYS_MAX

@@ -5,7 +5,7 @@
 --     may_write        the kind of a round that asks is out only in a cache in which it may be
 --     may_fill         the tickets of a round may be asked for in one call
 --     asks_for         a round asks for keys of the call alone, and only for what their operations ask for
-use Rattle.jc_bulk.proofs.Common.{MayAskFor, holds_none, AsksAs, HasOneToAsk, IsAskedOf, IsWrittenOf, OutsideState, fits_first, wanted_changes, IsReady, KeysAskAs, Kind, Load, Write, Delete, CacheState, IsOf, Session, Bytes, Change, Op, Put, IsOutAt, all_map, all_mapped, all_out, among_there, distinct_reserved, is_change_of, AsksFor, reserved_keys, is_reserved, ProcessAll, Round, WriteAll, keys_asked, ops_of, ops_with, put_ops, HasStarted, Past, are_fresh, reserved_by, BulkCall, Progress, first_asked, first_by, reserves, TicketClaim, asks_loader, change_asked, First, Writer, Reservation, Config, ◌≡◌, ◌&&◌, ◌||◌, inl, inr, ℕ, zero, suc, List, [], ◌∷◌, map, slice_get, Bool, true, false, true≢false, cond, Option, None, Some, is_none, refl, sym, ap, ◌∙◌, subst, arith, same_Some, AllByRecursion, IsAmong}
+use Rattle.jc_bulk.proofs.Common.{MayAskFor, holds_none, AsksAs, HasOneToAsk, IsAskedOf, IsWrittenOf, OutsideState, fits_first, wanted_changes, IsOutsideReady, KeysAskAs, OutsideKind, Load, Write, Delete, CacheState, IsOf, Session, Bytes, Change, Op, Put, IsOutAt, all_map, all_mapped, all_out, among_there, distinct_reserved, is_change_of, AsksFor, reserved_keys, holds_reservation, ProcessAll, Round, WriteAll, keys_asked, ops_of, ops_with, put_ops, HasStarted, CallPast, are_fresh, reserved_by, BulkCall, KeyProgress, first_asked, first_by, reserves, TicketClaim, asks_loader, change_asked, First, Writer, Reservation, Config, ◌≡◌, ◌&&◌, ◌||◌, inl, inr, ℕ, zero, suc, List, [], ◌∷◌, map, slice_get, Bool, true, false, true≢false, cond, Option, None, Some, is_none, refl, sym, ap, ◌∙◌, subst, arith, same_Some, AllByRecursion, IsAmong}
 use Rattle.std.specs.List.{All}
 use Rattle.jc_types.specs.declared.caller.Caller.{Caller}
 use Rattle.jc_model.specs.Table.{always_if}
@@ -16,7 +16,7 @@ use Rattle.jc_rounds.specs.SoFar.{AreIn}
 
 -- 1. Whom an operation asks.
 
-abbrev pub MayAsk : Kind → Config → Type 0
+abbrev pub MayAsk : OutsideKind → Config → Type 0
 MayAsk Load config = Unit {0}
 MayAsk Write config = config.write_through ≡ true
 MayAsk Delete config = config.write_through ≡ true
@@ -31,7 +31,7 @@ writes_by : (through : Bool) (c : Change) (first : First) → first ≡ first_by
 writes_by true c first is asks = (is, refl)
 writes_by false c first is asks = absurd (true≢false (sym asks ∙ ap reserves is))
 
-pub asked_first : (config : Config) (op : Op) (entry : Option Bytes) (first : First) (kind : Kind) → AsksAs kind op → first ≡ first_asked config op entry → reserves first ≡ true → (fits_first kind first ≡ true) × MayAsk kind config
+pub asked_first : (config : Config) (op : Op) (entry : Option Bytes) (first : First) (kind : OutsideKind) → AsksAs kind op → first ≡ first_asked config op entry → reserves first ≡ true → (fits_first kind first ≡ true) × MayAsk kind config
 asked_first config op entry first Load (inl is) asked asks =
     (loads_by (config.read_through && is_none entry) config.write_through first (asked ∙ ap (λ o. first_asked config o entry) is) asks, tt)
 asked_first config op entry first Load (inr (inl is)) asked asks =
@@ -52,7 +52,7 @@ each_asks target P all [] place o at = cc
 each_asks target P all (x ∷ xs) zero o at = subst (λ (u : Bytes × Op). P u.1) (same_Some (target x) o at) (all x)
 each_asks target P all (x ∷ xs) (suc place) o at = each_asks target P all xs place o at
 
-pub same_asks : (kind : Kind) (op : Op) (keys : List Bytes) → AsksAs kind op → KeysAskAs kind (ops_with op keys)
+pub same_asks : (kind : OutsideKind) (op : Op) (keys : List Bytes) → AsksAs kind op → KeysAskAs kind (ops_with op keys)
 same_asks kind op keys is place key o at = each_asks (λ (k : Bytes). (k, op)) (AsksAs kind) (λ k. is) keys place (key, o) at
 
 pub puts_ask : (entries : List (Bytes × Bytes)) → KeysAskAs Write (put_ops entries)
@@ -60,27 +60,27 @@ puts_ask entries place key o at = each_asks (λ (e : Bytes × Bytes). (e.0, Put 
 
 -- 3. A round.
 
-module _ (kind : Kind) (caller : Caller) (config : Config) (targets : List (Bytes × Op)) (asks : KeysAskAs kind targets) where
-  ticket_asks : (ps : List Progress) (r : Reservation) → IsOutAt is_reserved (IsTicketFor caller config) targets ps r → (fits_first kind r.first ≡ true) × MayAsk kind config
+module _ (kind : OutsideKind) (caller : Caller) (config : Config) (targets : List (Bytes × Op)) (asks : KeysAskAs kind targets) where
+  ticket_asks : (ps : List KeyProgress) (r : Reservation) → IsOutAt holds_reservation (IsTicketFor caller config) targets ps r → (fits_first kind r.first ≡ true) × MayAsk kind config
   ticket_asks ps r out = asked_first config out.2 out.7.entry r.first kind (asks out.0 out.1 out.2 out.4) out.7.first_is out.7.asks
 
-  pub all_ask : (ps : List Progress) (ts : List TicketClaim) → AreIn is_reserved (IsTicketFor caller config) targets ps (map reserved_by ts) → AllByRecursion (λ (t : TicketClaim). fits_first kind t.reservation.first ≡ true) ts
-  all_ask ps ts are = by ts (all_map (IsOutAt is_reserved (IsTicketFor caller config) targets ps) (λ (r : Reservation). fits_first kind r.first ≡ true) (map reserved_by ts) (λ r out. (ticket_asks ps r out).0) (all_out is_reserved (IsTicketFor caller config) targets ps (map reserved_by ts) are))
+  pub all_ask : (ps : List KeyProgress) (ts : List TicketClaim) → AreIn holds_reservation (IsTicketFor caller config) targets ps (map reserved_by ts) → AllByRecursion (λ (t : TicketClaim). fits_first kind t.reservation.first ≡ true) ts
+  all_ask ps ts are = by ts (all_map (IsOutAt holds_reservation (IsTicketFor caller config) targets ps) (λ (r : Reservation). fits_first kind r.first ≡ true) (map reserved_by ts) (λ r out. (ticket_asks ps r out).0) (all_out holds_reservation (IsTicketFor caller config) targets ps (map reserved_by ts) are))
     where
       by : (xs : List TicketClaim) → AllByRecursion (λ (r : Reservation). fits_first kind r.first ≡ true) (map reserved_by xs) → AllByRecursion (λ (t : TicketClaim). fits_first kind t.reservation.first ≡ true) xs
       by [] all = tt
       by (x ∷ xs) all = (all.0, by xs all.1)
 
-  pub may_ask : (ps : List Progress) (ts : List TicketClaim) → (ts ≡ [] → ⊥) → AreIn is_reserved (IsTicketFor caller config) targets ps (map reserved_by ts) → MayAsk kind config
+  pub may_ask : (ps : List KeyProgress) (ts : List TicketClaim) → (ts ≡ [] → ⊥) → AreIn holds_reservation (IsTicketFor caller config) targets ps (map reserved_by ts) → MayAsk kind config
   may_ask ps [] some are = absurd (some refl)
-  may_ask ps (t ∷ ts) some are = (ticket_asks ps t.reservation (all_out is_reserved (IsTicketFor caller config) targets ps (map reserved_by (t ∷ ts)) are).0).1
+  may_ask ps (t ∷ ts) some are = (ticket_asks ps t.reservation (all_out holds_reservation (IsTicketFor caller config) targets ps (map reserved_by (t ∷ ts)) are).0).1
 
   abbrev Wanted : Reservation → Type 0
   Wanted r = (op : Op) × (entry : Option Bytes) × IsAmong targets (r.key, op) × (r.first ≡ first_asked config op entry) × (fits_first kind r.first ≡ true)
 
-  all_wanted : (ps : List Progress) (rs : List Reservation) → AreIn is_reserved (IsTicketFor caller config) targets ps rs → AllByRecursion Wanted rs
+  all_wanted : (ps : List KeyProgress) (rs : List Reservation) → AreIn holds_reservation (IsTicketFor caller config) targets ps rs → AllByRecursion Wanted rs
   all_wanted ps rs are =
-      all_map (IsOutAt is_reserved (IsTicketFor caller config) targets ps) Wanted rs
+      all_map (IsOutAt holds_reservation (IsTicketFor caller config) targets ps) Wanted rs
       (λ r out. (
         out.2,
         out.7.entry,
@@ -88,7 +88,7 @@ module _ (kind : Kind) (caller : Caller) (config : Config) (targets : List (Byte
         out.7.first_is,
         (ticket_asks ps r out).0,
       ))
-      (all_out is_reserved (IsTicketFor caller config) targets ps rs are)
+      (all_out holds_reservation (IsTicketFor caller config) targets ps rs are)
 
   written_for : (deletes : Bool) (rs : List Reservation) (round : Round) → IsWrittenOf deletes rs round → AllByRecursion Wanted rs → AsksFor config targets round
   written_for deletes rs (LoadsAll r) asked all = absurd asked
@@ -98,7 +98,7 @@ module _ (kind : Kind) (caller : Caller) (config : Config) (targets : List (Byte
       (all_mapped (λ (q : Reservation). (q.key, change_asked q.first)) (λ (c : Bytes × Option Change). (op : Op) × (entry : Option Bytes) × IsAmong targets (c.0, op) × (c.1 ≡ change_asked (first_asked config op entry))) rs
       (all_map Wanted (λ (q : Reservation). (op : Op) × (entry : Option Bytes) × IsAmong targets (q.key, op) × (change_asked q.first ≡ change_asked (first_asked config op entry))) rs (λ q a. (a.0, a.1, a.2, ap change_asked a.3)) all))
 
-loaded_for : (caller : Caller) (config : Config) (targets : List (Bytes × Op)) (asks : KeysAskAs Load targets) (rs : List Reservation) (round : Round) → IsAskedOf Load rs round → (ps : List Progress) → AreIn is_reserved (IsTicketFor caller config) targets ps rs → AsksFor config targets round
+loaded_for : (caller : Caller) (config : Config) (targets : List (Bytes × Op)) (asks : KeysAskAs Load targets) (rs : List Reservation) (round : Round) → IsAskedOf Load rs round → (ps : List KeyProgress) → AreIn holds_reservation (IsTicketFor caller config) targets ps rs → AsksFor config targets round
 loaded_for caller config targets asks rs (LoadsAll r) asked ps are =
     subst (All (λ (key : Bytes). (op : Op) × (entry : Option Bytes) × IsAmong targets (key, op) × (asks_loader (first_asked config op entry) ≡ true))) (sym asked)
     (all_mapped (λ (q : Reservation). q.key) (λ (key : Bytes). (op : Op) × (entry : Option Bytes) × IsAmong targets (key, op) × (asks_loader (first_asked config op entry) ≡ true)) rs
@@ -107,7 +107,7 @@ loaded_for caller config targets asks rs (LoadsAll r) asked ps are =
 loaded_for caller config targets asks rs (WriteAll r) asked ps are = absurd asked
 loaded_for caller config targets asks rs (ProcessAll r) asked ps are = absurd asked
 
-pub asks_for : (kind : Kind) (caller : Caller) (config : Config) (targets : List (Bytes × Op)) (asks : KeysAskAs kind targets) (rs : List Reservation) (round : Round) → IsAskedOf kind rs round → (ps : List Progress) → AreIn is_reserved (IsTicketFor caller config) targets ps rs → AsksFor config targets round
+pub asks_for : (kind : OutsideKind) (caller : Caller) (config : Config) (targets : List (Bytes × Op)) (asks : KeysAskAs kind targets) (rs : List Reservation) (round : Round) → IsAskedOf kind rs round → (ps : List KeyProgress) → AreIn holds_reservation (IsTicketFor caller config) targets ps rs → AsksFor config targets round
 asks_for Load caller config targets asks rs round asked ps are = loaded_for caller config targets asks rs round asked ps are
 asks_for Write caller config targets asks rs round asked ps are = written_for Write caller config targets asks false rs round asked (all_wanted Write caller config targets asks ps rs are)
 asks_for Delete caller config targets asks rs round asked ps are = written_for Delete caller config targets asks true rs round asked (all_wanted Delete caller config targets asks ps rs are)
@@ -121,7 +121,7 @@ written_keys deletes rs (LoadsAll r) asked = absurd asked
 written_keys deletes rs (ProcessAll r) asked = absurd asked
 written_keys deletes rs (WriteAll r) asked = ap (map (λ (c : Bytes × Option Change). c.0)) asked.1 ∙ firsts rs
 
-pub keys_are : (kind : Kind) (rs : List Reservation) (round : Round) → IsAskedOf kind rs round → keys_asked round ≡ reserved_keys rs
+pub keys_are : (kind : OutsideKind) (rs : List Reservation) (round : Round) → IsAskedOf kind rs round → keys_asked round ≡ reserved_keys rs
 keys_are Load rs (LoadsAll r) asked = asked
 keys_are Load rs (WriteAll r) asked = absurd asked
 keys_are Load rs (ProcessAll r) asked = absurd asked
@@ -133,16 +133,16 @@ unasked rounds [] all = tt
 unasked rounds (t ∷ ts) all = (all.0.0, unasked rounds ts all.1)
 
 module _ {I J : Type 0} {D : I → Type 0} {E : J → Type 0} where
-  one_of : (cache : CacheState) (session : Session I J D E) (kind : Kind) → IsOf cache session → MayAsk kind cache.config → HasOneToAsk kind session.agent.hands.outside.writer
+  one_of : (cache : CacheState) (session : Session I J D E) (kind : OutsideKind) → IsOf cache session → MayAsk kind cache.config → HasOneToAsk kind session.agent.hands.outside.writer
   one_of cache session Load of may = tt
   one_of cache session Write of may = of.writes may
   one_of cache session Delete of may = of.writes may
 
-  pub may_write : (cache : CacheState) (past : Past) (start session : Session I J D E) (call : BulkCall) (outside : OutsideState) → HasStarted cache past start session call → IsReady call outside → (call.tickets.items ≡ [] → ⊥) → MayAsk outside.kind cache.config
+  pub may_write : (cache : CacheState) (past : CallPast) (start session : Session I J D E) (call : BulkCall) (outside : OutsideState) → HasStarted cache past start session call → IsOutsideReady call outside → (call.tickets.items ≡ [] → ⊥) → MayAsk outside.kind cache.config
   may_write cache past start session call outside started ready some =
       may_ask outside.kind past.caller cache.config (ops_of call.targets.now) ready.kind call.progress.items call.tickets.items some started.on.under.calls_are
 
-  pub may_fill : (cache : CacheState) (past : Past) (start session : Session I J D E) (call : BulkCall) (outside : OutsideState) → HasStarted cache past start session call → IsReady call outside → (call.tickets.items ≡ [] → ⊥) → MayAskFor session outside call.tickets.items
+  pub may_fill : (cache : CacheState) (past : CallPast) (start session : Session I J D E) (call : BulkCall) (outside : OutsideState) → HasStarted cache past start session call → IsOutsideReady call outside → (call.tickets.items ≡ [] → ⊥) → MayAskFor session outside call.tickets.items
   may_fill cache past start session call outside started ready some =
       let u = started.on.under in
       let ops = ops_of call.targets.now in

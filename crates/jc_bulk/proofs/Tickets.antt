@@ -7,7 +7,7 @@
 --     whole_tickets    once all have asked
 --     writes_rest, loads_rest    of a call of the writer nothing is left, of a call of the loader its memory
 --     answered_loads, answered_writes    what the loader or the writer has answered
-use Rattle.jc_bulk.proofs.Common.{changes_of, Batch, Answered, BulkBehavior, IsAskedOf, IsRest, fits, fits_first, kind_of, wanted_changes, Kind, Load, Write, Delete, Session, is_among, Bytes, Change, IsToBeAnswered, done_room, key_of, reserved_keys, AreSpent, LoadCallAsked, WriteCallAsked, WritesBatch, asked_keys, is_delete, wanted, LoadAll, Round, WriteAll, WriteRound, fault_of, keys_asked, reserved_by, Answers, Loads, Writes, SpentLoads, Claim, TicketClaim, asks_loader, asks_writer, change_asked, claim_of, First, Nobody, Loader, Writer, Processor, Reservation, Refusal, ◌≡◌, ◌==◌, ◌||◌, ◌<◌, ◌≤◌, ◌+◌, ◌++◌, ℕ, zero, suc, List, [], ◌∷◌, length, map, set, take, drop, get_or, slice_get, Bool, true, false, Option, None, Some, option_map, Result, refl, sym, ap, ◌∙◌, subst, arith, map-append, take_all, take_more, pointwise, Vec, AllByRecursion, IsDistinct}
+use Rattle.jc_bulk.proofs.Common.{changes_of, Batch, Answered, BulkBehavior, IsAskedOf, IsRest, fits_kind, fits_first, write_kind, wanted_changes, OutsideKind, Load, Write, Delete, Session, is_among, Bytes, Change, IsToBeAnswered, done_room, asked_key, reserved_keys, AreSpent, LoadCallAsked, WriteCallAsked, WritesBatch, asked_keys, is_delete, wanted, LoadAll, Round, WriteAll, WriteRound, writer_failure, keys_asked, reserved_by, RoundAnswers, Loads, Writes, SpentLoads, Claim, TicketClaim, asks_loader, asks_writer, change_asked, claim_of, First, Nobody, Loader, Writer, Processor, Reservation, Refusal, ◌≡◌, ◌==◌, ◌||◌, ◌<◌, ◌≤◌, ◌+◌, ◌++◌, ℕ, zero, suc, List, [], ◌∷◌, length, map, set, take, drop, get_or, slice_get, Bool, true, false, Option, None, Some, option_map, Result, refl, sym, ap, ◌∙◌, subst, arith, map-append, take_all, take_more, pointwise, Vec, AllByRecursion, IsDistinct}
 use Rattle.std.proofs.lemmas.Cmp.{nat_list_eq_equiv}
 use Rattle.jc_model.specs.declared.event.WriteAnswer.{WriteAnswer}
 use Rattle.jc_batch.proofs.CallerLemmas.{not_before}
@@ -109,7 +109,7 @@ to_be asks round keys (t ∷ ts) all are among = (
   to_be asks round keys ts all.1 are (λ key is. among key (ap (λ b. pointwise ◌==◌ key t.reservation.key || b) is ∙ or_true (pointwise ◌==◌ key t.reservation.key))),
 )
 
-writes_first : (deletes : Bool) (first : First) → fits_first (kind_of deletes) first ≡ true → asks_writer first ≡ true
+writes_first : (deletes : Bool) (first : First) → fits_first (write_kind deletes) first ≡ true → asks_writer first ≡ true
 writes_first false Nobody h = cc
 writes_first false Loader h = cc
 writes_first false (Writer change) h = refl
@@ -119,20 +119,20 @@ writes_first true Loader h = cc
 writes_first true (Writer change) h = refl
 writes_first true (Processor entry loads) h = cc
 
-all_write : (deletes : Bool) (ts : List TicketClaim) → AllByRecursion (λ (t : TicketClaim). fits_first (kind_of deletes) t.reservation.first ≡ true) ts → AllByRecursion (λ (t : TicketClaim). asks_writer t.reservation.first ≡ true) ts
+all_write : (deletes : Bool) (ts : List TicketClaim) → AllByRecursion (λ (t : TicketClaim). fits_first (write_kind deletes) t.reservation.first ≡ true) ts → AllByRecursion (λ (t : TicketClaim). asks_writer t.reservation.first ≡ true) ts
 all_write deletes [] all = tt
 all_write deletes (t ∷ ts) all = (writes_first deletes t.reservation.first all.0, all_write deletes ts all.1)
 
 -- of a call of the writer nothing is left, of a call of the loader its memory
-writes_rest : (kind : Kind) (deletes : Bool) (room : ℕ) (answers : Answers) → kind ≡ kind_of deletes → IsRest kind room answers None
+writes_rest : (kind : OutsideKind) (deletes : Bool) (room : ℕ) (answers : RoundAnswers) → kind ≡ write_kind deletes → IsRest kind room answers None
 writes_rest kind false room answers is = subst (λ k. IsRest k room answers None) (sym is) tt
 writes_rest kind true room answers is = subst (λ k. IsRest k room answers None) (sym is) tt
 
-pub loads_rest : (kind : Kind) (room n : ℕ) (answers : Answers) (rest : SpentLoads) → kind ≡ Load → n ≡ room → AreSpent rest → (rest.batch.room ≡ n) × (n ≤ done_room answers) → IsRest kind room answers (Some rest)
+pub loads_rest : (kind : OutsideKind) (room n : ℕ) (answers : RoundAnswers) (rest : SpentLoads) → kind ≡ Load → n ≡ room → AreSpent rest → (rest.batch.room ≡ n) × (n ≤ done_room answers) → IsRest kind room answers (Some rest)
 loads_rest kind room n answers rest is same spent left = subst (λ k. IsRest k room answers (Some rest)) (sym is) (spent, left.0 ∙ same, subst (λ m. m ≤ done_room answers) same left.1)
 
 module _ {I J : Type 0} {D : I → Type 0} {E : J → Type 0} (behavior : BulkBehavior ((i : I) × D i) ((j : J) × E j)) where
-  pub answered_loads : (old new : Session I J D E) (kind : Kind) (room : ℕ) (ts : List TicketClaim) (asks : List Claim) (done : Vec (LoadResult Claim)) (rest : SpentLoads) → kind ≡ Load → asks ≡ asks_of ts
+  pub answered_loads : (old new : Session I J D E) (kind : OutsideKind) (room : ℕ) (ts : List TicketClaim) (asks : List Claim) (done : Vec (LoadResult Claim)) (rest : SpentLoads) → kind ≡ Load → asks ≡ asks_of ts
       → AllByRecursion (λ (t : TicketClaim). fits_first kind t.reservation.first ≡ true) ts → LoadCallAsked behavior.loads_all behavior.load_state old asks done.items new
       → IsRest kind room (Loads done) (Some rest) → Answered behavior old kind room ts (Loads done) None (Some rest) new
   answered_loads old new kind room ts asks done rest is are all a left =
@@ -144,7 +144,7 @@ module _ {I J : Type 0} {D : I → Type 0} {E : J → Type 0} (behavior : BulkBe
         fault_is = refl;
         calls = (subst (λ ks. LoadsAllOnce (boxed behavior.loads_all) (boxed behavior.load_state) old.agent.hands.outside.loader ks a.said new.agent.hands.outside.loader) keys a.loads, a.writer);
         answered = λ config. (
-          a.done_are ∙ ap (loads_done key_of a.said) (are ∙ claims_are ts),
+          a.done_are ∙ ap (loads_done asked_key a.said) (are ∙ claims_are ts),
           to_be asks_loader (LoadAll (record { keys = reserved_keys calls; said = a.said })) (reserved_keys calls) ts (subst (λ k. AllByRecursion (λ (t : TicketClaim). fits_first k t.reservation.first ≡ true) ts) is all) refl (λ key among. among),
         );
         rest_is = subst (λ k. IsRest k room (Loads done) (Some rest)) is left;
@@ -157,12 +157,12 @@ module _ {I J : Type 0} {D : I → Type 0} {E : J → Type 0} (behavior : BulkBe
   batch_of deletes [] old new returned said some writes = absurd (some refl)
   batch_of deletes (t ∷ ts) old new returned said some writes = (writes.0, writes.1, writes.2 ∙ wanted_are (t ∷ ts), writes.3)
 
-  asked_of : (deletes : Bool) (calls : List Reservation) (r : WriteRound) → is_delete r.batch ≡ deletes → changes_of r.batch ≡ wanted_changes calls → IsAskedOf (kind_of deletes) calls (WriteAll r)
+  asked_of : (deletes : Bool) (calls : List Reservation) (r : WriteRound) → is_delete r.batch ≡ deletes → changes_of r.batch ≡ wanted_changes calls → IsAskedOf (write_kind deletes) calls (WriteAll r)
   asked_of false calls r kind are = (kind, are)
   asked_of true calls r kind are = (kind, are)
 
-  pub answered_writes : (old new : Session I J D E) (deletes : Bool) (kind : Kind) (room : ℕ) (ts : List TicketClaim) (asks : List Claim) (returned : Result (Unit {0}) ℕ) (done : Vec (WriteResult Claim)) (fault : Option Refusal) → kind ≡ kind_of deletes
-      → asks ≡ asks_of ts → (ts ≡ [] → ⊥) → AllByRecursion (λ (t : TicketClaim). fits_first kind t.reservation.first ≡ true) ts → fault ≡ fault_of returned → WriteCallAsked behavior.writes_all behavior.deletes_all behavior.write_state old deletes asks returned done.items new
+  pub answered_writes : (old new : Session I J D E) (deletes : Bool) (kind : OutsideKind) (room : ℕ) (ts : List TicketClaim) (asks : List Claim) (returned : Result (Unit {0}) ℕ) (done : Vec (WriteResult Claim)) (fault : Option Refusal) → kind ≡ write_kind deletes
+      → asks ≡ asks_of ts → (ts ≡ [] → ⊥) → AllByRecursion (λ (t : TicketClaim). fits_first kind t.reservation.first ≡ true) ts → fault ≡ writer_failure returned → WriteCallAsked behavior.writes_all behavior.deletes_all behavior.write_state old deletes asks returned done.items new
       → Answered behavior old kind room ts (Writes done) fault None new
   answered_writes old new deletes kind room ts asks returned done fault is are some all fault_is a =
       let calls = map reserved_by ts in
@@ -175,10 +175,10 @@ module _ {I J : Type 0} {D : I → Type 0} {E : J → Type 0} (behavior : BulkBe
         fault_is = fault_is;
         calls = (b.3, a.loader);
         answered = λ config. (
-          a.done_are ∙ ap (writes_done key_of a.said) (are ∙ claims_are ts),
+          a.done_are ∙ ap (writes_done asked_key a.said) (are ∙ claims_are ts),
           to_be asks_writer (WriteAll r) (reserved_keys calls) ts (all_write deletes ts (subst (λ k. AllByRecursion (λ (t : TicketClaim). fits_first k t.reservation.first ≡ true) ts) is all))
               (ap (map (λ (c : Bytes × Option Change). c.0)) b.2 ∙ firsts calls) (λ key among. among),
         );
-        rest_is = writes_rest (kind_of deletes) deletes room (Writes done) refl;
+        rest_is = writes_rest (write_kind deletes) deletes room (Writes done) refl;
         types = (ap (λ l. option_map (λ b. b.vtable) l) a.loader, a.writer_type);
       })

@@ -15,19 +15,19 @@ use Rattle.jc_session.specs.declared.session.Session.{Session}
 use Rattle.jc_rounds.specs.Ends.{failed_entries, key_ends}
 use Rattle.jc_rounds.specs.Underway.{AreRooms}
 use Rattle.jc_bulk.specs.declared.carrying.CallEnd.{CallEnd}
-use Rattle.jc_bulk.specs.declared.carrying.Room.{Room}
-use Rattle.jc_bulk.specs.declared.outside.Kind.{Kind}
+use Rattle.jc_bulk.specs.declared.carrying.BulkRoom.{BulkRoom}
+use Rattle.jc_bulk.specs.declared.outside.OutsideKind.{OutsideKind}
 use Rattle.jc_bulk.specs.Bulk.{IsBulkCall}
 use Rattle.jc_bulk.specs.Outside.{BulkBehavior, no_asks}
 use Rattle.jc_bulk.specs.RoundsRun.{KeysAskAs}
 
-pub record IsRoomOf (kind : Kind) (keys stripes : ℕ) (room : Room) : Type 0 where
+pub record IsRoomOf (kind : OutsideKind) (keys stripes : ℕ) (room : BulkRoom) : Type 0 where
   pub rooms : AreRooms keys stripes room.rooms
   pub failed : room.failed.entries ≡ []
   pub space : keys ≤ spare room.failed
   pub outside : room.outside ≡ no_asks kind room.rooms.most
 
-pub record IsRoomOfCall (targets : List (Bytes × Op)) (stripes : ℕ) (room : Room) : Type 0 where
+pub record IsRoomOfCall (targets : List (Bytes × Op)) (stripes : ℕ) (room : BulkRoom) : Type 0 where
   pub distinct : IsDistinct (pointwise ◌==◌) (keys_of targets)
   pub room_is : IsRoomOf room.outside.kind (length targets) stripes room
   pub asks : KeysAskAs room.outside.kind targets

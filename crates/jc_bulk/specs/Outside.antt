@@ -1,28 +1,33 @@
 -- The one call outside that a bulk call makes for all keys that a round has reserved.
---     items_in, kind_in, room_in    the asks of such a call, its kind, and the number of asks for which it still has room
---     OutsideState    the model of such a call
---     kind_of         the kind of a writer's call, by whether it deletes
---     no_asks         an empty call
---     with_ask        the call with one ask more
---     fits            an ask's change is of this kind
---     fits_first      a reservation asks first whoever calls of this kind ask
---     HasOneToAsk     the session has a writer, if calls of this kind ask it
---     AsksAs          this operation asks outside by calls of this kind, if it asks at all; a `Clear` asks nobody
---     MayAskFor       a session may ask for these tickets in a call: it holds no stripe, and has the one to ask; none has asked,
---                     all are of the call's kind, their keys differ, and there is room
---     BulkBehavior    the answers that a loader and a writer may give when they are called for many keys, and the changes of
---                     their states
---     bulk_behavior   the behavior of these relations
---     CallsOnce       the loader or the writer was called once for a round, and the other one wasn't
---     CallsInRounds   the loader or the writer was called once for each of these rounds, in their order, and neither was called otherwise
---     HaveAsked       a session's loader and its writer were called for exactly these rounds, and have the same types as before
---     wanted_changes  each reservation's key, with the change that it asks for
---     IsWrittenOf     a round called the writer, for exactly the changes of these reservations
---     IsAskedOf       a round called the loader or the writer, by this kind, for exactly what these reservations ask for
---     IsRest          what such a call, with this room, leaves for a later round: all memory of a loader's call, and nothing of a
---                     writer's
---     IsSpent         as `IsRest`, once none of the answers is left
---     Answered        the call was made for these tickets, each of which has an answer, and this is left for a later round
+--     items_in, outside_kind, room_in   the asks of such a call, its kind, and the number of asks for which it still has room
+--     OutsideState                      the model of such a call
+--     write_kind                        the kind of a writer's call, by whether it deletes
+--     no_asks                           an empty call
+--     with_ask                          the call with one ask more
+--     fits_kind                         an ask's change is of this kind
+--     fits_first                        a reservation asks first whoever calls of this kind ask
+--     HasOneToAsk                       the session has a writer, if calls of this kind ask it
+--     AsksAs                            this operation asks outside by calls of this kind, if it asks at all; a `Clear` asks
+--                                       nobody
+--     MayAskFor                         a session may ask for these tickets in a call: it holds no stripe, and has the one to
+--                                       ask; none has asked, all are of the call's kind, their keys differ, and there is room
+--     BulkBehavior                      the answers that a loader and a writer may give when they are called for many keys, and
+--                                       the changes of their states
+--     bulk_behavior                     the behavior of these relations
+--     CallsOnce                         the loader or the writer was called once for a round, and the other one wasn't
+--     CallsInRounds                     the loader or the writer was called once for each of these rounds, in their order, and
+--                                       neither was called otherwise
+--     HaveAsked                         a session's loader and its writer were called for exactly these rounds, and have the same
+--                                       types as before
+--     wanted_changes                    each reservation's key, with the change that it asks for
+--     IsWrittenOf                       a round called the writer, for exactly the changes of these reservations
+--     IsAskedOf                         a round called the loader or the writer, by this kind, for exactly what these
+--                                       reservations ask for
+--     IsRest                            what such a call, with this room, leaves for a later round: all memory of a loader's
+--                                       call, and nothing of a writer's
+--     IsSpent                           as `IsRest`, once none of the answers is left
+--     Answered                          the call was made for these tickets, each of which has an answer, and this is left for a
+--                                       later round
 use Rattle.std.specs.Prelude.{◌≡◌, ◌≤◌, ◌⊎◌, ◌-◌, ◌++◌, ◌==◌, ℕ, List, [], ◌∷◌, length, map, Bool, true, false, Option, None, Some, IsSome}
 use Rattle.std.specs.List.{AllByRecursion, IsDistinct}
 use Rattle.std.specs.Cmp.Lexicographic.{pointwise}
@@ -42,27 +47,27 @@ use Rattle.jc_session.specs.Boxed.{boxed}
 use Rattle.jc_engine.specs.Asking.{KeepsTypes}
 use Rattle.jc_cache.specs.Sessions.{HoldsNothing}
 use Rattle.jc_session.specs.declared.session.Session.{Session}
-use Rattle.jc_rounds.specs.declared.answers.Answers.{Answers}
+use Rattle.jc_rounds.specs.declared.answers.RoundAnswers.{RoundAnswers}
 use Rattle.jc_rounds.specs.declared.load_call.SpentLoads.{SpentLoads}
 use Rattle.jc_rounds.specs.Answers.{AreAnswers, done_room, is_change_of}
 use Rattle.jc_rounds.specs.Asking.{reserved_keys}
 use Rattle.jc_rounds.specs.OutsideCalls.{AreSpent, is_delete}
 use Rattle.jc_rounds.specs.Rounds.{LoadAll, ProcessAll, Round, WriteAll, round_fault}
 use Rattle.jc_rounds.specs.Underway.{reserved_by}
-use Rattle.jc_bulk.specs.declared.outside.Kind.{Kind}
-use Rattle.jc_bulk.specs.declared.outside.Kind.TheVariants.{Load, Write, Delete}
+use Rattle.jc_bulk.specs.declared.outside.OutsideKind.{OutsideKind}
+use Rattle.jc_bulk.specs.declared.outside.OutsideKind.TheVariants.{Load, Write, Delete}
 use Rattle.jc_bulk.specs.declared.outside.CallOf.{CallOf}
 use Rattle.jc_bulk.specs.declared.outside.CallOf.TheVariants.{Loads, Writes}
 
 -- 1. Calls.
 
-abbrev pub kind_of : Bool → Kind
-kind_of false = Write
-kind_of true = Delete
+abbrev pub write_kind : Bool → OutsideKind
+write_kind false = Write
+write_kind true = Delete
 
-abbrev pub kind_in : CallOf → Kind
-kind_in (Loads call) = Load
-kind_in (Writes call) = kind_of call.deletes
+abbrev pub outside_kind : CallOf → OutsideKind
+outside_kind (Loads call) = Load
+outside_kind (Writes call) = write_kind call.deletes
 
 abbrev pub items_in : CallOf → List Claim
 items_in (Loads call) = call.items
@@ -73,32 +78,32 @@ room_in (Loads call) = call.room
 room_in (Writes call) = call.room
 
 pub record OutsideState : Type 0 where
-  pub kind : Kind
+  pub kind : OutsideKind
   pub items : List Claim
   pub room : ℕ
 
-abbrev pub no_asks : Kind → ℕ → OutsideState
+abbrev pub no_asks : OutsideKind → ℕ → OutsideState
 no_asks kind room = record { kind = kind; items = []; room = room }
 
 abbrev pub with_ask : OutsideState → Claim → OutsideState
 with_ask calls ask = record calls { items = calls.items ++ ask ∷ []; room = calls.room - 1 }
 
-abbrev pub fits : Kind → Option Change → Type 0
-fits Load change = Unit {0}
-fits Write change = is_change_of false change ≡ true
-fits Delete change = is_change_of true change ≡ true
+abbrev pub fits_kind : OutsideKind → Option Change → Type 0
+fits_kind Load change = Unit {0}
+fits_kind Write change = is_change_of false change ≡ true
+fits_kind Delete change = is_change_of true change ≡ true
 
-abbrev pub fits_first : Kind → First → Bool
+abbrev pub fits_first : OutsideKind → First → Bool
 fits_first Load first = asks_loader first
 fits_first Write first = is_change_of false (change_asked first)
 fits_first Delete first = is_change_of true (change_asked first)
 
-abbrev pub HasOneToAsk : {W : Type 0} → Kind → Option W → Type 0
+abbrev pub HasOneToAsk : {W : Type 0} → OutsideKind → Option W → Type 0
 HasOneToAsk Load writer = Unit {0}
 HasOneToAsk Write writer = IsSome writer
 HasOneToAsk Delete writer = IsSome writer
 
-abbrev pub AsksAs : Kind → Op → Type 0
+abbrev pub AsksAs : OutsideKind → Op → Type 0
 AsksAs Load o = (o ≡ op.Get) ⊎ ((replace : Bool) × (o ≡ op.LoadAll replace)) ⊎ (o ≡ op.Clear)
 AsksAs Write o = (value : Bytes) × (o ≡ op.Put value)
 AsksAs Delete o = o ≡ op.Remove
@@ -149,14 +154,14 @@ IsWrittenOf deletes calls (LoadAll r) = ⊥
 IsWrittenOf deletes calls (WriteAll r) = (is_delete r.batch ≡ deletes) × (changes_of r.batch ≡ wanted_changes calls)
 IsWrittenOf deletes calls (ProcessAll r) = ⊥
 
-abbrev pub IsAskedOf : Kind → List Reservation → Round → Type 0
+abbrev pub IsAskedOf : OutsideKind → List Reservation → Round → Type 0
 IsAskedOf Load calls (LoadAll r) = r.keys ≡ reserved_keys calls
 IsAskedOf Load calls (WriteAll r) = ⊥
 IsAskedOf Load calls (ProcessAll r) = ⊥
 IsAskedOf Write calls round = IsWrittenOf false calls round
 IsAskedOf Delete calls round = IsWrittenOf true calls round
 
-abbrev pub IsRest : Kind → ℕ → Answers → Option SpentLoads → Type 0
+abbrev pub IsRest : OutsideKind → ℕ → RoundAnswers → Option SpentLoads → Type 0
 IsRest Load room answers (Some rest) = AreSpent rest × (rest.batch.room ≡ room) × (room ≤ done_room answers)
 IsRest Load room answers None = ⊥
 IsRest Write room answers (Some rest) = ⊥
@@ -164,7 +169,7 @@ IsRest Write room answers None = Unit {0}
 IsRest Delete room answers (Some rest) = ⊥
 IsRest Delete room answers None = Unit {0}
 
-pub record IsSpent (kind : Kind) (room : ℕ) (answers : Answers) (rest : Option SpentLoads) : Type 0 where
+pub record IsSpent (kind : OutsideKind) (room : ℕ) (answers : RoundAnswers) (rest : Option SpentLoads) : Type 0 where
   pub config : Config
   pub calls : List Reservation
   pub round : Round
@@ -175,7 +180,7 @@ pub record IsSpent (kind : Kind) (room : ℕ) (answers : Answers) (rest : Option
 -- `room` is that of the call
 pub record Answered
     {I J : Type 0} {D : I → Type 0} {E : J → Type 0} (behavior : BulkBehavior ((i : I) × D i) ((j : J) × E j))
-    (old : Session I J D E) (kind : Kind) (room : ℕ) (tickets : List TicketClaim) (answers : Answers) (fault : Option Refusal) (rest : Option SpentLoads) (new : Session I J D E) : Type 0 where
+    (old : Session I J D E) (kind : OutsideKind) (room : ℕ) (tickets : List TicketClaim) (answers : RoundAnswers) (fault : Option Refusal) (rest : Option SpentLoads) (new : Session I J D E) : Type 0 where
   pub round : Round
   pub asked : IsAskedOf kind (map reserved_by tickets) round
   pub fault_is : fault ≡ round_fault round

@@ -12,18 +12,18 @@ ghost use Rattle.jc_bulk.specs.RoundsRun.{KeysAskAs};
 
 use crate::entries::add_failed;
 use crate::fault::BulkFault;
-use crate::outside::{Kind, OutsideCall};
+use crate::outside::{OutsideCall, OutsideKind};
 use crate::rounds::run_rounds;
 use indexmap::IndexMap;
 use jc_cache::{Cache, Session};
 use jc_model::Reply;
-use jc_rounds::{BulkCall, Progress, Rooms, Targets};
+use jc_rounds::{BulkCall, KeyProgress, Rooms, Targets};
 use jc_types::{Key, Refusal, Value};
 use std::alloc::{AllocError, Global};
 use std::sync::Wait;
 
 /// The memory that a call takes before its first phase. It can't be dropped.
-pub(crate) struct Room {
+pub(crate) struct BulkRoom {
     /// The memory for its rounds.
     rooms: Rooms,
     /// The keys that failed: none yet.
@@ -32,23 +32,23 @@ pub(crate) struct Room {
     outside: OutsideCall,
 }
 
-impl Room {
+impl BulkRoom {
     ghost use Rattle.std.specs.Prelude.{IfOk};
     ghost use Rattle.jc_bulk.specs.Carrying.{IsRoomOf};
 
     /// Room for `keys` keys, in a cache of `stripes` stripes. An `Err` says that an allocation failed.
     pub(crate) fn new(
         alloc: Global,
-        kind: Kind,
+        kind: OutsideKind,
         keys: usize,
         stripes: usize,
-    ) -> Result<Room, AllocError>
+    ) -> Result<BulkRoom, AllocError>
         ensures { IfOk result (λ room. IsRoomOf kind keys stripes room) }
     {
         let failed = IndexMap::with_capacity(alloc, keys)?;
         let rooms = Rooms::new(alloc, keys, stripes)?;
         match kind.call(alloc, rooms.most()) {
-            Ok(outside) => Ok(Room {
+            Ok(outside) => Ok(BulkRoom {
                 rooms,
                 failed,
                 outside,
@@ -67,7 +67,7 @@ pub(crate) struct CallEnd {
     /// The first fault or refusal that the call has met, if it met one.
     pub(crate) cause: Option<Refusal>,
     /// The end of each key.
-    pub(crate) progress: Vec<Progress>,
+    pub(crate) progress: Vec<KeyProgress>,
     /// Each key that failed, with its fault or its refusal, in the order of the keys.
     pub(crate) failed: IndexMap<Key, Refusal>,
 }
@@ -79,7 +79,7 @@ pub(crate) fn carry_out<R: Wait>(
     cache: &Cache,
     session: &mut Session,
     targets: &Targets<'_>,
-    room: Room,
+    room: BulkRoom,
 ) -> CallEnd
     requires may { MayCall cache.now session.old }
     requires room { IsRoomOfCall (ops_of targets.now) cache.now.config.stripes room }
@@ -88,7 +88,7 @@ pub(crate) fn carry_out<R: Wait>(
         cache.now session.old (ops_of targets.now) result session.new) }
 {
     let _types: Option<&(Reply, Value)> = None;
-    let Room {
+    let BulkRoom {
         rooms,
         failed,
         outside,
@@ -113,7 +113,7 @@ pub(crate) fn call_all<R: Wait>(
     cache: &Cache,
     session: &mut Session,
     targets: &Targets<'_>,
-    kind: Kind,
+    kind: OutsideKind,
 ) -> Result<(), BulkFault>
     requires may { MayCall cache.now session.old }
     requires keys { IsDistinct (pointwise ◌==◌) (keys_of (ops_of targets.now)) × KeysAskAs kind (ops_of targets.now) }
@@ -122,7 +122,7 @@ pub(crate) fn call_all<R: Wait>(
         cache.now session.old (ops_of targets.now)) session.old result session.new) }
 {
     let _types: Option<&(Reply, Value)> = None;
-    match Room::new(alloc, kind, targets.len(), cache.config().stripes) {
+    match BulkRoom::new(alloc, kind, targets.len(), cache.config().stripes) {
         Err(_failed) => Err(BulkFault::of_whole_call(alloc, Refusal::OutOfMemory)),
         Ok(room) => {
             let outcome = carry_out(alloc, rt, cache, session, targets, room);

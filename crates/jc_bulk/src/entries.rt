@@ -10,13 +10,13 @@ ghost use Rattle.jc_rounds.specs.Targets.{ops_of};
 use indexmap::IndexMap;
 use jc_batch::insert_new;
 use jc_model::Reply;
-use jc_rounds::{Progress, Targets};
+use jc_rounds::{KeyProgress, Targets};
 use jc_types::{Key, Refusal, Value};
 
 /// Adds each key that failed, with its fault or its refusal, in the order of the keys. It takes no memory.
 pub(crate) fn add_failed(
     targets: &Targets<'_>,
-    progress: &[Progress],
+    progress: &[KeyProgress],
     failed: &mut IndexMap<Key, Refusal>,
 )
     requires distinct { IsDistinct (pointwise ◌==◌) (keys_of (ops_of targets.now)) }
@@ -32,7 +32,7 @@ pub(crate) fn add_failed(
 /// Adds each key that has a value, in the order of the keys. It takes no memory.
 pub(crate) fn add_found(
     targets: &Targets<'_>,
-    progress: &[Progress],
+    progress: &[KeyProgress],
     found: &mut IndexMap<Key, Value>,
 )
     requires distinct { IsDistinct (pointwise ◌==◌) (keys_of (ops_of targets.now)) }
@@ -46,13 +46,13 @@ pub(crate) fn add_found(
 }
 
 /// The value in the reply of a key's step, if there is one.
-fn value_at(progress: &Progress) -> Option<Value>
+fn value_at(progress: &KeyProgress) -> Option<Value>
     ensures { result ≡ value_at progress.now }
 {
     match progress {
-        Progress::Ended(Ok(Reply::Value(value))) => *value,
-        Progress::Ended(Ok(Reply::Flag(_) | Reply::Unit | Reply::Fault(_)) | Err(_)) => None,
-        Progress::Waiting | Progress::Reserved | Progress::Joined => None,
+        KeyProgress::Ended(Ok(Reply::Value(value))) => *value,
+        KeyProgress::Ended(Ok(Reply::Flag(_) | Reply::Unit | Reply::Fault(_)) | Err(_)) => None,
+        KeyProgress::Waiting | KeyProgress::Reserved | KeyProgress::Joined => None,
     }
 }
 

@@ -6,12 +6,12 @@ ghost use Rattle.jc_bulk.specs.Bulk.{GetsAll, OrRefused, TellsFound};
 ghost use Rattle.jc_bulk.specs.Carrying.{IsRoomOf};
 ghost use Rattle.jc_bulk.specs.Outside.{bulk_behavior};
 ghost use Rattle.jc_bulk.specs.Targets.{get_ops};
-ghost use Rattle.jc_bulk.specs.declared.outside.Kind.TheVariants.{Load};
+ghost use Rattle.jc_bulk.specs.declared.outside.OutsideKind.TheVariants.{Load};
 
-use crate::carrying::{CallEnd, Room, carry_out};
+use crate::carrying::{BulkRoom, CallEnd, carry_out};
 use crate::entries::add_found;
 use crate::fault::BulkFault;
-use crate::outside::Kind;
+use crate::outside::OutsideKind;
 use indexmap::{IndexMap, IndexSet};
 use jc_cache::{Cache, Session};
 use jc_model::{Op, Reply};
@@ -82,11 +82,11 @@ fn get_room(
     alloc: Global,
     keys: usize,
     stripes: usize,
-) -> Result<(Room, IndexMap<Key, Value>), AllocError>
+) -> Result<(BulkRoom, IndexMap<Key, Value>), AllocError>
     ensures { IfOk result (λ r. IsRoomOf Load keys stripes r.0 × (r.1.entries ≡ []) × (keys ≤ spare r.1)) }
 {
     let found = IndexMap::with_capacity(alloc, keys)?;
-    let room = Room::new(alloc, Kind::Load, keys, stripes)?;
+    let room = BulkRoom::new(alloc, OutsideKind::Load, keys, stripes)?;
     Ok((room, found))
 }
 

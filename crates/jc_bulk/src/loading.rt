@@ -7,7 +7,7 @@ ghost use Rattle.jc_bulk.specs.Targets.{load_ops};
 
 use crate::carrying::call_all;
 use crate::fault::BulkFault;
-use crate::outside::Kind;
+use crate::outside::OutsideKind;
 use indexmap::IndexSet;
 use jc_cache::{Cache, Session};
 use jc_model::Op;
@@ -44,5 +44,5 @@ pub fn load_keys<R: Wait>(
         return Err(BulkFault::of_whole_call(alloc, Refusal::TooManyKeys));
     }
     let targets = Targets::Each(keys.as_slice(), Op::LoadAll { replace });
-    call_all(alloc, rt, cache, session, &targets, Kind::Load)
+    call_all(alloc, rt, cache, session, &targets, OutsideKind::Load)
 }

@@ -3,14 +3,14 @@ ghost use Rattle.std.specs.Prelude.{◌≡◌, ◌≤◌, ◌+◌, ◌-◌, ◌<
 ghost use Rattle.jc_model.specs.Batches.{is_among};
 ghost use Rattle.jc_cache.specs.Sessions.{HasAsked};
 ghost use Rattle.jc_rounds.specs.OutsideCalls.{asked_keys};
-ghost use Rattle.jc_rounds.specs.Rounds.{fault_of};
+ghost use Rattle.jc_rounds.specs.Rounds.{writer_failure};
 ghost use Rattle.jc_rounds.specs.Ran.{KeepsTickets};
-ghost use Rattle.jc_bulk.specs.Outside.{Answered, IsSpent, MayAskFor, bulk_behavior, fits, no_asks, with_ask};
-ghost use Rattle.jc_bulk.specs.declared.outside.Kind.{Kind as KindState};
-ghost use Rattle.jc_bulk.specs.declared.outside.Kind.TheVariants.{Load as LoadKind};
+ghost use Rattle.jc_bulk.specs.Outside.{Answered, IsSpent, MayAskFor, bulk_behavior, fits_kind, no_asks, with_ask};
+ghost use Rattle.jc_bulk.specs.declared.outside.OutsideKind.{OutsideKind as KindState};
+ghost use Rattle.jc_bulk.specs.declared.outside.OutsideKind.TheVariants.{Load as LoadKind};
 
 use jc_cache::Session;
-use jc_rounds::{Answers, LoadCall, SpentLoads, WriteCall};
+use jc_rounds::{LoadCall, RoundAnswers, SpentLoads, WriteCall};
 use jc_stripe::{Ask, Ticket};
 use jc_types::Refusal;
 use std::alloc::{AllocError, Global};
@@ -19,7 +19,7 @@ use std::sync::Wait;
 
 /// The kind of a bulk call's calls outside.
 #[derive(Clone, Copy)]
-pub(crate) enum Kind {
+pub(crate) enum OutsideKind {
     /// The loader.
     Load,
     /// The writer, for values.
@@ -42,14 +42,14 @@ enum CallOf {
 }
 
 impl Model for OutsideCall {
-    ghost use Rattle.jc_bulk.specs.Outside.{OutsideState, items_in, kind_in, room_in};
+    ghost use Rattle.jc_bulk.specs.Outside.{OutsideState, items_in, outside_kind, room_in};
 
     ghost Value = { OutsideState };
 
-    ghost view = { λ c. record { kind = kind_in c.of; items = items_in c.of; room = room_in c.of } };
+    ghost view = { λ c. record { kind = outside_kind c.of; items = items_in c.of; room = room_in c.of } };
 }
 
-impl Kind {
+impl OutsideKind {
     ghost use Rattle.std.specs.Prelude.{IfOk};
     ghost use Rattle.jc_bulk.specs.Outside.{no_asks};
 
@@ -58,9 +58,9 @@ impl Kind {
         ensures { IfOk result (λ call. call ≡ no_asks self n) }
     {
         let of = match self {
-            Kind::Load => CallOf::Loads(LoadCall::new(alloc, n)?),
-            Kind::Write => CallOf::Writes(WriteCall::writes(alloc, n)?),
-            Kind::Delete => CallOf::Writes(WriteCall::deletes(alloc, n)?),
+            OutsideKind::Load => CallOf::Loads(LoadCall::new(alloc, n)?),
+            OutsideKind::Write => CallOf::Writes(WriteCall::writes(alloc, n)?),
+            OutsideKind::Delete => CallOf::Writes(WriteCall::deletes(alloc, n)?),
         };
         Ok(OutsideCall { of })
     }
@@ -68,16 +68,16 @@ impl Kind {
 
 impl OutsideCall {
     /// The kind of this call.
-    pub(crate) fn kind(&self) -> Kind
+    pub(crate) fn kind(&self) -> OutsideKind
         ensures { result ≡ self.now.kind }
     {
         match &self.of {
-            CallOf::Loads(_) => Kind::Load,
+            CallOf::Loads(_) => OutsideKind::Load,
             CallOf::Writes(call) => {
                 if call.is_delete() {
-                    Kind::Delete
+                    OutsideKind::Delete
                 } else {
-                    Kind::Write
+                    OutsideKind::Write
                 }
             }
         }
@@ -88,7 +88,7 @@ impl OutsideCall {
     /// Conditions: there is room; the ask is of this kind; no other ask has its key.
     fn push(&mut self, ask: Ask)
         requires room { 0 < self.old.room }
-        requires kind { fits self.old.kind ask.change }
+        requires kind { fits_kind self.old.kind ask.change }
         requires new { is_among (asked_keys self.old.items) ask.reservation.key ≡ false }
         ensures { self.new ≡ with_ask self.old ask }
     {
@@ -110,7 +110,7 @@ impl OutsideCall {
         rt: &R,
         session: &mut Session,
         tickets: &mut Vec<Ticket>,
-    ) -> (Answers, Option<Refusal>, Option<SpentLoads>)
+    ) -> (RoundAnswers, Option<Refusal>, Option<SpentLoads>)
         requires may { MayAskFor session.old self tickets.old.items }
         ensures tickets { KeepsTickets tickets.old tickets.new }
         ensures asked { HasAsked session.old session.new
@@ -125,18 +125,18 @@ impl OutsideCall {
         match of {
             CallOf::Loads(call) => {
                 let (loaded, spent) = call.ask(rt, session);
-                (Answers::Loads(loaded), None, Some(spent))
+                (RoundAnswers::Loads(loaded), None, Some(spent))
             }
             CallOf::Writes(call) => {
                 let (done, returned) = call.ask(rt, session);
-                (Answers::Writes(done), writer_fault(returned), None)
+                (RoundAnswers::Writes(done), writer_fault(returned), None)
             }
         }
     }
 
     /// Makes an empty call for a later round of what a round has left, once all its answers were taken. It takes no memory. A
     /// call of the writer leaves none.
-    pub(crate) fn again(answers: Answers, rest: Option<SpentLoads>) -> Option<OutsideCall>
+    pub(crate) fn again(answers: RoundAnswers, rest: Option<SpentLoads>) -> Option<OutsideCall>
         requires { (kind : KindState) × (room : ℕ) × IsSpent kind room answers rest }
         ensures left { (kind : KindState) (room : ℕ) → IsSpent kind room answers rest
             → IfSome result (λ left. left ≡ no_asks kind room) }
@@ -168,7 +168,7 @@ impl OutsideCall {
 
 /// The fault that the writer has returned, if it failed.
 fn writer_fault(returned: Result<(), u32>) -> Option<Refusal>
-    ensures { result ≡ fault_of returned }
+    ensures { result ≡ writer_failure returned }
 {
     match returned {
         Ok(()) => None,

@@ -1,11 +1,11 @@
 //! The rounds of a bulk call, with their calls outside and the memory for them.
 ghost use Rattle.std.specs.Prelude.{◌≡◌, ◌≤◌, [], IfSome, IfErr, IfOk, None};
-ghost use Rattle.jc_rounds.specs.Underway.{IsOver, Past};
+ghost use Rattle.jc_rounds.specs.Underway.{CallPast, IsOver};
 ghost use Rattle.jc_rounds.specs.Running.{HasRun};
 ghost use Rattle.jc_bulk.specs.Outside.{bulk_behavior};
-ghost use Rattle.jc_bulk.specs.RoundsRun.{IsReady, RunsOn};
+ghost use Rattle.jc_bulk.specs.RoundsRun.{IsOutsideReady, RunsOn};
 
-use crate::outside::{Kind, OutsideCall};
+use crate::outside::{OutsideCall, OutsideKind};
 use jc_cache::{Cache, Session};
 use jc_rounds::BulkCall;
 use std::alloc::{AllocError, Global};
@@ -24,10 +24,10 @@ pub(crate) fn run_rounds<R: Wait>(
     call: &mut BulkCall<'_>,
     outside: OutsideCall,
 )
-    requires ready { IsReady call.old outside }
-    requires run { (past : Past) × HasRun cache.now past session.old call.old }
+    requires ready { IsOutsideReady call.old outside }
+    requires run { (past : CallPast) × HasRun cache.now past session.old call.old }
     ensures over { IsOver call.new }
-    ensures runs { (past : Past) → HasRun cache.now past session.old call.old
+    ensures runs { (past : CallPast) → HasRun cache.now past session.old call.old
         → RunsOn (bulk_behavior loads_all load_state writes_all deletes_all write_state)
         cache.now past session.old call.old session.new call.new }
 {
@@ -60,7 +60,7 @@ pub(crate) fn run_rounds<R: Wait>(
 /// `Err` says that an allocation failed.
 fn ready(
     alloc: Global,
-    kind: Kind,
+    kind: OutsideKind,
     most: usize,
     left: Option<OutsideCall>,
 ) -> Result<OutsideCall, AllocError>

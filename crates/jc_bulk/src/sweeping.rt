@@ -10,7 +10,7 @@ ghost use Rattle.jc_rounds.specs.Targets.{ops_with};
 
 use crate::carrying::call_all;
 use crate::fault::BulkFault;
-use crate::outside::Kind;
+use crate::outside::OutsideKind;
 use jc_cache::{Cache, Session};
 use jc_model::Op;
 use jc_rounds::Targets;
@@ -42,7 +42,7 @@ pub fn remove_every<R: Wait>(
         DoesAll (bulk_behavior loads_all load_state writes_all deletes_all write_state) cache.now looked (remove_ops keys))
         session.old result session.new) }
 {
-    sweep(alloc, rt, cache, session, Op::Remove, Kind::Delete)
+    sweep(alloc, rt, cache, session, Op::Remove, OutsideKind::Delete)
 }
 
 /// Removes every entry of the cache, as the session's next call (JSR 107, `javax.cache.Cache.clear`). Neither the loader nor the
@@ -66,7 +66,7 @@ pub fn clear<R: Wait>(
         DoesAll (bulk_behavior loads_all load_state writes_all deletes_all write_state) cache.now looked (clear_ops keys))
         session.old result session.new) }
 {
-    sweep(alloc, rt, cache, session, Op::Clear, Kind::Load)
+    sweep(alloc, rt, cache, session, Op::Clear, OutsideKind::Load)
 }
 
 /// Carries out an operation at every key of the cache. If the operation asks outside at all, its calls are of this kind.
@@ -76,7 +76,7 @@ fn sweep<R: Wait>(
     cache: &Cache,
     session: &mut Session,
     op: Op,
-    kind: Kind,
+    kind: OutsideKind,
 ) -> Result<(), BulkFault>
     requires may { MayCall cache.now session.old }
     requires asks { AsksAs kind op }

@@ -8,7 +8,7 @@ ghost use Rattle.jc_bulk.specs.Targets.{remove_ops};
 
 use crate::carrying::call_all;
 use crate::fault::BulkFault;
-use crate::outside::Kind;
+use crate::outside::OutsideKind;
 use indexmap::{IndexMap, IndexSet};
 use jc_cache::{Cache, Session};
 use jc_model::Op;
@@ -60,7 +60,7 @@ pub fn put_all<R: Wait>(
         return Err(BulkFault::of_whole_call(alloc, Refusal::TooManyKeys));
     }
     let targets = Targets::Puts(entries);
-    call_all(alloc, rt, cache, session, &targets, Kind::Write)
+    call_all(alloc, rt, cache, session, &targets, OutsideKind::Write)
 }
 
 /// Removes many keys, as the session's next call (JSR 107, `javax.cache.Cache.removeAll`). Each key is removed on its own, and the
@@ -85,5 +85,5 @@ pub fn remove_all<R: Wait>(
         return Err(BulkFault::of_whole_call(alloc, Refusal::TooManyKeys));
     }
     let targets = Targets::Each(keys.as_slice(), Op::Remove);
-    call_all(alloc, rt, cache, session, &targets, Kind::Delete)
+    call_all(alloc, rt, cache, session, &targets, OutsideKind::Delete)
 }

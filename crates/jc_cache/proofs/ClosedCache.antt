@@ -21,10 +21,10 @@ use Rattle.jc_stripe.specs.Laws.{ReachedIsLegal}
 use Rattle.jc_stripe.specs.Generations.{IsChain, IsOfSameStripe}
 use Rattle.jc_lock.proofs.CallerLemmas.{prefix-refl, same_itself}
 use Rattle.jc_session.specs.declared.session.Session.{Session}
-use Rattle.jc_cache.specs.Caches.{Log, OwnerState, log_of, noted_by, fronts_of, logs_of}
+use Rattle.jc_cache.specs.Caches.{Log, CacheOwnerState, log_of, noted_by, fronts_of, logs_of}
 use Rattle.jc_cache.specs.CacheInside.{IsOwnSeat, IsWhole}
-use Rattle.jc_cache.specs.Closing.{AreClosed, AreIdle, HasFront, HasMissed, IsInUse, HasOnlyLooked, HasTakenOver, IsTakenAs, all_lent, lent_at, IsClosed, IsClosedAt, IsCloseRefusal, IsEndRefusal, IsHandedBack}
-use Rattle.jc_cache.specs.ClosingInside.{KeepsSeat, KeepSeats, Looks, Whatever, IsFreeSeat, IsRowRefusal, HasTaken, HaveTaken}
+use Rattle.jc_cache.specs.Closing.{AreClosed, AreIdle, HasFront, HasFoundHeld, IsInUse, HasOnlyLooked, HasTakenOver, IsTakenAs, all_lent, lent_at, IsClosed, IsClosedAt, IsCloseRefusal, IsEndRefusal, IsHandedBack}
+use Rattle.jc_cache.specs.ClosingInside.{KeepsSeat, KeepSeats, LeavesUnchanged, Whatever, IsFreeSeat, IsRowRefusal, HasTaken, HaveTaken}
 use Rattle.jc_cache.proofs.Rows.{Seated, length_locks, seat_there}
 use Rattle.jc_cache.proofs.Noted.{log_there, noted_there, handed_back}
 use Rattle.jc_cache.proofs.ClosingSeats.{keep_locks, keep_at, free_at, lent_there, taken_at}
@@ -75,7 +75,7 @@ closed_at config i given x y state legal own keeps taken =
       none_later = λ session le. taken.later given session (keeps.next_session ∙ own.gives) le;
     }
 
-pub ended : (lends : State → State → Type 0) (owner : OwnerState) (own seats : List Seated) (stripes : List State) → ReachedIsLegal
+pub ended : (lends : State → State → Type 0) (owner : CacheOwnerState) (own seats : List Seated) (stripes : List State) → ReachedIsLegal
     → IsWhole owner.cache.config owner.given owner.cache.locks own → owner.noted ≡ noted_by own → KeepSeats lends own seats → HaveTaken seats stripes → length stripes ≡ length seats → AreClosed owner stripes
 ended lends owner own seats stripes legal whole noted keeps taken count = record {
   count = count ∙ length_locks seats owner.cache.locks (keep_locks _ own seats keeps ∙ whole.own) ∙ whole.count;
@@ -113,7 +113,7 @@ taken_over {I} {J} {D} {E} sessions logs mid new idle joined handed i before sea
       idle = looked.2;
     }
 
-pub closed : {I J : Type 0} {D : I → Type 0} {E : J → Type 0} (lends : State → State → Type 0) (owner : OwnerState) (own seats : List Seated) (stripes : List State) (sessions : List (Session I J D E)) → ReachedIsLegal
+pub closed : {I J : Type 0} {D : I → Type 0} {E : J → Type 0} (lends : State → State → Type 0) (owner : CacheOwnerState) (own seats : List Seated) (stripes : List State) (sessions : List (Session I J D E)) → ReachedIsLegal
     → IsWhole owner.cache.config owner.given owner.cache.locks own → owner.noted ≡ noted_by own → KeepSeats lends own seats → HaveTaken seats stripes → length stripes ≡ length seats → length sessions ≡ owner.given
     → All (λ (s : Session I J D E). HasFront stripes s.seats.items) sessions → IsClosed owner sessions stripes
 closed {I} {J} {D} {E} lends owner own seats stripes sessions legal whole noted keeps taken count all fronts = record {
@@ -135,11 +135,11 @@ logs_all : (logs : List Log) → AllZip HasOnlyLooked logs logs
 logs_all [] = tt
 logs_all (log ∷ logs) = (record { row = []; lendings = sym (append-nil log.lendings); looked = tt; misses = le_refl log.misses }, logs_all logs)
 
-pub as_it_was : (owner : OwnerState) → IsHandedBack owner owner
+pub as_it_was : (owner : CacheOwnerState) → IsHandedBack owner owner
 as_it_was owner = record { cache = refl; given = refl; noted = same_all owner.noted; fronts = prefix_all owner.fronts; logs = logs_all owner.logs }
 
-pub back : (owner left : OwnerState) (old new : List Seated) → left.cache ≡ owner.cache → left.given ≡ owner.given → owner.noted ≡ noted_by old → owner.fronts ≡ fronts_of old
-    → left.noted ≡ noted_by new → left.fronts ≡ fronts_of new → owner.logs ≡ logs_of old → left.logs ≡ logs_of new → KeepSeats Looks old new → IsHandedBack owner left
+pub back : (owner left : CacheOwnerState) (old new : List Seated) → left.cache ≡ owner.cache → left.given ≡ owner.given → owner.noted ≡ noted_by old → owner.fronts ≡ fronts_of old
+    → left.noted ≡ noted_by new → left.fronts ≡ fronts_of new → owner.logs ≡ logs_of old → left.logs ≡ logs_of new → KeepSeats LeavesUnchanged old new → IsHandedBack owner left
 back owner left old new cache given noted fronts noted' fronts' logs logs' keeps =
     let both = handed_back old new keeps in
     record {
@@ -150,17 +150,17 @@ back owner left old new cache given noted fronts noted' fronts' logs logs' keeps
       logs = subst₂ (AllZip HasOnlyLooked) (sym logs) (sym logs') both.2;
     }
 
-pub why_ended : (owner left : OwnerState) (refusal : Refusal) (old own : List Seated) → owner.logs ≡ logs_of old → left.logs ≡ logs_of own
+pub why_ended : (owner left : CacheOwnerState) (refusal : Refusal) (old own : List Seated) → owner.logs ≡ logs_of old → left.logs ≡ logs_of own
     → IsRowRefusal refusal old own ⊎ ((refusal ≡ OutOfMemory) × AreIdle (logs_of old) (logs_of own)) → IsEndRefusal refusal owner left
 why_ended owner left refusal old own before after by =
     ⊎_elim
     (λ row. ⊎_elim
     (λ out. inl (out.0, subst₂ IsInUse (sym before) (sym after) out.1))
-    (λ busy. inr (inr (busy.0, subst₂ HasMissed (sym before) (sym after) busy.1)))
+    (λ busy. inr (inr (busy.0, subst₂ HasFoundHeld (sym before) (sym after) busy.1)))
     row)
     (λ memory. inr (inl (memory.0, subst₂ AreIdle (sym before) (sym after) memory.1)))
     by
 
-pub why : (owner left : OwnerState) (handed_in : ℕ) (refusal : Refusal) (old own : List Seated) → handed_in ≡ owner.given → owner.logs ≡ logs_of old → left.logs ≡ logs_of own
+pub why : (owner left : CacheOwnerState) (handed_in : ℕ) (refusal : Refusal) (old own : List Seated) → handed_in ≡ owner.given → owner.logs ≡ logs_of old → left.logs ≡ logs_of own
     → IsRowRefusal refusal old own ⊎ ((refusal ≡ OutOfMemory) × AreIdle (logs_of old) (logs_of own)) → IsCloseRefusal owner handed_in refusal left
 why owner left handed_in refusal old own all before after by = inr (all, why_ended owner left refusal old own before after by)

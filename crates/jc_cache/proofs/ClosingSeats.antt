@@ -28,7 +28,7 @@ use Rattle.jc_lock.specs.declared.view.View.{View}
 use Rattle.jc_lock.proofs.CallerLemmas.{prefix-refl, prefix-trans, same_itself, same_at, same_on}
 use Rattle.jc_engine.specs.Rows.{AllLend}
 use Rattle.jc_cache.specs.Closing.{lent_at}
-use Rattle.jc_cache.specs.ClosingInside.{KeepsSeat, KeepSeats, Looks, Whatever, IsFreeSeat, HasTaken, HaveTaken, AreAtLocks}
+use Rattle.jc_cache.specs.ClosingInside.{KeepsSeat, KeepSeats, LeavesUnchanged, Whatever, IsFreeSeat, HasTaken, HaveTaken, AreAtLocks}
 use Rattle.jc_cache.proofs.Rows.{Seated, locks_of, length_locks, seat_there, lock_there}
 
 -- 1. The same seats.
@@ -59,7 +59,7 @@ keeps_on {lends} x y z p q = record {
 }
 
 -- what is looked at is lent somehow
-pub looked_somehow : (xs ys : List Seated) → KeepSeats Looks xs ys → KeepSeats Whatever xs ys
+pub looked_somehow : (xs ys : List Seated) → KeepSeats LeavesUnchanged xs ys → KeepSeats Whatever xs ys
 looked_somehow [] [] p = tt
 looked_somehow [] (y ∷ ys) p = absurd p
 looked_somehow (x ∷ xs) [] p = absurd p
@@ -198,7 +198,7 @@ taken_fits (a ∷ seats) (s ∷ states) h = let ih = taken_fits seats states h.1
 pub none_phase : (view : View) (closed stripe : State) → HasTaken view closed → stripe ≡ closed → IsTurnBy view.session view.noted stripe
 none_phase view closed stripe h is = inl (subst (λ (o : Option ℕ). IsPhaseBy o view.noted stripe) (sym h.of_none) (is ∙ sym h.noted))
 
-pub given_back : (x y : Seated) (closed stripe : State) → HasTaken x.1 closed → stripe ≡ closed → y.0 ≡ x.0 → y.1 ≡ after_give x.1 stripe → KeepsSeat Looks x y × IsFreeSeat y.1 × (y.1.noted ≡ x.1.noted)
+pub given_back : (x y : Seated) (closed stripe : State) → HasTaken x.1 closed → stripe ≡ closed → y.0 ≡ x.0 → y.1 ≡ after_give x.1 stripe → KeepsSeat LeavesUnchanged x y × IsFreeSeat y.1 × (y.1.noted ≡ x.1.noted)
 given_back x y closed stripe h is lock after = (
   record {
     lock = lock;

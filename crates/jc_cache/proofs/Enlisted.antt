@@ -6,7 +6,7 @@ use Rattle.std.proofs.lemmas.List.Elements.{All-push}
 use Rattle.std.specs.List.{All}
 use Rattle.jc_outside.specs.declared.hands.Outside.{Outside}
 use Rattle.jc_session.specs.declared.session.Session.{Session}
-use Rattle.jc_cache.specs.Caches.{OwnerState}
+use Rattle.jc_cache.specs.Caches.{CacheOwnerState}
 use Rattle.jc_cache.specs.Enlisting.{AreGivenOut, HaveNumbers}
 use Rattle.jc_cache.specs.Sessions.{BeginsAt, IsGivenOut, MayCall}
 
@@ -15,13 +15,13 @@ numbered_next : {I J : Type 0} {D : I → Type 0} {E : J → Type 0} (number las
 numbered_next number last [] session have is caller = (let e : last ≡ number = omega arith in caller ∙ ap (λ (n : ℕ). record { session = n; call = 0 }) e, tt)
 numbered_next number last (s ∷ sessions) session have is caller = (have.0, numbered_next (number + 1) last sessions session have.1 (omega arith) caller)
 
-pub given_next : {I J : Type 0} {D : I → Type 0} {E : J → Type 0} (from mid left : OwnerState) (outside : List (Outside I J D E)) (sessions : List (Session I J D E)) (one : Outside I J D E) (session : Session I J D E)
+pub given_next : {I J : Type 0} {D : I → Type 0} {E : J → Type 0} (from mid left : CacheOwnerState) (outside : List (Outside I J D E)) (sessions : List (Session I J D E)) (one : Outside I J D E) (session : Session I J D E)
     → AreGivenOut from mid outside sessions → IsGivenOut mid left one session → AreGivenOut from left (outside ++ one ∷ []) (sessions ++ session ∷ [])
 given_next {I} {J} {D} {E} from mid left outside sessions one session are is = record {
   owner =
       let long = length-append sessions (session ∷ []) in
       let e : from.given + length sessions + 1 ≡ from.given + length (sessions ++ session ∷ []) = omega arith in
-      is.owner ∙ ap (λ (o : OwnerState). record o { given = o.given + 1 }) are.owner ∙ ap (λ (n : ℕ). record from { given = n }) e;
+      is.owner ∙ ap (λ (o : CacheOwnerState). record o { given = o.given + 1 }) are.owner ∙ ap (λ (n : ℕ). record from { given = n }) e;
   boxes =
       map-append (λ (s : Session I J D E). s.agent.hands.outside) sessions (session ∷ [])
       ∙ ap (λ (l : List (Outside I J D E)). l ++ session.agent.hands.outside ∷ []) are.boxes
@@ -29,11 +29,11 @@ given_next {I} {J} {D} {E} from mid left outside sessions one session are is = r
   fresh = All-push (λ (s : Session I J D E). (s.agent.counts.own ≡ 0) × BeginsAt from s) sessions session are.fresh (
     is.none,
     record {
-      noted = is.begins.noted ∙ ap (λ (o : OwnerState). o.noted) are.owner;
-      fronts = is.begins.fronts ∙ ap (λ (o : OwnerState). o.fronts) are.owner;
+      noted = is.begins.noted ∙ ap (λ (o : CacheOwnerState). o.noted) are.owner;
+      fronts = is.begins.fronts ∙ ap (λ (o : CacheOwnerState). o.fronts) are.owner;
       none_lent = is.begins.none_lent;
     },
   );
-  numbers = numbered_next from.given mid.given sessions session are.numbers (ap (λ (o : OwnerState). o.given) are.owner) is.caller;
-  may = All-push (λ (s : Session I J D E). MayCall left.cache s) sessions session (subst (λ cache. All (λ (s : Session I J D E). MayCall cache s) sessions) (sym (ap (λ (o : OwnerState). o.cache) is.owner)) are.may) is.may;
+  numbers = numbered_next from.given mid.given sessions session are.numbers (ap (λ (o : CacheOwnerState). o.given) are.owner) is.caller;
+  may = All-push (λ (s : Session I J D E). MayCall left.cache s) sessions session (subst (λ cache. All (λ (s : Session I J D E). MayCall cache s) sessions) (sym (ap (λ (o : CacheOwnerState). o.cache) is.owner)) are.may) is.may;
 }

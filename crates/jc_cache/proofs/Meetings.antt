@@ -28,7 +28,7 @@ use Rattle.jc_cache.specs.Caches.{CacheState}
 use Rattle.jc_cache.specs.Fronts.{HasSeen}
 use Rattle.jc_cache.specs.Turns.{HasLent}
 use Rattle.jc_cache.specs.Meeting.{TellsAt, TellEach, IsSessionSeat, AreSessionSeats, KeepRow}
-use Rattle.jc_cache.specs.Sessions.{IsSeatAt, MayCall, capped}
+use Rattle.jc_cache.specs.Sessions.{IsSeatAt, MayCall, capped_steps}
 use Rattle.jc_session.specs.declared.session.Session.{Session}
 use Rattle.jc_cache.proofs.Rows.{Seated, locks_of, length_locks, seat_there, lock_there}
 use Rattle.jc_cache.proofs.Seats.{set_locks, set_total, seat_stays}
@@ -155,7 +155,7 @@ module _ {I J : Type 0} {D : I → Type 0} {E : J → Type 0} where
       held = ap (λ (a : Agent I J D E). a.hands.held) agent ∙ may.own.held;
       loads = λ on. subst (λ (a : Agent I J D E). IsSome a.hands.outside.loader) (sym agent) (may.own.loads on);
       writes = λ on. subst (λ (a : Agent I J D E). IsSome a.hands.outside.writer) (sym agent) (may.own.writes on);
-      own = ap (λ (a : Agent I J D E). a.counts.own) agent ∙ may.own.own ∙ ap capped (sym row.total);
+      own = ap (λ (a : Agent I J D E). a.counts.own) agent ∙ may.own.own ∙ ap capped_steps (sym row.total);
     };
     reservations = ap (λ (a : Agent I J D E). a.counts.reservations) agent ∙ may.reservations;
     joins = ap (λ (a : Agent I J D E). a.counts.joins) agent ∙ may.joins;

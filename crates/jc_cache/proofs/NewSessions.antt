@@ -18,9 +18,9 @@ use Rattle.jc_lock.specs.Views.{after_split, session_view, session_number}
 use Rattle.jc_lock.specs.declared.view.View.{View}
 use Rattle.jc_session.specs.Counting.{one_more}
 use Rattle.jc_session.specs.declared.counts.Counts.{Counts}
-use Rattle.jc_cache.specs.Caches.{CacheState, OwnerState, noted_by, fronts_of, logs_of, session_refusal}
+use Rattle.jc_cache.specs.Caches.{CacheState, CacheOwnerState, noted_by, fronts_of, logs_of, session_refusal}
 use Rattle.jc_cache.specs.CacheInside.{IsOwnSeat, IsWhole}
-use Rattle.jc_cache.specs.Sessions.{IsSeatAt, BeginsAt, MayCall, own_total, capped}
+use Rattle.jc_cache.specs.Sessions.{IsSeatAt, BeginsAt, MayCall, own_total, capped_steps}
 use Rattle.jc_session.specs.declared.session.Session.{Session}
 use Rattle.jc_cache.proofs.Rows.{Seated, locks_of, map_get}
 use Rattle.jc_cache.proofs.Noted.{noted_same, fronts_same, logs_same}
@@ -58,14 +58,14 @@ whole_after config given locks own new room whole is = subst (IsWhole config (gi
       subst (λ (s : Seated). IsOwnSeat config i (given + 1) s.1) (sym t.2) (own_after config i given t.0.1 (whole.each i t.0 t.1));
 }
 
-pub given_one : (owner : OwnerState) (cache : CacheState) (given : ℕ) (own new : List Seated) → record { cache = cache; given = given; noted = noted_by own; fronts = fronts_of own; logs = logs_of own } ≡ owner
+pub given_one : (owner : CacheOwnerState) (cache : CacheState) (given : ℕ) (own new : List Seated) → record { cache = cache; given = given; noted = noted_by own; fronts = fronts_of own; logs = logs_of own } ≡ owner
     → new ≡ map (λ (seat : Seated). (seat.0, after_split seat.1)) own
     → record { cache = cache; given = given + 1; noted = noted_by new; fronts = fronts_of new; logs = logs_of new } ≡ record owner { given = owner.given + 1 }
 given_one owner cache given own new view is =
     let noted : noted_by new ≡ noted_by own = ap noted_by is ∙ noted_same after_split (λ v. refl) own in
     let fronts : fronts_of new ≡ fronts_of own = ap fronts_of is ∙ fronts_same after_split (λ v. refl) own in
     let logs : logs_of new ≡ logs_of own = ap logs_of is ∙ logs_same after_split (λ v. refl) own in
-    (λ j. record { cache = cache; given = given + 1; noted = noted j; fronts = fronts j; logs = logs j }) ∙ ap (λ (o : OwnerState). record o { given = o.given + 1 }) view
+    (λ j. record { cache = cache; given = given + 1; noted = noted j; fronts = fronts j; logs = logs j }) ∙ ap (λ (o : CacheOwnerState). record o { given = o.given + 1 }) view
 
 -- 2. Who is refused.
 
@@ -81,7 +81,7 @@ has_it true true e is = refl
 has_it true false e is = cc
 has_it false has e is = cc
 
-pub may_give : (owner : OwnerState) (loader writer : Bool) → session_refusal owner loader writer ≡ None
+pub may_give : (owner : CacheOwnerState) (loader writer : Bool) → session_refusal owner loader writer ≡ None
     → (owner.given < SESSIONS_MAX) × (owner.cache.config.read_through ≡ true → loader ≡ true) × (owner.cache.config.write_through ≡ true → writer ≡ true)
 may_give owner loader writer none =
     let parts = open_if (nat_le SESSIONS_MAX owner.given) (owner.cache.config.read_through && not loader) (owner.cache.config.write_through && not writer) none in
@@ -105,7 +105,7 @@ seat_given config stripe given view own = record {
 }
 
 module _ {I J : Type 0} {D : I → Type 0} {E : J → Type 0} where
-  pub begins_at : (owner : OwnerState) (own : List Seated) (session : Session I J D E) → owner.noted ≡ noted_by own → owner.fronts ≡ fronts_of own
+  pub begins_at : (owner : CacheOwnerState) (own : List Seated) (session : Session I J D E) → owner.noted ≡ noted_by own → owner.fronts ≡ fronts_of own
       → session.seats.items ≡ map (λ (seat : Seated). (seat.0, session_view seat.1)) own → BeginsAt owner session
   begins_at owner own session noted fronts are = record {
     noted = ap noted_by are ∙ noted_same session_view (λ v. refl) own ∙ sym noted;
@@ -129,7 +129,7 @@ module _ {I J : Type 0} {D : I → Type 0} {E : J → Type 0} where
           held = held;
           loads = loads;
           writes = writes;
-          own = ap (λ (c : Counts). c.own) counts ∙ ap capped (sym (ap own_total are ∙ no_own own));
+          own = ap (λ (c : Counts). c.own) counts ∙ ap capped_steps (sym (ap own_total are ∙ no_own own));
         };
         reservations = ap (λ (c : Counts). c.reservations) counts;
         joins = ap (λ (c : Counts). c.joins) counts;

@@ -30,8 +30,8 @@ use Rattle.jc_lock.specs.Views.{first_view}
 use Rattle.jc_lock.specs.declared.view.View.{View}
 use Rattle.jc_cache.specs.Caches.{Log, log_of, noted_by, fronts_of, logs_of, stripes_opening}
 use Rattle.jc_cache.specs.CacheInside.{IsOwnSeat}
-use Rattle.jc_cache.specs.Closing.{AreIdle, HasLastFound, HasLookedOnce, HasMissed, HasOnlyLooked, IsInUse}
-use Rattle.jc_cache.specs.ClosingInside.{KeepsSeat, KeepSeats, Looks, IsTakeRefusal, IsRowRefusal}
+use Rattle.jc_cache.specs.Closing.{AreIdle, HasFoundHeld, HasLastFound, HasLookedOnce, HasOnlyLooked, IsInUse}
+use Rattle.jc_cache.specs.ClosingInside.{KeepsSeat, KeepSeats, LeavesUnchanged, IsTakeRefusal, IsRowRefusal}
 use Rattle.jc_cache.proofs.ClosingSeats.{keep_at}
 use Rattle.jc_cache.proofs.Meetings.{got_other}
 use Rattle.jc_cache.proofs.Rows.{Seated, map_get, push_get}
@@ -65,7 +65,7 @@ pub logs_same : (f : View → View) → ((v : View) → log_of (f v) ≡ log_of 
 logs_same f same [] = refl
 logs_same f same (seat ∷ seats) = let head = same seat.1 in let tail = logs_same f same seats in λ j. head j ∷ tail j
 
-pub handed_back : (old new : List Seated) → KeepSeats Looks old new → AllZip IsOfSameStripe (noted_by old) (noted_by new) × AllZip IsPrefix (fronts_of old) (fronts_of new) × AllZip HasOnlyLooked (logs_of old) (logs_of new)
+pub handed_back : (old new : List Seated) → KeepSeats LeavesUnchanged old new → AllZip IsOfSameStripe (noted_by old) (noted_by new) × AllZip IsPrefix (fronts_of old) (fronts_of new) × AllZip HasOnlyLooked (logs_of old) (logs_of new)
 handed_back [] [] keeps = (tt, tt, tt)
 handed_back [] (y ∷ new) keeps = absurd keeps
 handed_back (x ∷ old) [] keeps = absurd keeps
@@ -129,7 +129,7 @@ idle_logs old new idle i before after there at =
     (y.0.1.noted, subst₂ (λ (b a : Log). HasLookedOnce b a y.0.1.noted) (sym x.2) (sym y.2) found.0, found.1)
 
 -- the stripe of the seat at one place isn't taken
-pub row_refusal : (old seats new : List Seated) (i : ℕ) (x y : Seated) (refusal : Refusal) → KeepSeats Looks old seats → slice_get seats i ≡ Some x → slice_get new i ≡ Some y → IsTakeRefusal refusal x.1 y.1 → IsRowRefusal refusal old new
+pub row_refusal : (old seats new : List Seated) (i : ℕ) (x y : Seated) (refusal : Refusal) → KeepSeats LeavesUnchanged old seats → slice_get seats i ≡ Some x → slice_get new i ≡ Some y → IsTakeRefusal refusal x.1 y.1 → IsRowRefusal refusal old new
 row_refusal old seats new i x y refusal keeps at now why =
     let was = keep_at _ old seats i x keeps at in
     ⊎_elim
@@ -137,7 +137,7 @@ row_refusal old seats new i x y refusal keeps at now why =
     (λ t. inr (t.0, (i, log_of was.0.1, log_of y.1, log_there old i was.0 was.1, log_there new i y now, (let one = was.2.misses in let two = t.1 in omega arith))))
     why
 
-pub refusal_since : (old mid new : List Seated) (refusal : Refusal) → KeepSeats Looks old mid → IsRowRefusal refusal mid new → IsRowRefusal refusal old new
+pub refusal_since : (old mid new : List Seated) (refusal : Refusal) → KeepSeats LeavesUnchanged old mid → IsRowRefusal refusal mid new → IsRowRefusal refusal old new
 refusal_since old mid new refusal keeps why = ⊎_elim (λ out. inl (out.0, used_since out.1)) (λ busy. inr (busy.0, missed_since busy.1)) why
   where
     used_since : IsInUse (logs_of mid) (logs_of new) → IsInUse (logs_of old) (logs_of new)
@@ -147,7 +147,7 @@ refusal_since old mid new refusal keeps why = ⊎_elim (λ out. inl (out.0, used
         let last = subst (λ (log : Log). HasLastFound log.lendings u.2.lendings u.5.0) seat.2 u.5.1 in
         (u.0, log_of was.0.1, u.2, log_there old u.0 was.0 was.1, u.4, (u.5.0, last_since was.0 seat.0 u.2.lendings u.5.0 was.2 last, u.5.2))
 
-    missed_since : HasMissed (logs_of mid) (logs_of new) → HasMissed (logs_of old) (logs_of new)
+    missed_since : HasFoundHeld (logs_of mid) (logs_of new) → HasFoundHeld (logs_of old) (logs_of new)
     missed_since m =
         let seat = log_at mid m.0 m.1 m.3 in
         let was = keep_at _ old mid m.0 seat.0 keeps seat.1 in

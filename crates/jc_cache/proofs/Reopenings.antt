@@ -17,7 +17,7 @@ use Rattle.jc_stripe.specs.State.{State}
 use Rattle.jc_stripe.specs.Reached.{IsReached}
 use Rattle.jc_stripe.specs.Renewal.{live_on}
 use Rattle.jc_stripe.specs.Reopening.{all_entries, dropped, entries_of, opened_stripes, shares_key, some_share_key, KeepsOrDrops}
-use Rattle.jc_cache.specs.Caches.{OpensWith, OwnerState, stripes_opening}
+use Rattle.jc_cache.specs.Caches.{CacheOwnerState, OpensWith, stripes_opening}
 use Rattle.jc_cache.specs.Reopening.{IsReopened, refusal_by}
 use Rattle.jc_stripe.proofs.CallerLemmas.{once_unless_shared}
 
@@ -57,7 +57,7 @@ opening_entries : (lives : Bool) (config : Config) (entries : List (Bytes × Byt
 opening_entries false config entries = refl
 opening_entries true config entries = living_entries (opened_stripes config Live entries 0 config.stripes)
 
-pub reopened_so : KeepsOrDrops → (lives lived_on : Bool) (config : Config) (given entries : List (Bytes × Bytes)) (owner : OwnerState) (gone : List (Bytes × Bytes)) → check config ≡ Ok tt → has_distinct_keys entries ≡ true → lives ≡ lived_on → given ≡ entries
+pub reopened_so : KeepsOrDrops → (lives lived_on : Bool) (config : Config) (given entries : List (Bytes × Bytes)) (owner : CacheOwnerState) (gone : List (Bytes × Bytes)) → check config ≡ Ok tt → has_distinct_keys entries ≡ true → lives ≡ lived_on → given ≡ entries
     → OpensWith lives config given owner → gone ≡ dropped config given → IsReopened lived_on config entries owner gone
 reopened_so law lives lived_on config given entries owner gone fits once same all opens is =
     let distinct : has_distinct_keys given ≡ true = ap has_distinct_keys all ∙ once in

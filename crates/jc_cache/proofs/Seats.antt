@@ -35,7 +35,7 @@ use Rattle.jc_engine.specs.Asking.{KeepsTypes, own_after}
 use Rattle.jc_cache.specs.Caches.{CacheState}
 use Rattle.jc_session.specs.Sessions.{next_call}
 use Rattle.jc_cache.specs.Fronts.{IsSameSeat, SeatAfter, SeatTried}
-use Rattle.jc_cache.specs.Sessions.{IsSeatAt, MayCall, own_total, capped}
+use Rattle.jc_cache.specs.Sessions.{IsSeatAt, MayCall, own_total, capped_steps}
 use Rattle.jc_session.specs.declared.session.Session.{Session}
 use Rattle.jc_cache.proofs.CallEnds.{IsBelow}
 
@@ -84,7 +84,7 @@ one_longer event old new more =
     let is = ap length more.is ∙ length-append more.before (event ∷ more.after) in
     omega arith
 
-pub capped_more : (n : ℕ) → capped (n + 1) ≡ one_more (capped n)
+pub capped_more : (n : ℕ) → capped_steps (n + 1) ≡ one_more (capped_steps n)
 capped_more n = grind (arith, nat_tests)
 
 -- 3. The numbers of the own steps.
@@ -117,13 +117,13 @@ numbers_next law caller before after (Err refusal) own are = subst (λ (es : Lis
 -- 4. The count of the own steps.
 
 count_after : (caller : Caller) (before after : View) (ended : Result Reply Refusal) (xs : List Seated) (i : ℕ) (lock : TableId) → slice_get xs i ≡ Some (lock, before) → OwnAfter caller before ended after
-    → own_after (capped (own_total xs)) ended ≡ capped (own_total (set xs i (lock, after)))
+    → own_after (capped_steps (own_total xs)) ended ≡ capped_steps (own_total (set xs i (lock, after)))
 count_after caller before after (Ok reply) xs i lock at own =
-    sym (capped_more (own_total xs)) ∙ ap capped (sym (set_total 1 xs i (lock, before) (lock, after) at (one_longer _ before.own after.own own.5)))
+    sym (capped_more (own_total xs)) ∙ ap capped_steps (sym (set_total 1 xs i (lock, before) (lock, after) at (one_longer _ before.own after.own own.5)))
 count_after caller before after (Err refusal) xs i lock at own =
     let longer : length after.own ≡ length before.own + 0 = let l = ap length own in omega arith in
     let total : own_total xs ≡ own_total (set xs i (lock, after)) = let e = set_total 0 xs i (lock, before) (lock, after) at longer in omega arith in
-    ap capped total
+    ap capped_steps total
 
 -- 5. The session.
 
@@ -171,7 +171,7 @@ module _ {I J : Type 0} {D : I → Type 0} {E : J → Type 0} where
           held = left.held;
           loads = λ on. keeps_some old.agent.hands.outside.loader new.agent.hands.outside.loader left.types.0 (may.own.loads on);
           writes = λ on. keeps_some old.agent.hands.outside.writer new.agent.hands.outside.writer left.types.1 (may.own.writes on);
-          own = counted ∙ ap (λ (n : ℕ). own_after n ended) may.own.own ∙ count_after caller before after ended old.seats.items at lock was own ∙ ap (λ (xs : List Seated). capped (own_total xs)) (sym now);
+          own = counted ∙ ap (λ (n : ℕ). own_after n ended) may.own.own ∙ count_after caller before after ended old.seats.items at lock was own ∙ ap (λ (xs : List Seated). capped_steps (own_total xs)) (sym now);
         };
         reservations = ap (λ (a : Agent I J D E). a.counts.reservations) left.left ∙ may.reservations;
         joins = ap (λ (a : Agent I J D E). a.counts.joins) left.left ∙ may.joins;

@@ -45,7 +45,7 @@ use Rattle.jc_engine.proofs.CallerLemmas.{Keeps, all_map, counted_longer, once, 
 use Rattle.jc_cache.specs.Caches.{CacheState}
 use Rattle.jc_cache.specs.Fronts.{IsSameSeat}
 use Rattle.jc_cache.specs.PhaseCalls.{SeatPhase, PhaseAt, MayStart}
-use Rattle.jc_cache.specs.Sessions.{GoesOn, IsSeatAt, IsOf, HoldsNothing, own_total, capped}
+use Rattle.jc_cache.specs.Sessions.{GoesOn, IsSeatAt, IsOf, HoldsNothing, own_total, capped_steps}
 use Rattle.jc_session.specs.declared.session.Session.{Session}
 use Rattle.jc_cache.proofs.Lendings.{lock_takes, lock_gives, lock_finds, Lending, row_left, turn_lent}
 use Rattle.jc_cache.specs.Turns.{HasLent}
@@ -68,13 +68,13 @@ picked_late old new join (picked.Answer place shared_with) reply by = by.picks
 picked_late old new join picked.Again reply by = by.picks
 picked_late old new join (picked.NotYet back) reply by = absurd (true≢false by.last)
 
-same_count : (counts : Counts) (own : ℕ) → counts.own ≡ capped own → counts.own ≡ capped (own + 0)
-same_count counts own is = let none : own ≡ own + 0 = omega arith in is ∙ ap capped none
+same_count : (counts : Counts) (own : ℕ) → counts.own ≡ capped_steps own → counts.own ≡ capped_steps (own + 0)
+same_count counts own is = let none : own ≡ own + 0 = omega arith in is ∙ ap capped_steps none
 
-more_count : (counts : Counts) (own : ℕ) → counts.own ≡ capped own → one_more counts.own ≡ capped (own + 1)
+more_count : (counts : Counts) (own : ℕ) → counts.own ≡ capped_steps own → one_more counts.own ≡ capped_steps (own + 1)
 more_count counts own is = ap one_more is ∙ sym (capped_more own)
 
-counted_own : (counts : Counts) (counted : Counted) (own : ℕ) → counts.own ≡ capped own → (counts_after counts counted).own ≡ capped (own + steps_in counted)
+counted_own : (counts : Counts) (counted : Counted) (own : ℕ) → counts.own ≡ capped_steps own → (counts_after counts counted).own ≡ capped_steps (own + steps_in counted)
 counted_own counts Nothing own is = same_count counts own is
 counted_own counts OneStep own is = more_count counts own is
 counted_own counts Reserved own is = same_count counts own is
@@ -142,7 +142,7 @@ module _ {I J : Type 0} {D : I → Type 0} {E : J → Type 0} where
         held = ap (λ (a : Agent I J D E). a.hands.held) left ∙ of.held;
         loads = λ on. subst (λ (a : Agent I J D E). IsSome a.hands.outside.loader) (sym left) (of.loads on);
         writes = λ on. subst (λ (a : Agent I J D E). IsSome a.hands.outside.writer) (sym left) (of.writes on);
-        own = ap (λ (a : Agent I J D E). a.counts.own) left ∙ counted_own old.agent.counts counted (own_total old.seats.items) of.own ∙ ap capped (sym total);
+        own = ap (λ (a : Agent I J D E). a.counts.own) left ∙ counted_own old.agent.counts counted (own_total old.seats.items) of.own ∙ ap capped_steps (sym total);
       }
 
   pub phase_left : {G : Type 0} → PhaseLaws → (cache : CacheState) (old new : Session I J D E) (stripe : ℕ) (counted : Counted) (turn : Turn) (g : G) (t : Seated) (h : G) (u : Seated)
@@ -258,7 +258,7 @@ module _ {I J : Type 0} {D : I → Type 0} {E : J → Type 0} where
         held = held;
         loads = λ on. loads (of.loads on);
         writes = λ on. writes (of.writes on);
-        own = ap (λ (s : Session I J D E). s.agent.counts.own) left ∙ of.own ∙ ap (λ (xs : List Seated). capped (own_total xs)) (sym seats);
+        own = ap (λ (s : Session I J D E). s.agent.counts.own) left ∙ of.own ∙ ap (λ (xs : List Seated). capped_steps (own_total xs)) (sym seats);
       }
 
   pub of_same : (cache : CacheState) (old new : Session I J D E) → new.seats.items ≡ old.seats.items → new.agent ≡ old.agent → IsOf cache old → IsOf cache new
@@ -269,7 +269,7 @@ module _ {I J : Type 0} {D : I → Type 0} {E : J → Type 0} where
     held = ap (λ (a : Agent I J D E). a.hands.held) agent ∙ of.held;
     loads = λ on. subst (λ (a : Agent I J D E). IsSome a.hands.outside.loader) (sym agent) (of.loads on);
     writes = λ on. subst (λ (a : Agent I J D E). IsSome a.hands.outside.writer) (sym agent) (of.writes on);
-    own = ap (λ (a : Agent I J D E). a.counts.own) agent ∙ of.own ∙ ap (λ (xs : List Seated). capped (own_total xs)) (sym seats);
+    own = ap (λ (a : Agent I J D E). a.counts.own) agent ∙ of.own ∙ ap (λ (xs : List Seated). capped_steps (own_total xs)) (sym seats);
   }
 
 pub set_itself : (xs : List Seated) (i : ℕ) (x : Seated) → slice_get xs i ≡ Some x → slice_set xs i x ≡ xs

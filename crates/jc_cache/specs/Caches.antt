@@ -4,7 +4,7 @@
 --     fronts_of         what these seats have seen of the histories
 --     Log, log_of       the lendings of a seat, and the number of its tries that found the stripe held
 --     logs_of           the logs of these seats
---     OwnerState        the owner of a cache: the cache, the number of sessions given out, and for each stripe what the owner's
+--     CacheOwnerState   the owner of a cache: the cache, the number of sessions given out, and for each stripe what the owner's
 --                       own seat has noted, what it has seen of the history, and its log
 --     stripes_opening   the stripes of a cache of this shape that opens with these entries, and lives on or doesn't
 --     OpensWith         a cache that has just been opened: no session was given out, each stripe has its part of the entries, and
@@ -46,7 +46,7 @@ log_of view = record { lendings = view.lendings; misses = view.misses }
 abbrev pub logs_of : List (TableId × View) → List Log
 logs_of seats = map (λ (seat : TableId × View). log_of seat.1) seats
 
-pub record OwnerState : Type 0 where
+pub record CacheOwnerState : Type 0 where
   pub cache : CacheState
   pub given : ℕ
   pub noted : List State  -- stripe by stripe, as its own seat found it last, or as the stripe was opened
@@ -57,7 +57,7 @@ abbrev pub stripes_opening : Bool → Config → List (Bytes × Bytes) → List 
 stripes_opening false config entries = opened_stripes config Live entries 0 config.stripes
 stripes_opening true config entries = map live_on (opened_stripes config Live entries 0 config.stripes)
 
-pub record OpensWith (lives : Bool) (config : Config) (entries : List (Bytes × Bytes)) (owner : OwnerState) : Type 0 where
+pub record OpensWith (lives : Bool) (config : Config) (entries : List (Bytes × Bytes)) (owner : CacheOwnerState) : Type 0 where
   pub config_is : owner.cache.config ≡ config
   pub locks : length owner.cache.locks ≡ config.stripes
   pub given : owner.given ≡ 0
@@ -66,7 +66,7 @@ pub record OpensWith (lives : Bool) (config : Config) (entries : List (Bytes × 
 
 -- 2. Sessions that are refused.
 
-abbrev pub session_refusal : OwnerState → Bool → Bool → Option Refusal
+abbrev pub session_refusal : CacheOwnerState → Bool → Bool → Option Refusal
 session_refusal owner has_loader has_writer =
     if nat_le SESSIONS_MAX owner.given then Some TooManySessions
     else (if owner.cache.config.read_through && not has_loader then Some NoLoader

@@ -1,33 +1,33 @@
 -- Closed caches, and refusals to close one.
---     IsClosedAt     the stripe with this number of a closed cache of this shape, whose owner had noted this state of it: it
---                    lives on exactly if it did then, and its first generation opened with the same entries; each generation left
---                    what the next one opened with; the last one's history is legal from its opening and leads to the stripe's
---                    entries; nothing is out, its outside answers were live, and it has no step of a session that was never given
---                    out
---     HasLookedOnce  an own seat has taken its stripe once, in this state, and given it back as it was
---     AreIdle        each of them has looked once, and nothing was out there
---     HasFront       a session has seen no more of each stripe than is in its whole history
---     AreClosed      the stripes of a closed cache, each with the opening that its owner has noted
---     IsClosed       a cache is closed: its stripes; and each session that was handed in has seen no more of them
---     HasClosed      as `IsClosed`, and the sessions' loaders and writers come back, in the order of the sessions
---     IsTakenAs      an own seat has taken its stripe in this state, and not given it back
---     lent_at, all_lent    the lendings of a session's seat at a stripe, and of all these sessions there
---     HasTakenOver   an own seat looked at its stripe once before it took it, and found nothing out; after that it has all
---                    lendings of the sessions
---     HasEnded       a cache was ended without its sessions: its stripes alone; each own seat looked at its stripe once before it
---                    took it, and gave out no session
---     HasOnlyLooked  an own seat has only taken its stripe and given it back as it was, any number of times
---     HasLastFound   among its lendings since then the last one found the stripe in this state, and left it so
---     IsInUse        one of these seats found its stripe last with a reservation or a join out
---     HasMissed      one of these seats found its stripe held by somebody else
---     IsHandedBack   an owner that could not close the cache owns it as before; its seats may have noted and seen more of the
---                    stripes
---     IsEndRefusal   why the stripes are not taken from a cache: an own seat found something out at its stripe last; or nothing
---                    is out, and an allocation failed; or a seat found its stripe held
---     IsCloseRefusal why a cache is not closed: a session is missing, and then nobody looked at a stripe; or all are there, and
---                    its stripes are not taken
---     HasNotClosed   a cache was not closed, and why; the owner and the sessions come back
---     HasNotEnded    a cache was not ended, and why; the owner comes back
+--     IsClosedAt          the stripe with this number of a closed cache of this shape, whose owner had noted this state of it: it
+--                         lives on exactly if it did then, and its first generation opened with the same entries; each generation
+--                         left what the next one opened with; the last one's history is legal from its opening and leads to the
+--                         stripe's entries; nothing is out, its outside answers were live, and it has no step of a session that
+--                         was never given out
+--     HasLookedOnce       an own seat has taken its stripe once, in this state, and given it back as it was
+--     AreIdle             each of them has looked once, and nothing was out there
+--     HasFront            a session has seen no more of each stripe than is in its whole history
+--     AreClosed           the stripes of a closed cache, each with the opening that its owner has noted
+--     IsClosed            a cache is closed: its stripes; and each session that was handed in has seen no more of them
+--     HasClosed           as `IsClosed`, and the sessions' loaders and writers come back, in the order of the sessions
+--     IsTakenAs           an own seat has taken its stripe in this state, and not given it back
+--     lent_at, all_lent   the lendings of a session's seat at a stripe, and of all these sessions there
+--     HasTakenOver        an own seat looked at its stripe once before it took it, and found nothing out; after that it has all
+--                         lendings of the sessions
+--     HasEnded            a cache was ended without its sessions: its stripes alone; each own seat looked at its stripe once
+--                         before it took it, and gave out no session
+--     HasOnlyLooked       an own seat has only taken its stripe and given it back as it was, any number of times
+--     HasLastFound        among its lendings since then the last one found the stripe in this state, and left it so
+--     IsInUse             one of these seats found its stripe last with a reservation or a join out
+--     HasFoundHeld        one of these seats found its stripe held by somebody else
+--     IsHandedBack        an owner that could not close the cache owns it as before; its seats may have noted and seen more of
+--                         the stripes
+--     IsEndRefusal        why the stripes are not taken from a cache: an own seat found something out at its stripe last; or
+--                         nothing is out, and an allocation failed; or a seat found its stripe held
+--     IsCloseRefusal      why a cache is not closed: a session is missing, and then nobody looked at a stripe; or all are there,
+--                         and its stripes are not taken
+--     HasNotClosed        a cache was not closed, and why; the owner and the sessions come back
+--     HasNotEnded         a cache was not ended, and why; the owner comes back
 use Rattle.std.specs.Prelude.{◌≡◌, ◌≢◌, ◌⊎◌, ◌≤◌, ◌<◌, ◌++◌, ◌∷◌, ℕ, zero, suc, Bool, true, List, [], map, length, Some, slice_get}
 use Rattle.std.specs.List.{AllZip, flat_map}
 use Rattle.std.specs.FinMap.{from_entries}
@@ -46,7 +46,7 @@ use Rattle.jc_stripe.specs.Renewal.{all_own_steps}
 use Rattle.jc_lock.specs.declared.view.View.{View}
 use Rattle.jc_engine.specs.Rows.{AllLend}
 use Rattle.jc_session.specs.declared.session.Session.{Session}
-use Rattle.jc_cache.specs.Caches.{Log, OwnerState, logs_of}
+use Rattle.jc_cache.specs.Caches.{CacheOwnerState, Log, logs_of}
 
 -- 1. A cache that is closed.
 
@@ -84,12 +84,12 @@ pub record IsTakenAs (seat : TableId × View) (state : State) : Type 0 where
   pub holds : seat.1.holds ≡ true
   pub noted : seat.1.noted ≡ state
 
-pub record AreClosed (owner : OwnerState) (stripes : List State) : Type 0 where
+pub record AreClosed (owner : CacheOwnerState) (stripes : List State) : Type 0 where
   pub count : length stripes ≡ owner.cache.config.stripes
   pub each : (i : ℕ) (state : State) → slice_get stripes i ≡ Some state
       → (noted : State) × (slice_get owner.noted i ≡ Some noted) × IsClosedAt owner.cache.config i owner.given noted state
 
-pub record IsClosed {I J : Type 0} {D : I → Type 0} {E : J → Type 0} (owner : OwnerState) (sessions : List (Session I J D E)) (stripes : List State) : Type 0 where
+pub record IsClosed {I J : Type 0} {D : I → Type 0} {E : J → Type 0} (owner : CacheOwnerState) (sessions : List (Session I J D E)) (stripes : List State) : Type 0 where
   pub stripes_are : AreClosed owner stripes
   pub all : length sessions ≡ owner.given
   pub fronts : (n : ℕ) (session : Session I J D E) → slice_get sessions n ≡ Some session → HasFront stripes session.seats.items
@@ -108,7 +108,7 @@ pub record HasTakenOver (before : Log) (brought : List (State × State)) (seat :
   pub lendings : seat.1.lendings ≡ before.lendings ++ (found, found) ∷ brought
   pub idle : IsIdle found
 
-pub record HasClosed {I J : Type 0} {D : I → Type 0} {E : J → Type 0} (owner : OwnerState) (sessions : List (Session I J D E)) (stripes : List State) (brought : List (Outside I J D E)) (seats : List (TableId × View)) (says : Bool) : Type 0 where
+pub record HasClosed {I J : Type 0} {D : I → Type 0} {E : J → Type 0} (owner : CacheOwnerState) (sessions : List (Session I J D E)) (stripes : List State) (brought : List (Outside I J D E)) (seats : List (TableId × View)) (says : Bool) : Type 0 where
   pub closed : IsClosed owner sessions stripes
   pub taken : AllZip IsTakenAs seats stripes
   pub gave_none : (i : ℕ) (seat : TableId × View) → slice_get seats i ≡ Some seat → seat.1.next_session ≡ Some owner.given
@@ -116,7 +116,7 @@ pub record HasClosed {I J : Type 0} {D : I → Type 0} {E : J → Type 0} (owner
   pub outside : brought ≡ map (λ (session : Session I J D E). session.agent.hands.outside) sessions
   pub legal : says ≡ true
 
-pub record HasEnded {I J : Type 0} {D : I → Type 0} {E : J → Type 0} (owner : OwnerState) (stripes : List State) (brought : List (Outside I J D E)) (seats : List (TableId × View)) (says : Bool) : Type 0 where
+pub record HasEnded {I J : Type 0} {D : I → Type 0} {E : J → Type 0} (owner : CacheOwnerState) (stripes : List State) (brought : List (Outside I J D E)) (seats : List (TableId × View)) (says : Bool) : Type 0 where
   pub closed : AreClosed owner stripes
   pub looked : AreIdle owner.logs (logs_of seats)
   pub taken : AllZip IsTakenAs seats stripes
@@ -134,29 +134,29 @@ abbrev pub IsInUse : (old new : List Log) → Type 0
 IsInUse old new = (i : ℕ) × (before : Log) × (after : Log) × (slice_get old i ≡ Some before) × (slice_get new i ≡ Some after)
     × ((found : State) × HasLastFound before.lendings after.lendings found × (IsIdle found → ⊥))
 
-abbrev pub HasMissed : (old new : List Log) → Type 0
-HasMissed old new = (i : ℕ) × (before : Log) × (after : Log) × (slice_get old i ≡ Some before) × (slice_get new i ≡ Some after) × (before.misses < after.misses)
+abbrev pub HasFoundHeld : (old new : List Log) → Type 0
+HasFoundHeld old new = (i : ℕ) × (before : Log) × (after : Log) × (slice_get old i ≡ Some before) × (slice_get new i ≡ Some after) × (before.misses < after.misses)
 
-pub record IsHandedBack (owner left : OwnerState) : Type 0 where
+pub record IsHandedBack (owner left : CacheOwnerState) : Type 0 where
   pub cache : left.cache ≡ owner.cache
   pub given : left.given ≡ owner.given
   pub noted : AllZip IsOfSameStripe owner.noted left.noted
   pub fronts : AllZip IsPrefix owner.fronts left.fronts
   pub logs : AllZip HasOnlyLooked owner.logs left.logs
 
-abbrev pub IsEndRefusal : Refusal → OwnerState → OwnerState → Type 0
+abbrev pub IsEndRefusal : Refusal → CacheOwnerState → CacheOwnerState → Type 0
 IsEndRefusal refusal owner left =
     ((refusal ≡ StillReserved) × IsInUse owner.logs left.logs)
-    ⊎ (((refusal ≡ OutOfMemory) × AreIdle owner.logs left.logs) ⊎ ((refusal ≡ Busy) × HasMissed owner.logs left.logs))
+    ⊎ (((refusal ≡ OutOfMemory) × AreIdle owner.logs left.logs) ⊎ ((refusal ≡ Busy) × HasFoundHeld owner.logs left.logs))
 
-abbrev pub IsCloseRefusal : OwnerState → ℕ → Refusal → OwnerState → Type 0
+abbrev pub IsCloseRefusal : CacheOwnerState → ℕ → Refusal → CacheOwnerState → Type 0
 IsCloseRefusal owner handed_in refusal left =
     ((handed_in ≢ owner.given) × (refusal ≡ StillReserved) × (left ≡ owner)) ⊎ ((handed_in ≡ owner.given) × IsEndRefusal refusal owner left)
 
-pub record HasNotClosed {I J : Type 0} {D : I → Type 0} {E : J → Type 0} (owner : OwnerState) (sessions : List (Session I J D E)) (refusal : Refusal) (left : OwnerState) (sessions' : List (Session I J D E)) : Type 0 where
+pub record HasNotClosed {I J : Type 0} {D : I → Type 0} {E : J → Type 0} (owner : CacheOwnerState) (sessions : List (Session I J D E)) (refusal : Refusal) (left : CacheOwnerState) (sessions' : List (Session I J D E)) : Type 0 where
   pub why : IsCloseRefusal owner (length sessions) refusal left
   pub back : IsHandedBack owner left × (sessions' ≡ sessions)
 
-pub record HasNotEnded {I J : Type 0} {D : I → Type 0} {E : J → Type 0} (owner : OwnerState) (refusal : Refusal) (left : OwnerState) (sessions : List (Session I J D E)) : Type 0 where
+pub record HasNotEnded {I J : Type 0} {D : I → Type 0} {E : J → Type 0} (owner : CacheOwnerState) (refusal : Refusal) (left : CacheOwnerState) (sessions : List (Session I J D E)) : Type 0 where
   pub why : IsEndRefusal refusal owner left
   pub back : IsHandedBack owner left × (sessions ≡ [])

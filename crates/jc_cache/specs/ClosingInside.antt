@@ -1,18 +1,18 @@
 -- The cache's own seats during a close, after the first ones have taken their stripes.
---     KeepsSeat     a seat is still the same, at the same lock and stripe; it may have seen more of the history, and have more
---                   lendings of this kind
---     Looks, Whatever    a lending that left the stripe as it was, and any lending
---     KeepSeats     each of these seats is still the same
---     IsFreeSeat    a seat of no session, which has not taken its stripe
---     HasTaken      a seat of no session, which has taken its stripe in this state: the state is reached, nothing is out there,
---                   and it has no step of a session that the seat has yet to give out
---     HaveTaken     the first of these seats have taken their stripes in these states, and the others have not
---     OwnsSeats     own seats are at these locks; the first ones have taken their stripes in these states, and the others have
---                   not
---     KeepsOwn      the own seats are still the same, and have taken these stripes
---     IsTakeRefusal why a stripe is not taken: the seat found something out there last, or found the stripe held
---     IsRowRefusal  why the stripes of these seats are not taken: one of them is not
---     AreAtLocks    the seats of a session are at these locks, and have not taken their stripes
+--     KeepsSeat                   a seat is still the same, at the same lock and stripe; it may have seen more of the history,
+--                                 and have more lendings of this kind
+--     LeavesUnchanged, Whatever   a lending that left the stripe as it was, and any lending
+--     KeepSeats                   each of these seats is still the same
+--     IsFreeSeat                  a seat of no session, which has not taken its stripe
+--     HasTaken                    a seat of no session, which has taken its stripe in this state: the state is reached, nothing
+--                                 is out there, and it has no step of a session that the seat has yet to give out
+--     HaveTaken                   the first of these seats have taken their stripes in these states, and the others have not
+--     OwnsSeats                   own seats are at these locks; the first ones have taken their stripes in these states, and the
+--                                 others have not
+--     KeepsOwn                    the own seats are still the same, and have taken these stripes
+--     IsTakeRefusal               why a stripe is not taken: the seat found something out there last, or found the stripe held
+--     IsRowRefusal                why the stripes of these seats are not taken: one of them is not
+--     AreAtLocks                  the seats of a session are at these locks, and have not taken their stripes
 use Rattle.std.specs.Prelude.{◌≡◌, ◌⊎◌, ◌≤◌, ◌<◌, ◌++◌, ℕ, List, [], ◌∷◌, map, true, false, None, Some, slice_get}
 use Rattle.std.specs.List.{AllZip}
 use mathlib.Core.List.{IsPrefix}
@@ -26,7 +26,7 @@ use Rattle.jc_stripe.specs.Renewal.{all_own_steps}
 use Rattle.jc_lock.specs.declared.view.View.{View}
 use Rattle.jc_engine.specs.Rows.{AllLend}
 use Rattle.jc_cache.specs.Caches.{logs_of}
-use Rattle.jc_cache.specs.Closing.{HasLastFound, HasMissed, IsInUse}
+use Rattle.jc_cache.specs.Closing.{HasFoundHeld, HasLastFound, IsInUse}
 
 -- 1. Own seats.
 
@@ -43,8 +43,8 @@ pub record KeepsSeat (lends : State → State → Type 0) (before after : TableI
   pub each : AllLend lends row
   pub misses : before.1.misses ≤ after.1.misses
 
-abbrev pub Looks : State → State → Type 0
-Looks found left = left ≡ found
+abbrev pub LeavesUnchanged : State → State → Type 0
+LeavesUnchanged found left = left ≡ found
 
 abbrev pub Whatever : State → State → Type 0
 Whatever found left = Unit {0}
@@ -87,7 +87,7 @@ IsTakeRefusal refusal before after =
     ⊎ ((refusal ≡ Busy) × (before.misses < after.misses))
 
 abbrev pub IsRowRefusal : Refusal → List (TableId × View) → List (TableId × View) → Type 0
-IsRowRefusal refusal old new = ((refusal ≡ StillReserved) × IsInUse (logs_of old) (logs_of new)) ⊎ ((refusal ≡ Busy) × HasMissed (logs_of old) (logs_of new))
+IsRowRefusal refusal old new = ((refusal ≡ StillReserved) × IsInUse (logs_of old) (logs_of new)) ⊎ ((refusal ≡ Busy) × HasFoundHeld (logs_of old) (logs_of new))
 
 -- 3. Seats of sessions.
 

@@ -10,14 +10,14 @@ use Rattle.jc_types.specs.declared.refusal.Refusal.{Refusal}
 use Rattle.jc_types.specs.declared.refusal.Refusal.TheVariants.{OutOfMemory}
 use Rattle.jc_outside.specs.declared.hands.Outside.{Outside}
 use Rattle.jc_session.specs.declared.session.Session.{Session}
-use Rattle.jc_cache.specs.Caches.{OwnerState, session_refusal}
+use Rattle.jc_cache.specs.Caches.{CacheOwnerState, session_refusal}
 use Rattle.jc_cache.specs.Sessions.{BeginsAt, MayCall}
 
 abbrev pub HaveNumbers : {I J : Type 0} {D : I → Type 0} {E : J → Type 0} → ℕ → List (Session I J D E) → Type 0
 HaveNumbers number [] = Unit {0}
 HaveNumbers number (session ∷ sessions) = (session.agent.caller ≡ record { session = number; call = 0 }) × HaveNumbers (number + 1) sessions
 
-pub record AreGivenOut {I J : Type 0} {D : I → Type 0} {E : J → Type 0} (from left : OwnerState) (outside : List (Outside I J D E)) (sessions : List (Session I J D E)) : Type 0 where
+pub record AreGivenOut {I J : Type 0} {D : I → Type 0} {E : J → Type 0} (from left : CacheOwnerState) (outside : List (Outside I J D E)) (sessions : List (Session I J D E)) : Type 0 where
   pub owner : left ≡ record from { given = from.given + length sessions }
   pub boxes : map (λ (session : Session I J D E). session.agent.hands.outside) sessions ≡ outside
   pub fresh : All (λ (session : Session I J D E). (session.agent.counts.own ≡ 0) × BeginsAt from session) sessions
@@ -25,7 +25,7 @@ pub record AreGivenOut {I J : Type 0} {D : I → Type 0} {E : J → Type 0} (fro
   pub may : All (λ (session : Session I J D E). MayCall left.cache session) sessions
 
 -- `made` is how many were given out
-pub record IsNotEnlisted {I J : Type 0} {D : I → Type 0} {E : J → Type 0} (from left : OwnerState) (outside : List (Outside I J D E)) (refusal : Refusal) : Type 0 where
+pub record IsNotEnlisted {I J : Type 0} {D : I → Type 0} {E : J → Type 0} (from left : CacheOwnerState) (outside : List (Outside I J D E)) (refusal : Refusal) : Type 0 where
   pub made : ℕ
   pub owner : left ≡ record from { given = from.given + made }
   pub why : (refusal ≡ OutOfMemory)

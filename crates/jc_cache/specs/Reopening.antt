@@ -16,7 +16,7 @@ use Rattle.jc_model.specs.Cache.{Bytes}
 use Rattle.jc_model.specs.Listed.{has_distinct_keys}
 use Rattle.jc_stripe.specs.State.{State}
 use Rattle.jc_stripe.specs.Reopening.{all_entries, dropped}
-use Rattle.jc_cache.specs.Caches.{OwnerState, OpensWith}
+use Rattle.jc_cache.specs.Caches.{CacheOwnerState, OpensWith}
 
 abbrev pub refusal_by : Result (Unit {0}) Refusal → Bool → Option Refusal
 refusal_by (Err refusal) distinct = Some refusal
@@ -32,7 +32,7 @@ abbrev pub lived : List State → Bool
 lived [] = false
 lived (state ∷ states) = state.lives
 
-pub record IsReopened (lives : Bool) (config : Config) (entries : List (Bytes × Bytes)) (owner : OwnerState) (gone : List (Bytes × Bytes)) : Type 0 where
+pub record IsReopened (lives : Bool) (config : Config) (entries : List (Bytes × Bytes)) (owner : CacheOwnerState) (gone : List (Bytes × Bytes)) : Type 0 where
   pub may : reopen_refusal config entries ≡ None
   pub opens : OpensWith lives config entries owner
   pub gone_is : gone ≡ dropped config entries

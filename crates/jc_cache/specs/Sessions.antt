@@ -1,21 +1,22 @@
 -- The sessions of a cache.
---     IsSeatAt      a view of a session's seat at the stripe with this number of a cache of this shape, which has not taken the stripe
---     own_total     the number of own steps in the views of these seats, together
---     capped        a number, or the last number if it is beyond that
---     IsOf          a session is one of this cache's: its seats are at this cache's locks and of this session alone, its hands
---                   hold nothing, it has the loader and the writer that the cache's shape asks for, and it counts its own steps
---     IsCaller      a session is one of this cache's, and has the number of this caller
---     GoesOn        a session is still one of this cache's, after this change
---     HoldsNothing  a session's hands hold nothing, and none of its seats has taken its stripe
---     HasAsked      a session has asked outside, and the rest of it is unchanged: it is of the same cache
---     BeginsAt      a session's seats have noted and seen what those of the cache's owner have, with no lending and no miss: a
---                   new session begins like this
---     MayCall       a session of this cache may begin its next call: it has no reservation and no join out, and its own steps are
---                   all of calls before that one
---     IsGivenOut    a session that its owner has just given out, with this loader and this writer: it has made no step, and may
---                   call
---     IsNotGivenOut why no session was given out; the owner is unchanged, and the loader and the writer come back
---     Completes     a call has this outcome, and its session may begin its next call
+--     IsSeatAt        a view of a session's seat at the stripe with this number of a cache of this shape, which has not taken the
+--                     stripe
+--     own_total       the number of own steps in the views of these seats, together
+--     capped_steps    a number, or the last number if it is beyond that
+--     IsOf            a session is one of this cache's: its seats are at this cache's locks and of this session alone, its hands
+--                     hold nothing, it has the loader and the writer that the cache's shape asks for, and it counts its own steps
+--     IsCaller        a session is one of this cache's, and has the number of this caller
+--     GoesOn          a session is still one of this cache's, after this change
+--     HoldsNothing    a session's hands hold nothing, and none of its seats has taken its stripe
+--     HasAsked        a session has asked outside, and the rest of it is unchanged: it is of the same cache
+--     BeginsAt        a session's seats have noted and seen what those of the cache's owner have, with no lending and no miss: a
+--                     new session begins like this
+--     MayCall         a session of this cache may begin its next call: it has no reservation and no join out, and its own steps
+--                     are all of calls before that one
+--     IsGivenOut      a session that its owner has just given out, with this loader and this writer: it has made no step, and may
+--                     call
+--     IsNotGivenOut   why no session was given out; the owner is unchanged, and the loader and the writer come back
+--     Completes       a call has this outcome, and its session may begin its next call
 use Rattle.std.specs.Prelude.{◌≡◌, ◌⊎◌, ◌+◌, is_some, None, ℕ, List, [], ◌∷◌, length, map, true, false, Some, IsSome, slice_get, nat_lt, cond}
 use Rattle.std.specs.List.{list_all}
 use Rattle.atomic_table.specs.Seated.{TableId}
@@ -30,7 +31,7 @@ use Rattle.jc_lock.specs.declared.view.View.{View}
 use Rattle.jc_session.specs.Counting.{one_more}
 use Rattle.jc_session.specs.declared.fault.SessionFault.{SessionFault}
 use Rattle.jc_session.specs.declared.session.Session.{Session}
-use Rattle.jc_cache.specs.Caches.{CacheState, OwnerState, noted_by, fronts_of, session_refusal}
+use Rattle.jc_cache.specs.Caches.{CacheState, CacheOwnerState, noted_by, fronts_of, session_refusal}
 
 pub record IsSeatAt (config : Config) (stripe session : ℕ) (view : View) : Type 0 where
   pub of_session : view.session ≡ Some session
@@ -44,8 +45,8 @@ abbrev pub own_total : List (TableId × View) → ℕ
 own_total [] = 0
 own_total (seat ∷ seats) = length seat.1.own + own_total seats
 
-abbrev pub capped : ℕ → ℕ
-capped number = cond (nat_lt number last_number) number last_number
+abbrev pub capped_steps : ℕ → ℕ
+capped_steps number = cond (nat_lt number last_number) number last_number
 
 pub record IsOf {I J : Type 0} {D : I → Type 0} {E : J → Type 0} (cache : CacheState) (session : Session I J D E) : Type 0 where
   pub locks : map (λ (seat : TableId × View). seat.0) session.seats.items ≡ cache.locks
@@ -54,7 +55,7 @@ pub record IsOf {I J : Type 0} {D : I → Type 0} {E : J → Type 0} (cache : Ca
   pub held : session.agent.hands.held ≡ 0
   pub loads : cache.config.read_through ≡ true → IsSome session.agent.hands.outside.loader
   pub writes : cache.config.write_through ≡ true → IsSome session.agent.hands.outside.writer
-  pub own : session.agent.counts.own ≡ capped (own_total session.seats.items)
+  pub own : session.agent.counts.own ≡ capped_steps (own_total session.seats.items)
 
 pub record IsCaller {I J : Type 0} {D : I → Type 0} {E : J → Type 0} (cache : CacheState) (session : Session I J D E) (who : Caller) : Type 0 where
   pub own : IsOf cache session
@@ -73,7 +74,7 @@ pub record HasAsked {I J : Type 0} {D : I → Type 0} {E : J → Type 0} (old ne
   pub rest : new ≡ record old { agent = record old.agent { hands = new.agent.hands } }
   pub own : (cache : CacheState) → IsOf cache old → IsOf cache new
 
-pub record BeginsAt {I J : Type 0} {D : I → Type 0} {E : J → Type 0} (owner : OwnerState) (session : Session I J D E) : Type 0 where
+pub record BeginsAt {I J : Type 0} {D : I → Type 0} {E : J → Type 0} (owner : CacheOwnerState) (session : Session I J D E) : Type 0 where
   pub noted : noted_by session.seats.items ≡ owner.noted
   pub fronts : fronts_of session.seats.items ≡ owner.fronts
   pub none_lent : (i : ℕ) (seat : TableId × View) → slice_get session.seats.items i ≡ Some seat → (seat.1.lendings ≡ []) × (seat.1.misses ≡ 0)
@@ -85,7 +86,7 @@ pub record MayCall {I J : Type 0} {D : I → Type 0} {E : J → Type 0} (cache :
   pub numbers : (i : ℕ) (seat : TableId × View) → slice_get session.seats.items i ≡ Some seat
       → list_all (is_before_call session.agent.caller.session (one_more session.agent.caller.call)) seat.1.own ≡ true
 
-pub record IsGivenOut {I J : Type 0} {D : I → Type 0} {E : J → Type 0} (from left : OwnerState) (outside : Outside I J D E) (session : Session I J D E) : Type 0 where
+pub record IsGivenOut {I J : Type 0} {D : I → Type 0} {E : J → Type 0} (from left : CacheOwnerState) (outside : Outside I J D E) (session : Session I J D E) : Type 0 where
   pub fits : session_refusal from (is_some outside.loader) (is_some outside.writer) ≡ None
   pub owner : left ≡ record from { given = from.given + 1 }
   pub caller : session.agent.caller ≡ record { session = from.given; call = 0 }
@@ -94,7 +95,7 @@ pub record IsGivenOut {I J : Type 0} {D : I → Type 0} {E : J → Type 0} (from
   pub none : session.agent.counts.own ≡ 0
   pub begins : BeginsAt from session
 
-pub record IsNotGivenOut {I J : Type 0} {D : I → Type 0} {E : J → Type 0} (from left : OwnerState) (outside : Outside I J D E) (fault : SessionFault I J D E) : Type 0 where
+pub record IsNotGivenOut {I J : Type 0} {D : I → Type 0} {E : J → Type 0} (from left : CacheOwnerState) (outside : Outside I J D E) (fault : SessionFault I J D E) : Type 0 where
   pub why : (session_refusal from (is_some outside.loader) (is_some outside.writer) ≡ Some fault.refusal)
       ⊎ ((session_refusal from (is_some outside.loader) (is_some outside.writer) ≡ None) × (fault.refusal ≡ OutOfMemory))
   pub same : left ≡ from

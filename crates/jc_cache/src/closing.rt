@@ -14,7 +14,7 @@ ghost use Rattle.jc_stripe.specs.Reached.{IsReached};
 ghost use Rattle.jc_stripe.specs.Reopening.{shares_key};
 ghost use Rattle.jc_cache.specs.Caches.{logs_of};
 ghost use Rattle.jc_cache.specs.Closing.{AreIdle, HasClosed, HasEnded, HasNotClosed, HasNotEnded};
-ghost use Rattle.jc_cache.specs.ClosingInside.{HaveTaken, IsRowRefusal, KeepSeats, Looks, OwnsSeats};
+ghost use Rattle.jc_cache.specs.ClosingInside.{HaveTaken, IsRowRefusal, KeepSeats, LeavesUnchanged, OwnsSeats};
 ghost use Rattle.jc_cache.specs.Sessions.{IsOf};
 
 mod own_seats;
@@ -256,7 +256,7 @@ fn take_stripes(
     sessions: usize,
 ) -> Result<(Vec<ClosedStripe>, Vec<Outside>), Refusal>
     requires { OwnsSeats locks.now own.old.items [] }
-    ensures keeps { KeepSeats Looks own.old.items own.new.items }
+    ensures keeps { KeepSeats LeavesUnchanged own.old.items own.new.items }
     ensures ok { IfOk result (λ r. HaveTaken own.new.items r.0.items
         × (length r.0.items ≡ length own.new.items)
         × AreIdle (logs_of own.old.items) (logs_of own.new.items)) }

@@ -40,10 +40,10 @@ impl Model for CacheOwner {
     ghost use Rattle.std.specs.Coded.{codes, coded_list};
     ghost use Rattle.atomic_table.specs.Seated.{table_id_coded};
     ghost use Rattle.jc_model.specs.Cache.{cache_code};
-    ghost use Rattle.jc_cache.specs.Caches.{OwnerState, noted_by, fronts_of, logs_of};
+    ghost use Rattle.jc_cache.specs.Caches.{CacheOwnerState, noted_by, fronts_of, logs_of};
     ghost use Rattle.jc_cache.specs.CacheInside.{IsWhole};
 
-    ghost Value = { OwnerState };
+    ghost Value = { CacheOwnerState };
 
     ghost coded = { Prim.hlevel (codes, cache_code, coded_list table_id_coded) };
 

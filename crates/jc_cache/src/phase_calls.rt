@@ -25,7 +25,7 @@ ghost use Rattle.jc_cache.specs.Turns.{looking, picking_late, picking_now, start
 
 use crate::cache::Cache;
 use jc_engine::laws::one_lending;
-use jc_engine::{Access, Answer, Commit, First, How, Phase, PickUp, Processed, Withdraw};
+use jc_engine::{Access, Answer, BeginCall, Commit, How, Phase, PickUp, Processed, Withdraw};
 use jc_model::{Op, Reply};
 use jc_session::{Counted, Session};
 use jc_stripe::{Appended, Ask, Join, LoadDone, Picked, ProcDone, Started, Ticket, WriteDone};
@@ -53,7 +53,7 @@ impl Cache {
             (counted_started result) session.new) }
     {
         let at = stripe_of(key, self.config.stripes);
-        let first = First::of(&session.agent, key, op, How::Now);
+        let first = BeginCall::of(&session.agent, key, op, How::Now);
         self.phase_at(rt, session, at, first, reply)
     }
 

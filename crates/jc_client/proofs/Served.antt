@@ -18,7 +18,7 @@ use Rattle.jc_types.specs.declared.config.Config.{Config}
 use Rattle.jc_types.specs.declared.refusal.Refusal.{Refusal}
 use Rattle.jc_outside.specs.declared.hands.Outside.{Outside}
 use Rattle.jc_session.specs.declared.session.Session.{Session}
-use Rattle.jc_cache.specs.Caches.{OpensWith, OwnerState}
+use Rattle.jc_cache.specs.Caches.{CacheOwnerState, OpensWith}
 use Rattle.jc_cache.specs.Enlisting.{AreGivenOut, HaveNumbers, IsNotEnlisted}
 use Rattle.jc_client.specs.Clients.{ClientState, HasWorked, IsServeRefusal, WorksEach, client_state, new_clients}
 use Rattle.jc_cache.specs.Closing.{IsEndRefusal}
@@ -46,10 +46,10 @@ module _ {F J S X : Type 0} (g : Shared F (J × Unit {0}) X) (f : F) (session : 
   all_work clients (Err e) many gives = tt
 
 module _ {I J : Type 0} {D : I → Type 0} {E : J → Type 0} where
-  pub as_many : (from left : OwnerState) (outside : List (Outside I J D E)) (sessions : List (Session I J D E)) → AreGivenOut from left outside sessions → length sessions ≡ length outside
+  pub as_many : (from left : CacheOwnerState) (outside : List (Outside I J D E)) (sessions : List (Session I J D E)) → AreGivenOut from left outside sessions → length sessions ≡ length outside
   as_many from left outside sessions are = sym (length-map sessions (λ (s : Session I J D E). s.agent.hands.outside)) ∙ ap length are.boxes
 
-  pub all_given : (config : Config) (opened left : OwnerState) (outside : List (Outside I J D E)) (sessions : List (Session I J D E)) → OpensWith true config [] opened → AreGivenOut opened left outside sessions
+  pub all_given : (config : Config) (opened left : CacheOwnerState) (outside : List (Outside I J D E)) (sessions : List (Session I J D E)) → OpensWith true config [] opened → AreGivenOut opened left outside sessions
       → left ≡ record opened { given = length outside }
   all_given config opened left outside sessions opens are =
       let many = as_many opened left outside sessions are in
@@ -57,22 +57,22 @@ module _ {I J : Type 0} {D : I → Type 0} {E : J → Type 0} where
       let given : opened.given + length sessions ≡ length outside = omega arith in
       are.owner ∙ ap (λ (n : ℕ). record opened { given = n }) given
 
-  pub not_enlisted : (config : Config) (opened left : OwnerState) (outside : List (Outside I J D E)) (refusal : Refusal) → OpensWith true config [] opened → IsNotEnlisted opened left outside refusal → IsServeRefusal config outside refusal
+  pub not_enlisted : (config : Config) (opened left : CacheOwnerState) (outside : List (Outside I J D E)) (refusal : Refusal) → OpensWith true config [] opened → IsNotEnlisted opened left outside refusal → IsServeRefusal config outside refusal
   not_enlisted config opened left outside refusal opens is = record { why = inr (inr (opened, left, opens, inl is)) }
 
-  pub not_ended : (config : Config) (opened owner left : OwnerState) (outside : List (Outside I J D E)) (sessions : List (Session I J D E)) (refusal : Refusal) → OpensWith true config [] opened → AreGivenOut opened owner outside sessions
+  pub not_ended : (config : Config) (opened owner left : CacheOwnerState) (outside : List (Outside I J D E)) (sessions : List (Session I J D E)) (refusal : Refusal) → OpensWith true config [] opened → AreGivenOut opened owner outside sessions
       → IsEndRefusal refusal owner left → IsServeRefusal config outside refusal
   not_ended config opened owner left outside sessions refusal opens are why =
-      record { why = inr (inr (opened, left, opens, inr (subst (λ (o : OwnerState). IsEndRefusal refusal o left) (all_given config opened owner outside sessions opens are) why))) }
+      record { why = inr (inr (opened, left, opens, inr (subst (λ (o : CacheOwnerState). IsEndRefusal refusal o left) (all_given config opened owner outside sessions opens are) why))) }
 
-  are_new : (owner : OwnerState) (number : ℕ) (sessions : List (Session I J D E)) → All (λ (s : Session I J D E). (s.agent.counts.own ≡ 0) × BeginsAt owner s) sessions → HaveNumbers number sessions
+  are_new : (owner : CacheOwnerState) (number : ℕ) (sessions : List (Session I J D E)) → All (λ (s : Session I J D E). (s.agent.counts.own ≡ 0) × BeginsAt owner s) sessions → HaveNumbers number sessions
       → map client_state sessions ≡ new_clients number (length sessions)
   are_new owner number [] fresh numbers = refl
   are_new owner number (s ∷ sessions) fresh numbers =
       let none = (fresh 0 s (omega arith)).0 in
       λ i. record { caller = numbers.0 i; own = none i } ∷ are_new owner (number + 1) sessions (λ k d low. fresh (suc k) d (omega arith)) numbers.1 i
 
-  pub have_worked : {X : Type 0} (works : ClientState → X → ClientState → Type 0) (config : Config) (opened left : OwnerState) (outside : List (Outside I J D E)) (sessions seen : List (Session I J D E)) (returned : List X)
+  pub have_worked : {X : Type 0} (works : ClientState → X → ClientState → Type 0) (config : Config) (opened left : CacheOwnerState) (outside : List (Outside I J D E)) (sessions seen : List (Session I J D E)) (returned : List X)
       → OpensWith true config [] opened → AreGivenOut opened left outside sessions → seen ≡ sessions → WorksEach works (map client_state seen) returned → WorksEach works (new_clients 0 (length outside)) returned
   have_worked works config opened left outside sessions seen returned opens are same each =
       let new : map client_state seen ≡ new_clients 0 (length outside) =

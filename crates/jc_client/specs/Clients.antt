@@ -18,7 +18,7 @@ use Rattle.jc_types.specs.Limits.{check}
 use Rattle.jc_outside.specs.declared.hands.Outside.{Outside}
 use Rattle.jc_stripe.specs.State.{State}
 use Rattle.jc_session.specs.declared.session.Session.{Session}
-use Rattle.jc_cache.specs.Caches.{OpensWith, OwnerState}
+use Rattle.jc_cache.specs.Caches.{CacheOwnerState, OpensWith}
 use Rattle.jc_cache.specs.Closing.{AreClosed, IsEndRefusal}
 use Rattle.jc_cache.specs.Enlisting.{IsNotEnlisted}
 
@@ -48,7 +48,7 @@ module _ {X : Type 0} (works : ClientState → X → ClientState → Type 0) whe
 
   -- `brought` is how many have brought a loader or a writer, or nothing
   pub record HasServed (config : Config) (brought : ℕ) (stripes : List State) (returned : List X) : Type 0 where
-    pub opened : OwnerState
+    pub opened : CacheOwnerState
     pub opens : OpensWith true config [] opened
     pub closed : AreClosed (record opened { given = brought }) stripes
     pub each : WorksEach (new_clients 0 brought) returned
@@ -56,5 +56,5 @@ module _ {X : Type 0} (works : ClientState → X → ClientState → Type 0) whe
 pub record IsServeRefusal {I J : Type 0} {D : I → Type 0} {E : J → Type 0} (config : Config) (outside : List (Outside I J D E)) (refusal : Refusal) : Type 0 where
   pub why : (check config ≡ Err refusal)
       ⊎ ((refusal ≡ OutOfMemory)
-      ⊎ ((opened : OwnerState) × (left : OwnerState) × OpensWith true config [] opened
+      ⊎ ((opened : CacheOwnerState) × (left : CacheOwnerState) × OpensWith true config [] opened
       × (IsNotEnlisted opened left outside refusal ⊎ IsEndRefusal refusal (record opened { given = length outside }) left)))

@@ -18,7 +18,7 @@
 --     ExploreIsRight            `explore` alone is right, and asks for 200,000 states; with its option it asks for that number of
 --                               states
 --     is_too_much               a plan has more increments than one history has room for, and its cache doesn't live on
---     AsksFor                   these words are right, and ask for threads by this plan
+--     AsksForThreads            these words are right, and ask for threads by this plan
 --     ThreadsIsRight            `threads` with both required options is right, in any order of them, and asks for these numbers
 --                               of threads and rounds; so it is with the third option
 --     OptionMissingIsWrong      `threads` without one of the two required options is wrong
@@ -127,14 +127,14 @@ ExploreIsRight = (name : List ℕ)
 abbrev pub is_too_much : Plan → Bool
 is_too_much plan = is_none plan.history && nat_lt INCREMENTS_MAX (plan.workers * plan.rounds)
 
-abbrev pub AsksFor : List (List ℕ) → Plan → Type 0
-AsksFor words plan = (faults_at words ≡ []) × ((t : Task) → IsAsked (subcommand_at words) t → t ≡ task.Threads plan)
+abbrev pub AsksForThreads : List (List ℕ) → Plan → Type 0
+AsksForThreads words plan = (faults_at words ≡ []) × ((t : Task) → IsAsked (subcommand_at words) t → t ≡ task.Threads plan)
 
 abbrev pub ThreadsIsRight : Type 0
 ThreadsIsRight = (name : List ℕ)
-    → AsksFor (name ∷ codes "threads" ∷ codes "--workers" ∷ codes "4" ∷ codes "--rounds" ∷ codes "100" ∷ []) (record { workers = 4; rounds = 100; history = None })
-    × AsksFor (name ∷ codes "threads" ∷ codes "--rounds=10000" ∷ codes "--workers=31" ∷ []) (record { workers = 31; rounds = 10000; history = None })
-    × AsksFor (name ∷ codes "threads" ∷ codes "--rounds=10000" ∷ codes "--workers=31" ∷ codes "--history=16" ∷ []) (record { workers = 31; rounds = 10000; history = Some 16 })
+    → AsksForThreads (name ∷ codes "threads" ∷ codes "--workers" ∷ codes "4" ∷ codes "--rounds" ∷ codes "100" ∷ []) (record { workers = 4; rounds = 100; history = None })
+    × AsksForThreads (name ∷ codes "threads" ∷ codes "--rounds=10000" ∷ codes "--workers=31" ∷ []) (record { workers = 31; rounds = 10000; history = None })
+    × AsksForThreads (name ∷ codes "threads" ∷ codes "--rounds=10000" ∷ codes "--workers=31" ∷ codes "--history=16" ∷ []) (record { workers = 31; rounds = 10000; history = Some 16 })
 
 abbrev pub OptionMissingIsWrong : Type 0
 OptionMissingIsWrong = (name : List ℕ)

@@ -29,7 +29,7 @@ use Rattle.jc_engine.specs.Calls.{TriesTo}
 use Rattle.jc_engine.specs.Doors.{IsAgain}
 use Rattle.jc_engine.specs.Needs.{BeginsIfClear, StartsBy}
 use Rattle.jc_engine.specs.Turns.{AreRejoins, EndsBy, IsBegunRow, IsCallRow, StartWaits, picking, starting, trying}
-use Rattle.jc_engine.specs.declared.first.First.{First}
+use Rattle.jc_engine.specs.declared.first.BeginCall.{BeginCall}
 use Rattle.jc_engine.specs.declared.first.How.{How}
 use Rattle.jc_engine.specs.declared.first.How.TheVariants.{Waits, Alone}
 use Rattle.jc_engine.specs.Stays.{begins-stays}
@@ -42,29 +42,29 @@ module _ (caller : Caller) (key : Bytes) (op : Op) where
   abbrev pub done_row : (b : Begun) (ended : Result Reply Refusal) (row : List (State × State)) → IsBegunRow caller key op b row → EndsBy b nothing_said ended [] → IsCallRow caller key op nothing_said ended row
   done_row b ended row x ends = record { begun = b; start = row; last = []; row_is = sym (append-nil row); begins = x; ends = ends }
 
-abbrev first_of : Caller → Bor Bytes → Bor Op → How → First
+abbrev first_of : Caller → Bor Bytes → Bor Op → How → BeginCall
 first_of caller key op how = record { caller = caller; key = key; op = op; how = how }
 
-pub fits_first : (first : First) (caller : Caller) (key : Bor Bytes) (op : Bor Op) (how : How) (a : State) → first ≡ first_of caller key op how → BeginsIfClear caller key.now a → BeginsIfClear first.caller first.key.now a
-fits_first first caller key op how a is needs = subst (λ (p : First). BeginsIfClear p.caller p.key.now a) (sym is) needs
+pub fits_first : (first : BeginCall) (caller : Caller) (key : Bor Bytes) (op : Bor Op) (how : How) (a : State) → first ≡ first_of caller key op how → BeginsIfClear caller key.now a → BeginsIfClear first.caller first.key.now a
+fits_first first caller key op how a is needs = subst (λ (p : BeginCall). BeginsIfClear p.caller p.key.now a) (sym is) needs
 
-abbrev as_first : First → Begun → Turn
+abbrev as_first : BeginCall → Begun → Turn
 as_first p b = turn_of (StartWaits p.how p.caller p.key.now p.op.now) (StartsBy p.how p.caller p.key.now p.op.now b)
 
-pub starts_by : {G T : Type 0} (takes gives : G → T → State → G → T → Type 0) (finds : G → T → State → Type 0) (caller : Caller) (key : Bor Bytes) (op : Bor Op) (n : ℕ) (first : First) (who : Caller) (b : Begun) (g : G) (t : T) (h : G) (u : T)
+pub starts_by : {G T : Type 0} (takes gives : G → T → State → G → T → Type 0) (finds : G → T → State → Type 0) (caller : Caller) (key : Bor Bytes) (op : Bor Op) (n : ℕ) (first : BeginCall) (who : Caller) (b : Begun) (g : G) (t : T) (h : G) (u : T)
     → n ≡ caller.session → who ≡ caller → first ≡ first_of who key op Waits
     → LentPhase takes gives finds n g t (as_first first b) h u → LentPhase takes gives finds caller.session g t (starting caller key.now op.now b) h u
 starts_by takes gives finds caller key op n first who b g t h u session same is x =
     lent_map takes gives finds caller.session g t (as_first (first_of caller key op Waits) b) (starting caller key.now op.now b) h u (λ x y waits. inl waits) (λ x y makes. makes)
     (subst (λ (c : Caller). LentPhase takes gives finds caller.session g t (as_first (first_of c key op Waits) b) h u) same
-    (subst (λ (p : First). LentPhase takes gives finds caller.session g t (as_first p b) h u) is
+    (subst (λ (p : BeginCall). LentPhase takes gives finds caller.session g t (as_first p b) h u) is
     (subst (λ (m : ℕ). LentPhase takes gives finds m g t (as_first first b) h u) session x)))
 
-pub tried_by : {G T : Type 0} (takes gives : G → T → State → G → T → Type 0) (finds : G → T → State → Type 0) (misses : G → T → G → T → Type 0) (caller : Caller) (key : Bor Bytes) (op : Bor Op) (first : First) (one other : Started) (reply : Reply) (g : G) (t : T) (h : G) (u : T)
+pub tried_by : {G T : Type 0} (takes gives : G → T → State → G → T → Type 0) (finds : G → T → State → Type 0) (misses : G → T → G → T → Type 0) (caller : Caller) (key : Bor Bytes) (op : Bor Op) (first : BeginCall) (one other : Started) (reply : Reply) (g : G) (t : T) (h : G) (u : T)
     → first ≡ first_of caller key op Alone → one ≡ other → (lent : LentPhase takes gives finds caller.session g t (as_first first (begun_with one reply)) h u) × IsAgain lent.did.waits
     → TriesTo takes gives finds misses caller key.now op.now g t (begun_with other reply) h u
 tried_by takes gives finds misses caller key op first one other reply g t h u is same x =
-    let y = subst (λ (p : First). (lent : LentPhase takes gives finds caller.session g t (as_first p (begun_with one reply)) h u) × IsAgain lent.did.waits) is x in
+    let y = subst (λ (p : BeginCall). (lent : LentPhase takes gives finds caller.session g t (as_first p (begun_with one reply)) h u) × IsAgain lent.did.waits) is x in
     let z = subst (λ (s : Started). (lent : LentPhase takes gives finds caller.session g t (trying caller key.now op.now (begun_with s reply)) h u) × IsAgain lent.did.waits) same y in
     record { lent = z.0; again = z.1 }
 

@@ -11,7 +11,7 @@ ghost use Rattle.jc_engine.specs.Entering.{counts_entered};
 ghost use Rattle.jc_engine.specs.Turns.{picking};
 
 use crate::access::Access;
-use crate::first::{First, How};
+use crate::first::{BeginCall, How};
 use crate::joining::PickUp;
 use crate::laws::one_lending;
 use jc_gate::Gate;
@@ -47,7 +47,7 @@ impl<'a, G: Gate> Access<'a, G> {
     {
         one_lending();
         for _ in rt.forever() {
-            let first = First::of(self.agent, key, op, How::Waits);
+            let first = BeginCall::of(self.agent, key, op, How::Waits);
             match self.lend(rt, first, reply) {
                 Started::Done(_step) => return Ok(None),
                 Started::Refused(refusal) => return Err(refusal),

@@ -57,7 +57,7 @@ fn is_waited_out(started: &Started) -> bool
 
 /// The first phase of a call. It runs once nothing on the stripe blocks it, and no generation has to end before it.
 #[derive(Drop)]
-pub struct First<'a> {
+pub struct BeginCall<'a> {
     /// The call.
     pub caller: Caller,
     /// Its key.
@@ -68,13 +68,13 @@ pub struct First<'a> {
     pub how: How,
 }
 
-impl<'a> First<'a> {
+impl<'a> BeginCall<'a> {
     /// The first phase of this agent's current call at a key.
     #[inline]
-    pub fn of(agent: &Agent, key: &'a Key, op: &'a Op, how: How) -> First<'a>
+    pub fn of(agent: &Agent, key: &'a Key, op: &'a Op, how: How) -> BeginCall<'a>
         ensures { result ≡ record { caller = agent.now.caller; key = key.entry; op = op.entry; how = how } }
     {
-        First {
+        BeginCall {
             caller: agent.caller(),
             key,
             op,
@@ -92,7 +92,7 @@ impl<'a> First<'a> {
     }
 }
 
-impl<'a> Phase for First<'a> {
+impl<'a> Phase for BeginCall<'a> {
     ghost use Rattle.std.specs.Prelude.{IsTrue};
     ghost use Rattle.jc_stripe.specs.Phases.{begun_with};
     ghost use Rattle.jc_session.specs.Counting.{counted_started};

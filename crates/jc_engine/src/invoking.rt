@@ -9,7 +9,7 @@ ghost use Rattle.jc_engine.specs.Doors.{IsReady, MakesCall};
 
 use crate::access::Access;
 use crate::ending::{Commit, Processed};
-use crate::first::{First, How};
+use crate::first::{BeginCall, How};
 use crate::laws::one_lending;
 use jc_gate::Gate;
 use jc_model::{Op, Reply};
@@ -57,7 +57,7 @@ impl<'a, G: Gate> Access<'a, G> {
             self.new.agent.now invocation.new.processor.now self.new.gate.now self.new.token.now) }
     {
         one_lending();
-        let first = First::of(self.agent, key, &Op::Invoke, How::Waits);
+        let first = BeginCall::of(self.agent, key, &Op::Invoke, How::Waits);
         match self.lend(rt, first, reply) {
             Started::Refused(refusal) => Err(refusal),
             Started::Asks(ticket) => {

@@ -30,7 +30,7 @@ mod trying;
 pub use access::Access;
 pub use door::Phase;
 pub use ending::{Answer, Commit, Processed, Withdraw};
-pub use first::{First, How};
+pub use first::{BeginCall, How};
 pub use invoking::Invocation;
 pub use joining::PickUp;
 pub use owned::{call_owned, invoke_owned};

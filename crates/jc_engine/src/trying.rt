@@ -8,7 +8,7 @@ ghost use Rattle.jc_engine.specs.Entering.{ended_with};
 ghost use Rattle.jc_engine.specs.Doors.{IsReady, MakesPhase};
 
 use crate::access::Access;
-use crate::first::{First, How};
+use crate::first::{BeginCall, How};
 use jc_gate::Gate;
 use jc_model::{Op, Reply};
 use jc_stripe::Started;
@@ -32,7 +32,7 @@ impl<'a, G: Gate> Access<'a, G> {
             (IsTried G.takes G.gives G.finds G.misses self.old.agent.now.caller key.now op.now
             self.old.gate.now self.old.token.now (ended_with result reply.new) self.new.gate.now self.new.token.now) }
     {
-        let first = First::of(self.agent, key, op, How::Alone);
+        let first = BeginCall::of(self.agent, key, op, How::Alone);
         match self.try_lend(first, reply) {
             Ok(started) => match started {
                 Started::Done(_step) => Ok(()),

@@ -1,5 +1,5 @@
 -- Scenes that are alike go on alike.
-use Rattle.jc_explore.proofs.Common.{◌≡◌, List, Option, None, Some, slice_get, sym, refl, ap, ◌∙◌, subst, Event, State, WorldEvent, WorldsGoOnAlike, EssencesTell, Run, WorldState, Move, Program, ThreadReply, Position, ScenesAlike, SceneState, Moves, events_of, events_at, positions_at, positions_after, replies_after}
+use Rattle.jc_explore.proofs.Common.{◌≡◌, List, Option, None, Some, slice_get, sym, refl, ap, ◌∙◌, subst, Event, State, WorldEvent, WorldsGoOnAlike, EssencesTell, Run, WorldState, Move, Program, ThreadReply, Position, ScenesAlike, SceneState, Moves, move_events, move_events_at, positions_at, positions_after, replies_after}
 use Rattle.jc_explore.proofs.Essences.{alike-essence}
 
 pub scenes-refl : (s : SceneState) → ScenesAlike s s
@@ -14,16 +14,16 @@ scenes-trans s t u h k = record { world = h.world ∙ k.world; positions = h.pos
 abbrev with_past : WorldState → List State → List Event → WorldState
 with_past w ss o = record w { stripes = ss; order = o }
 
-events-past : (p : Program) (w : WorldState) (ss : List State) (o : List Event) (m : Move) (position : Option Position) → events_at p (with_past w ss o) m position ≡ events_at p w m position
+events-past : (p : Program) (w : WorldState) (ss : List State) (o : List Event) (m : Move) (position : Option Position) → move_events_at p (with_past w ss o) m position ≡ move_events_at p w m position
 events-past p w ss o m None = refl
 events-past p w ss o m (Some position) = refl
 
-same_events : EssencesTell → (p : Program) (a b : SceneState) (m : Move) → ScenesAlike a b → events_of p b m ≡ events_of p a m
+same_events : EssencesTell → (p : Program) (a b : SceneState) (m : Move) → ScenesAlike a b → move_events p b m ≡ move_events p a m
 same_events tell p a b m h =
     let alike = tell a.world b.world h.world in
-    ap (λ (w : WorldState). events_at p w m (slice_get b.positions m.thread)) alike.is
+    ap (λ (w : WorldState). move_events_at p w m (slice_get b.positions m.thread)) alike.is
     ∙ events-past p a.world b.world.stripes b.world.order m (slice_get b.positions m.thread)
-    ∙ ap (λ (ps : List Position). events_at p a.world m (slice_get ps m.thread)) (sym h.positions)
+    ∙ ap (λ (ps : List Position). move_events_at p a.world m (slice_get ps m.thread)) (sym h.positions)
 
 same_positions : (a b : SceneState) (m : Move) → ScenesAlike a b → positions_after b m ≡ positions_after a m
 same_positions a b m h = ap (λ (ps : List Position). positions_at m ps (slice_get ps m.thread)) (sym h.positions)
@@ -32,9 +32,9 @@ same_positions a b m h = ap (λ (ps : List Position). positions_at m ps (slice_g
 pub moves-alike : EssencesTell → WorldsGoOnAlike → (p : Program) (a b c : SceneState) (m : Move) → ScenesAlike a b → Moves p a m c
     → (d : SceneState) × Moves p b m d × ScenesAlike c d
 moves-alike tell go p a b c m h one =
-    let made = go a.world b.world c.world (events_of p a m) one.seen (tell a.world b.world h.world) one.runs in
+    let made = go a.world b.world c.world (move_events p a m) one.seen (tell a.world b.world h.world) one.runs in
     let d : SceneState = record { world = made.0; positions = positions_after b m; replies = replies_after m.thread b.replies one.seen } in
-    let runs : Run b.world (events_of p b m) one.seen made.0 = subst (λ (es : List WorldEvent). Run b.world es one.seen made.0) (sym (same_events tell p a b m h)) made.1 in
+    let runs : Run b.world (move_events p b m) one.seen made.0 = subst (λ (es : List WorldEvent). Run b.world es one.seen made.0) (sym (same_events tell p a b m h)) made.1 in
     let moves : Moves p b m d = record { seen = one.seen; runs = runs; proper = one.proper; memory = one.memory; positions_are = refl; replies_are = refl } in
     let alike : ScenesAlike c d =
     record {

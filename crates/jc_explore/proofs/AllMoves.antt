@@ -1,5 +1,5 @@
 -- The moves of a program's threads are all that it can have.
-use Rattle.jc_explore.proofs.Common.{◌≡◌, ℕ, zero, suc, ◌+◌, ◌<◌, ◌≤◌, List, [], ◌∷◌, ◌++◌, length, replicate, true, Option, None, Some, is_some, slice_get, slice_set, sym, refl, ap, ◌∙◌, arith, true≢false, nat_lt, ◌⊎◌, inl, inr, Move, Program, Position, moves_of_thread, moves_up_to, SceneState, Moves, Plays, opening, has_session, have_sessions, positions_at, unbegun, IsAmong, and_parts, lt-ltb, stands_on}
+use Rattle.jc_explore.proofs.Common.{◌≡◌, ℕ, zero, suc, ◌+◌, ◌<◌, ◌≤◌, List, [], ◌∷◌, ◌++◌, length, replicate, true, Option, None, Some, is_some, slice_get, slice_set, sym, refl, ap, ◌∙◌, arith, true≢false, nat_lt, ◌⊎◌, inl, inr, Move, Program, Position, moves_of_thread, moves_up_to, SceneState, Moves, PlaysSchedule, opening, has_session, have_sessions, positions_at, unbegun, IsAmong, and_parts, lt-ltb, stands_on}
 use Rattle.jc_types.specs.declared.limits.TheConstants.{SESSIONS_MAX}
 use Rattle.jc_explore.specs.declared.moves.Act.{Act}
 use Rattle.jc_explore.specs.declared.moves.Act.TheVariants as act
@@ -78,7 +78,7 @@ positions-length m positions (Some position) = set-length positions m.thread _
 moves-length : (p : Program) (s : SceneState) (m : Move) (new : SceneState) → Moves p s m new → length new.positions ≡ length s.positions
 moves-length p s m new moves = ap (λ (ps : List Position). length ps) moves.positions_are ∙ positions-length m s.positions (slice_get s.positions m.thread)
 
-plays-length : (p : Program) (s last : SceneState) (ms : List Move) → Plays p s ms last → length last.positions ≡ length s.positions
+plays-length : (p : Program) (s last : SceneState) (ms : List Move) → PlaysSchedule p s ms last → length last.positions ≡ length s.positions
 plays-length p s last [] plays = ap (λ (x : SceneState). length x.positions) plays
 plays-length p s last (m ∷ ms) plays = plays-length p plays.0 last ms plays.2 ∙ moves-length p s m plays.0 plays.1
 
@@ -90,7 +90,7 @@ opened-length : (p : Program) → length (opening p).positions ≡ length p.thre
 opened-length p = rep-length (length p.threads.items) unbegun
 
 -- each move after a schedule is among those of the program's threads
-pub moves-among : (p : Program) (schedule : List Move) (s : SceneState) (m : Move) (new : SceneState) → Plays p (opening p) schedule s → Moves p s m new
+pub moves-among : (p : Program) (schedule : List Move) (s : SceneState) (m : Move) (new : SceneState) → PlaysSchedule p (opening p) schedule s → Moves p s m new
     → IsAmong (moves_up_to (length p.threads.items)) m
 moves-among p schedule s m new plays moves =
     is-among (length p.threads.items) m

@@ -1,5 +1,5 @@
 -- What is known is closed: wherever a run leads, something like it is known.
-use Rattle.jc_explore.proofs.Common.{◌≡◌, ℕ, ◌+◌, ◌<◌, List, [], ◌∷◌, ◌++◌, length, Some, slice_get, sym, ap, ◌∙◌, subst, inl, inr, arith, slice_get-get_or, slice_get_within, WorldsGoOnAlike, RunsAreDetermined, EssencesTell, KnownState, Move, Program, Finding, IsEnd, IsFound, HasEachOutcome, FinalValue, IsFinal, ScenesAlike, moves_up_to, SceneState, Moves, Plays, opening, GoesOn, Grows, HasEachKnown, IsClosedAt, IsClosedUpTo, IsKnown, KeepsMoves, LeadsLike, StaysAt, WasFollowed}
+use Rattle.jc_explore.proofs.Common.{◌≡◌, ℕ, ◌+◌, ◌<◌, List, [], ◌∷◌, ◌++◌, length, Some, slice_get, sym, ap, ◌∙◌, subst, inl, inr, arith, slice_get-get_or, slice_get_within, WorldsGoOnAlike, RunsAreDetermined, EssencesTell, KnownState, Move, Program, Finding, IsEnd, IsFound, HasEachOutcome, FinalValue, IsFinal, ScenesAlike, moves_up_to, SceneState, Moves, PlaysSchedule, opening, HasNextMove, Continues, HasEachKnown, IsClosedSchedule, IsClosedUpTo, IsKnown, KeepsMoves, LeadsLike, StaysAt, WasFollowed}
 use Rattle.jc_explore.proofs.AlikeScenes.{scenes-sym, moves-alike}
 use Rattle.jc_explore.proofs.AllMoves.{eq_or_less, moves-among}
 use Rattle.jc_explore.proofs.Finals.{final-alike}
@@ -17,9 +17,9 @@ abbrev AreKept : Program → SceneState → List Move → Type 0
 AreKept p s kept = KeepsMoves p s (moves_up_to (length p.threads.items)) kept
 
 -- a move from a scene like that of a schedule is one of those that were kept there, and leads to a like scene
-kept-goes : Laws → (p : Program) (schedule kept : List Move) (w s : SceneState) (m : Move) (new : SceneState) → Plays p (opening p) schedule w → AreKept p w kept
+kept-goes : Laws → (p : Program) (schedule kept : List Move) (w s : SceneState) (m : Move) (new : SceneState) → PlaysSchedule p (opening p) schedule w → AreKept p w kept
     → LeadsLike p schedule s → Moves p s m new
-    → (k : ℕ) × (slice_get kept k ≡ Some m) × (d : SceneState) × Plays p (opening p) (schedule ++ m ∷ []) d × ScenesAlike new d
+    → (k : ℕ) × (slice_get kept k ≡ Some m) × (d : SceneState) × PlaysSchedule p (opening p) (schedule ++ m ∷ []) d × ScenesAlike new d
 kept-goes laws p schedule kept w s m new plays keeps leads moves =
     let same : leads.0 ≡ w = plays-determined laws.det p (opening p) leads.0 w schedule leads.1 plays in
     let there = moves-alike laws.tell laws.go p s leads.0 new m leads.2 moves in
@@ -27,7 +27,7 @@ kept-goes laws p schedule kept w s m new plays keeps leads moves =
     let among = keeps.each m there.0 (moves-among p schedule w m there.0 plays here) here in
     (among.0, among.1, there.0, plays-push p (opening p) w there.0 schedule m plays here, there.2)
 
-pub closed-goes : Laws → (p : Program) (schedule kept : List Move) (known : List KnownState) (w : SceneState) → Plays p (opening p) schedule w → AreKept p w kept
+pub closed-goes : Laws → (p : Program) (schedule kept : List Move) (known : List KnownState) (w : SceneState) → PlaysSchedule p (opening p) schedule w → AreKept p w kept
     → ((k : ℕ) → k < length kept → WasFollowed p kept schedule known k)
     → (s : SceneState) → LeadsLike p schedule s → (m : Move) (new : SceneState) → Moves p s m new → IsKnown p known new
 closed-goes laws p schedule kept known w plays keeps followed s leads m new moves =
@@ -35,15 +35,15 @@ closed-goes laws p schedule kept known w plays keeps followed s leads m new move
     known-like p known new on.2 on.4 (followed on.0 (slice_get_within kept on.0 m on.1) m on.1 on.2 on.3)
 
 -- if a move is one, no scene like it is an end
-pub on-no-end : Laws → (p : Program) (schedule kept : List Move) (s : SceneState) → GoesOn p kept schedule → LeadsLike p schedule s → IsEnd p s → ⊥
+pub on-no-end : Laws → (p : Program) (schedule kept : List Move) (s : SceneState) → HasNextMove p kept schedule → LeadsLike p schedule s → IsEnd p s → ⊥
 on-no-end laws p schedule kept s on leads end =
     let last = plays-from laws.det p (opening p) leads.0 on.new schedule (on.step ∷ []) leads.1 on.plays in
     let there = moves-alike laws.tell laws.go p leads.0 s last.0 on.step (scenes-sym s leads.0 leads.2) last.1 in
     end on.step there.0 there.1
 
 -- if none is, each scene to which the schedule leads is an end
-pub stays-end : Laws → (p : Program) (schedule kept : List Move) (w v : SceneState) → Plays p (opening p) schedule w → AreKept p w kept
-    → ((k : ℕ) → k < length kept → StaysAt p kept schedule k) → Plays p (opening p) schedule v → IsEnd p v
+pub stays-end : Laws → (p : Program) (schedule kept : List Move) (w v : SceneState) → PlaysSchedule p (opening p) schedule w → AreKept p w kept
+    → ((k : ℕ) → k < length kept → StaysAt p kept schedule k) → PlaysSchedule p (opening p) schedule v → IsEnd p v
 stays-end laws p schedule kept w v plays keeps none again m new moves =
     let same : v ≡ w = plays-determined laws.det p (opening p) v w schedule again plays in
     let here : Moves p w m new = subst (λ (x : SceneState). Moves p x m new) same moves in
@@ -51,7 +51,7 @@ stays-end laws p schedule kept w v plays keeps none again m new moves =
     none among.0 (slice_get_within kept among.0 m among.1) m among.1 new (plays-push p (opening p) w new schedule m plays here)
 
 -- and its final state is that of each scene like it
-pub end-found : Laws → (p : Program) (schedule : List Move) (found : List Finding) (w s : SceneState) (f : FinalValue) → Plays p (opening p) schedule w
+pub end-found : Laws → (p : Program) (schedule : List Move) (found : List Finding) (w s : SceneState) (f : FinalValue) → PlaysSchedule p (opening p) schedule w
     → ((g : FinalValue) → IsFinal w g → IsFound g found) → LeadsLike p schedule s → IsFinal s f → IsFound f found
 end-found laws p schedule found w s f plays there leads final =
     let same : leads.0 ≡ w = plays-determined laws.det p (opening p) leads.0 w schedule leads.1 plays in
@@ -59,16 +59,16 @@ end-found laws p schedule found w s f plays there leads final =
 
 -- 2. Lists that grow.
 
-pub closed-grown : (p : Program) (was known : List KnownState) (before found : List Finding) (schedule : List Move) → Grows was known → Grows before found
-    → IsClosedAt p was before schedule → IsClosedAt p known found schedule
+pub closed-grown : (p : Program) (was known : List KnownState) (before found : List Finding) (schedule : List Move) → Continues was known → Continues before found
+    → IsClosedSchedule p was before schedule → IsClosedSchedule p known found schedule
 closed-grown p was known before found schedule a b h =
     record {
       goes = λ s leads m new moves. known-grown p was known new a (h.goes s leads m new moves);
       ends = λ s f leads end final. found-grown before found f b (h.ends s f leads end final);
     }
 
-pub closed-more : (p : Program) (was now : List KnownState) (before found : List Finding) (k : ℕ) → Grows was now → Grows before found → k < length was
-    → IsClosedUpTo p was before k → ((m : KnownState) → slice_get was k ≡ Some m → IsClosedAt p now found m.schedule.items)
+pub closed-more : (p : Program) (was now : List KnownState) (before found : List Finding) (k : ℕ) → Continues was now → Continues before found → k < length was
+    → IsClosedUpTo p was before k → ((m : KnownState) → slice_get was k ≡ Some m → IsClosedSchedule p now found m.schedule.items)
     → IsClosedUpTo p now found (k + 1)
 closed-more p was now before found k grown more h closed here j m hj at =
     elim (eq_or_less j k hj) [
@@ -79,13 +79,13 @@ closed-more p was now before found k grown more h closed here j m hj at =
 -- 3. Whole runs.
 
 closed-known : (p : Program) (known : List KnownState) (found : List Finding) (s : SceneState) → IsClosedUpTo p known found (length known) → IsKnown p known s
-    → (schedule : List Move) × IsClosedAt p known found schedule × LeadsLike p schedule s
+    → (schedule : List Move) × IsClosedSchedule p known found schedule × LeadsLike p schedule s
 closed-known p known found s closed h =
     let at : slice_get known h.0 ≡ Some h.1 = slice_get-get_or known h.0 h.1 h.2 ∙ ap (λ (m : KnownState). Some m) h.3 in
     (h.1.schedule.items, closed h.0 h.1 h.2 at, h.4)
 
 runs-known : (p : Program) (known : List KnownState) (found : List Finding) (s last : SceneState) (ms : List Move) → IsClosedUpTo p known found (length known)
-    → IsKnown p known s → Plays p s ms last → IsKnown p known last
+    → IsKnown p known s → PlaysSchedule p s ms last → IsKnown p known last
 runs-known p known found s last [] closed here plays = subst (IsKnown p known) (sym plays) here
 runs-known p known found s last (m ∷ ms) closed here plays =
     let at = closed-known p known found s closed here in

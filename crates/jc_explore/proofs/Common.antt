@@ -7,12 +7,12 @@ pub use Rattle.std.proofs.lemmas.List.Quantifiers.{Any-push, all_pairs_push}
 pub use Rattle.std.proofs.lemmas.Option.{slice_get-get_or, slice_get_within}
 pub use Rattle.std.specs.List.{All, AllPairs, Any, fold}
 pub use borrow.Author.Tests.{eqb-false, eqb-true, lt-ltb}
-pub use Rattle.jc_explore.specs.Explored.{AreDistinct, AreFollowed, AreShortest, AreUnlike, AreWitnessed, HasEachOutcome, HasEachScene, IsAmongScenes, IsCounted, IsEnd, IsFound, IsReached, IsShortest, IsWhole}
+pub use Rattle.jc_explore.specs.Explored.{AreDistinct, AreFollowed, AreShortest, AreUnlike, AreWitnessed, CountsScenes, HasEachOutcome, HasEachScene, IsAmongScenes, IsEnd, IsFound, IsReachedScene, IsShortest, IsWholeSchedule}
 pub use Rattle.jc_explore.specs.Final.{FinalValue, IsFinal, final_of}
-pub use Rattle.jc_explore.specs.Keys.{HasPlace, HaveOneKey, IsKeyOf, KeyValue, ScenesAlike, fingerprint_of_key, fingerprint_of_value, print_with, print_with_position, print_with_reply}
+pub use Rattle.jc_explore.specs.Keys.{HasPlace, HaveOneKey, IsKeyOf, KeyValue, ScenesAlike, fingerprint_of_key, fingerprint_of_value, key_print_with, print_with_position, print_with_reply}
 pub use Rattle.jc_explore.specs.Moves.{moves_of_thread, moves_up_to}
-pub use Rattle.jc_explore.specs.Schedule.{Moves, Plays, SceneState, events_at, events_of, has_number_for, has_session, have_sessions, is_proper, opening, position_after, positions_after, positions_at, replies_after, state_of, unbegun, with_all_stored}
-pub use Rattle.jc_explore.specs.Search.{Adds, AreAsLong, AreKnown, AreNew, GoesOn, Grows, HasEachKnown, HavePlaces, HavePrints, IsAmong, IsClosedAt, IsClosedUpTo, IsKeyAt, IsKnown, IsKnownBy, IsSearchOf, KeepsMoves, LeadsLike, StaysAt, WasFollowed, kept_if}
+pub use Rattle.jc_explore.specs.Schedule.{Moves, PlaysSchedule, SceneState, has_number_for, has_session, have_sessions, is_proper, move_events, move_events_at, opening, position_after, positions_after, positions_at, replies_after, scene_state, unbegun, with_all_stored}
+pub use Rattle.jc_explore.specs.Search.{Adds, AreAsLong, AreKnown, AreNew, HasEachKnown, HasNextMove, HavePlaces, HavePrints, IsAmong, IsClosedSchedule, IsClosedUpTo, IsKeyAt, IsKnown, IsKnownBy, IsSearchOf, KeepsMoves, LeadsLike, StaysAt, WasFollowed, kept_if}
 pub use Rattle.jc_explore.specs.declared.key.StateKey.{StateKey}
 pub use Rattle.jc_explore.specs.declared.known.KnownState.{KnownState}
 pub use Rattle.jc_explore.specs.declared.known.States.{States}
@@ -26,6 +26,7 @@ pub use Rattle.jc_explore.specs.declared.search.TheConstants.{OUTCOMES_MAX}
 pub use Rattle.jc_model.specs.Cache.{Bytes, Cache, entry_at}
 pub use Rattle.jc_model.specs.declared.event.Event.{Event}
 pub use Rattle.jc_snapshot.specs.Laws.{HasOneSnapshot, SnapshotsStay, SnapshotsTell}
+pub use Rattle.jc_snapshot.specs.Numbers.{Continues}
 pub use Rattle.jc_snapshot.specs.Snapshot.{GrowsTo, IsSnapshot}
 pub use Rattle.jc_snapshot.specs.declared.seen.Seen.{Seen}
 pub use Rattle.jc_stripe.specs.State.{State}

@@ -1,12 +1,12 @@
 -- The states that are known are as many scenes, no two of them alike.
-use Rattle.jc_explore.proofs.Common.{◌≡◌, ℕ, zero, suc, ◌<◌, ◌⊎◌, List, [], ◌∷◌, length, Some, slice_get, get_or, sym, refl, ap, ◌∙◌, subst, arith, true, false, inl, inr, slice_get_within, All, AllPairs, RunsAreDetermined, WorldEssence, essence_of_world, Seen, HasOneSnapshot, IsSnapshot, StateKey, KnownState, States, Program, Finding, OUTCOMES_MAX, AreFollowed, AreUnlike, HasEachScene, IsAmongScenes, IsCounted, IsReached, ScenesAlike, IsKeyOf, HaveOneKey, SceneState, Plays, opening, AreKnown, HasEachKnown, IsClosedUpTo, IsKnown, IsKnownBy, LeadsLike}
+use Rattle.jc_explore.proofs.Common.{◌≡◌, ℕ, zero, suc, ◌<◌, ◌⊎◌, List, [], ◌∷◌, length, Some, slice_get, get_or, sym, refl, ap, ◌∙◌, subst, arith, true, false, inl, inr, slice_get_within, All, AllPairs, RunsAreDetermined, WorldEssence, essence_of_world, Seen, HasOneSnapshot, IsSnapshot, StateKey, KnownState, States, Program, Finding, OUTCOMES_MAX, AreFollowed, AreUnlike, HasEachScene, IsAmongScenes, CountsScenes, IsReachedScene, ScenesAlike, IsKeyOf, HaveOneKey, SceneState, PlaysSchedule, opening, AreKnown, HasEachKnown, IsClosedUpTo, IsKnown, IsKnownBy, LeadsLike}
 use Rattle.jc_explore.specs.declared.search.Explored.{Explored}
 use Rattle.jc_explore.proofs.AlikeScenes.{scenes-refl}
 use Rattle.jc_explore.proofs.Runs.{plays-determined}
 use Rattle.jc_explore.proofs.Searching.{same-at, there-at}
 
 pub record IsSceneOf (p : Program) (seen : Seen) (k : KnownState) (s : SceneState) : Type 0 where
-  pub plays : Plays p (opening p) k.schedule.items s
+  pub plays : PlaysSchedule p (opening p) k.schedule.items s
   pub key : IsKeyOf seen k.key s
 
 -- the scene at a place is that of the state there
@@ -62,7 +62,7 @@ scenes-unlike p states scenes only known are i j e below inside like =
     apart-at known_list i j a.0 b.0 below within a.1 b.1 known.apart
     (one-key states.seen only a.0.key b.0.key (get_or scenes i e) (get_or scenes j e) a.2.key b.2.key like)
 
-scenes-reached : (p : Program) (seen : Seen) (known : List KnownState) (scenes : List SceneState) → AreScenesOf p seen known scenes → All (λ (s : SceneState). IsReached p s) scenes
+scenes-reached : (p : Program) (seen : Seen) (known : List KnownState) (scenes : List SceneState) → AreScenesOf p seen known scenes → All (λ (s : SceneState). IsReachedScene p s) scenes
 scenes-reached p seen known scenes are i e h =
     let a = are.at i e (omega (arith, h, are.as_many)) in
     (a.0.schedule.items, a.2.plays)
@@ -75,7 +75,7 @@ known-among det p seen known scenes are s h =
     let inside : h.0 < length scenes = omega (arith, h.2, are.as_many) in
     let here : SceneState = get_or scenes h.0 s in
     let is : a.0 ≡ h.1 = sym (same-at known h.0 h.1 a.0 h.2 a.1) ∙ h.3 in
-    let plays : Plays p (opening p) h.1.schedule.items here = subst (λ (k : KnownState). Plays p (opening p) k.schedule.items here) is a.2.plays in
+    let plays : PlaysSchedule p (opening p) h.1.schedule.items here = subst (λ (k : KnownState). PlaysSchedule p (opening p) k.schedule.items here) is a.2.plays in
     let same : h.4.0 ≡ here = plays-determined det p (opening p) h.4.0 here h.1.schedule.items h.4.1 plays in
     (h.0, here, inside, same-at scenes h.0 here here inside (there-at scenes h.0 s inside), subst (λ (t : SceneState). ScenesAlike s t) same h.4.2)
 
@@ -87,7 +87,7 @@ scenes-followed : RunsAreDetermined → (p : Program) (seen : Seen) (known : Lis
 scenes-followed det p seen known scenes found count are closed k s below at =
     let inside : k < length scenes = slice_get_within scenes k s at in
     let a = are.at k s (omega (arith, inside, are.as_many)) in
-    let plays : Plays p (opening p) a.0.schedule.items s = subst (λ (t : SceneState). Plays p (opening p) a.0.schedule.items t) (same-at scenes k s s inside at) a.2.plays in
+    let plays : PlaysSchedule p (opening p) a.0.schedule.items s = subst (λ (t : SceneState). PlaysSchedule p (opening p) a.0.schedule.items t) (same-at scenes k s s inside at) a.2.plays in
     let leads : LeadsLike p a.0.schedule.items s = (s, plays, scenes-refl s) in
     let here = closed k a.0 below a.1 in
     record {
@@ -98,7 +98,7 @@ scenes-followed det p seen known scenes found count are closed k s below at =
 pub are-counted : RunsAreDetermined → (p : Program) (budget : ℕ) (states : States) (r : Explored) → HasOneSnapshot states.seen → AreKnown p states → r.states ≡ length states.list.items
     → (r.is_whole ≡ true → HasEachKnown p states.list.items)
     → (r.is_whole ≡ false → (OUTCOMES_MAX < length r.found.items) ⊎ IsClosedUpTo p states.list.items r.found.items budget)
-    → IsCounted p budget r
+    → CountsScenes p budget r
 are-counted det p budget states r only known count each closed =
     let made = scenes-of p states.seen states.list.items known.each in
     record {

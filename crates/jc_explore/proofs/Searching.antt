@@ -1,5 +1,5 @@
 -- What is known grows, and what is like something known is known.
-use Rattle.jc_explore.proofs.Common.{◌≡◌, ℕ, zero, suc, ◌+◌, ◌<◌, List, [], ◌∷◌, ◌++◌, length, Bool, true, false, Some, None, Option, is_some, slice_get, sym, refl, ap, ◌∙◌, subst, arith, true≢false, append_assoc, inl, inr, append-nil, get_or-map, length-map, map-append, length-append, get_or, map, ◌||◌, All, AllPairs, Any, get_or_append_left, slice_get-get_or, slice_get_within, All-push, Any-push, and_parts, StateKey, KnownState, States, Move, Program, Finding, IsFound, FinalValue, final_of, ScenesAlike, IsKeyOf, HaveOneKey, HasPlace, fingerprint_of_key, fingerprint_of_value, SceneState, Moves, Plays, opening, has_session, have_sessions, AreKnown, Grows, HavePlaces, HavePrints, IsAmong, IsKeyAt, IsKnown, IsKnownBy, LeadsLike, StaysAt, WasFollowed, kept_if, Seen, SnapshotsTell}
+use Rattle.jc_explore.proofs.Common.{◌≡◌, ℕ, zero, suc, ◌+◌, ◌<◌, List, [], ◌∷◌, ◌++◌, length, Bool, true, false, Some, None, Option, is_some, slice_get, sym, refl, ap, ◌∙◌, subst, arith, true≢false, append_assoc, inl, inr, append-nil, get_or-map, length-map, map-append, length-append, get_or, map, ◌||◌, All, AllPairs, Any, get_or_append_left, slice_get-get_or, slice_get_within, All-push, Any-push, and_parts, StateKey, KnownState, States, Move, Program, Finding, IsFound, FinalValue, final_of, ScenesAlike, IsKeyOf, HaveOneKey, HasPlace, fingerprint_of_key, fingerprint_of_value, SceneState, Moves, PlaysSchedule, opening, has_session, have_sessions, AreKnown, Continues, HavePlaces, HavePrints, IsAmong, IsKeyAt, IsKnown, IsKnownBy, LeadsLike, StaysAt, WasFollowed, kept_if, Seen, SnapshotsTell}
 use Rattle.jc_explore.specs.declared.places.Places.{Places}
 use Rattle.jc_explore.proofs.Keys.{tell-alike}
 use Rattle.jc_explore.proofs.AllMoves.{among-front, among-last, eq_or_less, sessions-push}
@@ -10,19 +10,19 @@ use Rattle.jc_explore.proofs.AlikeScenes.{scenes-refl, scenes-sym, scenes-trans}
 any-more : {X : Type 0} (P : X → Type 0) (xs ys : List X) → Any P xs → Any P (xs ++ ys)
 any-more P xs ys h = (h.0, h.1, omega (arith, length-append xs ys, h.2), get_or_append_left xs ys h.1 h.0 h.2 ∙ h.3, h.4)
 
-pub any-grown : {X : Type 0} (P : X → Type 0) (xs zs : List X) → Grows xs zs → Any P xs → Any P zs
+pub any-grown : {X : Type 0} (P : X → Type 0) (xs zs : List X) → Continues xs zs → Any P xs → Any P zs
 any-grown P xs zs grown h = subst (Any P) (sym grown.1) (any-more P xs grown.0 h)
 
-pub grows-refl : {X : Type 0} (xs : List X) → Grows xs xs
+pub grows-refl : {X : Type 0} (xs : List X) → Continues xs xs
 grows-refl xs = ([], sym (append-nil xs))
 
-pub known-grown : (p : Program) (old new : List KnownState) (s : SceneState) → Grows old new → IsKnown p old s → IsKnown p new s
+pub known-grown : (p : Program) (old new : List KnownState) (s : SceneState) → Continues old new → IsKnown p old s → IsKnown p new s
 known-grown p old new s grown h = any-grown (λ (k : KnownState). LeadsLike p k.schedule.items s) old new grown h
 
-pub found-grown : (old new : List Finding) (f : FinalValue) → Grows old new → IsFound f old → IsFound f new
+pub found-grown : (old new : List Finding) (f : FinalValue) → Continues old new → IsFound f old → IsFound f new
 found-grown old new f grown h = any-grown (λ (x : Finding). final_of x.state ≡ f) old new grown h
 
-pub grows-twice : {X : Type 0} (xs ys zs : List X) → Grows xs ys → Grows ys zs → Grows xs zs
+pub grows-twice : {X : Type 0} (xs ys zs : List X) → Continues xs ys → Continues ys zs → Continues xs zs
 grows-twice {X = X} xs ys zs a b = (a.0 ++ b.0, b.1 ∙ ap (λ (l : List X). l ++ b.0) a.1 ∙ append_assoc xs a.0 b.0)
 
 -- 2. What is like something known is known.
@@ -88,7 +88,7 @@ prints-push known now one prints more n was longer is pushed =
     longer ∙ ap (λ (ps : List ℕ). ps ++ n ∷ []) was ∙ ap (λ (m : ℕ). map print known ++ m ∷ []) is
     ∙ sym (map-append print known (one ∷ [])) ∙ ap (map print) (sym pushed)
 
-pub known-last : (p : Program) (known : List KnownState) (k : KnownState) (s : SceneState) → Plays p (opening p) k.schedule.items s → IsKnown p (known ++ k ∷ []) s
+pub known-last : (p : Program) (known : List KnownState) (k : KnownState) (s : SceneState) → PlaysSchedule p (opening p) k.schedule.items s → IsKnown p (known ++ k ∷ []) s
 known-last p known k s plays = Any-push (λ (x : KnownState). LeadsLike p x.schedule.items s) known k (s, plays, scenes-refl s)
 
 -- 3. Moves, one by one.
@@ -100,18 +100,18 @@ pub there-at : {X : Type 0} (xs : List X) (k : ℕ) (d : X) → k < length xs �
 there-at xs k d h = slice_get-get_or xs k d h
 
 pub followed-at : (p : Program) (moves schedule : List Move) (known : List KnownState) (k : ℕ) (d : Move) → k < length moves
-    → ((s : SceneState) → Plays p (opening p) (schedule ++ get_or moves k d ∷ []) s → IsKnown p known s) → WasFollowed p moves schedule known k
-followed-at p moves schedule known k d h all m is = subst (λ (x : Move). (s : SceneState) → Plays p (opening p) (schedule ++ x ∷ []) s → IsKnown p known s) (same-at moves k d m h is) all
+    → ((s : SceneState) → PlaysSchedule p (opening p) (schedule ++ get_or moves k d ∷ []) s → IsKnown p known s) → WasFollowed p moves schedule known k
+followed-at p moves schedule known k d h all m is = subst (λ (x : Move). (s : SceneState) → PlaysSchedule p (opening p) (schedule ++ x ∷ []) s → IsKnown p known s) (same-at moves k d m h is) all
 
 pub stays-at : (p : Program) (moves schedule : List Move) (k : ℕ) (d : Move) → k < length moves
-    → ((s : SceneState) → Plays p (opening p) (schedule ++ get_or moves k d ∷ []) s → ⊥) → StaysAt p moves schedule k
-stays-at p moves schedule k d h none m is = subst (λ (x : Move). (s : SceneState) → Plays p (opening p) (schedule ++ x ∷ []) s → ⊥) (same-at moves k d m h is) none
+    → ((s : SceneState) → PlaysSchedule p (opening p) (schedule ++ get_or moves k d ∷ []) s → ⊥) → StaysAt p moves schedule k
+stays-at p moves schedule k d h none m is = subst (λ (x : Move). (s : SceneState) → PlaysSchedule p (opening p) (schedule ++ x ∷ []) s → ⊥) (same-at moves k d m h is) none
 
 pub or_goes : {Y : Type 0} (a b : Bool) → (a || b) ≡ true → (a ≡ true → Y) → (b ≡ true → Y) → Y
 or_goes true b is one other = one refl
 or_goes false b is one other = other is
 
-pub followed-grown : (p : Program) (moves schedule : List Move) (old new : List KnownState) (k : ℕ) → Grows old new → WasFollowed p moves schedule old k → WasFollowed p moves schedule new k
+pub followed-grown : (p : Program) (moves schedule : List Move) (old new : List KnownState) (k : ℕ) → Continues old new → WasFollowed p moves schedule old k → WasFollowed p moves schedule new k
 followed-grown p moves schedule old new k grown h m is s plays = known-grown p old new s grown (h m is s plays)
 
 pub session-at : (xs : List Move) (k : ℕ) (m : Move) → slice_get xs k ≡ Some m → have_sessions xs ≡ true → has_session m ≡ true
@@ -120,7 +120,7 @@ session-at (x ∷ xs) zero m is all = subst (λ (y : Move). has_session y ≡ tr
 session-at (x ∷ xs) (suc k) m is all = session-at xs k m is (and_parts (has_session x) (have_sessions xs) all).1
 
 -- what was at a place before a list grew
-pub slice-back : {X : Type 0} (was now : List X) (j : ℕ) (m : X) → Grows was now → j < length was → slice_get now j ≡ Some m → slice_get was j ≡ Some m
+pub slice-back : {X : Type 0} (was now : List X) (j : ℕ) (m : X) → Continues was now → j < length was → slice_get now j ≡ Some m → slice_get was j ≡ Some m
 slice-back {X = X} was now j m grown h at =
     let whole : slice_get (was ++ grown.0) j ≡ Some m = subst (λ (ms : List X). slice_get ms j ≡ Some m) grown.1 at in
     let inside : j < length (was ++ grown.0) = omega (arith, length-append was grown.0, h) in

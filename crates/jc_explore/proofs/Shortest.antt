@@ -1,5 +1,5 @@
 -- The search is breadth first: the schedule of a known state, and that of an outcome, is a shortest one.
-use Rattle.jc_explore.proofs.Common.{◌≡◌, ℕ, ◌+◌, ◌<◌, ◌≤◌, ◌⊎◌, List, [], ◌∷◌, ◌++◌, length, Some, slice_get, get_or, sym, ap, ◌∙◌, subst, inl, inr, arith, length-append, All, Any, get_or_push, slice_get-get_or, slice_get_within, KnownState, Move, Program, Finding, AreShortest, IsFound, IsShortest, IsWhole, FinalValue, final_of, SceneState, Moves, Plays, opening, Adds, AreAsLong, AreNew, Grows, IsClosedAt, IsClosedUpTo, IsKnown, LeadsLike, stands_on}
+use Rattle.jc_explore.proofs.Common.{◌≡◌, ℕ, ◌+◌, ◌<◌, ◌≤◌, ◌⊎◌, List, [], ◌∷◌, ◌++◌, length, Some, slice_get, get_or, sym, ap, ◌∙◌, subst, inl, inr, arith, length-append, All, Any, get_or_push, slice_get-get_or, slice_get_within, KnownState, Move, Program, Finding, AreShortest, IsFound, IsShortest, IsWholeSchedule, FinalValue, final_of, SceneState, Moves, PlaysSchedule, opening, Adds, AreAsLong, AreNew, Continues, IsClosedSchedule, IsClosedUpTo, IsKnown, LeadsLike, stands_on}
 use Rattle.jc_explore.proofs.AllMoves.{eq_or_less, lt_or_le}
 use Rattle.jc_explore.proofs.Searching.{any-grown, same-at, slice-back, there-at}
 
@@ -13,7 +13,7 @@ all-at P xs k x at all =
 pub adds-none : {X : Type 0} (P : X → Type 0) (xs : List X) → Adds P xs xs
 adds-none P xs k x low at = absurd (let inside = slice_get_within xs k x at in omega (arith, inside, low))
 
-pub adds-twice : {X : Type 0} (P : X → Type 0) (xs ys zs : List X) → Grows ys zs → Adds P xs ys → Adds P ys zs → Adds P xs zs
+pub adds-twice : {X : Type 0} (P : X → Type 0) (xs ys zs : List X) → Continues ys zs → Adds P xs ys → Adds P ys zs → Adds P xs zs
 adds-twice P xs ys zs grown one two k x low at =
     elim (lt_or_le k (length ys)) [
       | inl less ↦ one k x low (slice-back ys zs k x grown less at)
@@ -56,7 +56,7 @@ pub record IsBreadthFirst (p : Program) (known : List KnownState) (found : List 
   pub goes : GoNearUpTo p known place
   pub shortest : AreShortest p found
 
-near-grown : (p : Program) (old new : List KnownState) (n : ℕ) (s : SceneState) → Grows old new → IsNear p old n s → IsNear p new n s
+near-grown : (p : Program) (old new : List KnownState) (n : ℕ) (s : SceneState) → Continues old new → IsNear p old n s → IsNear p new n s
 near-grown p old new n s grown h = any-grown (λ (k : KnownState). LeadsLike p k.schedule.items s × (len k ≤ n)) old new grown h
 
 near-more : (p : Program) (known : List KnownState) (n most : ℕ) (s : SceneState) → n ≤ most → IsNear p known n s → IsNear p known most s
@@ -86,7 +86,7 @@ first-breadth p known found long here none =
 -- 4. One state more was followed.
 
 -- none is longer then than one move more
-short-now : (was now : List KnownState) (place : ℕ) (d : KnownState) → Grows was now → AreAsLong (len d + 1) was now → IsBounded was place → slice_get was place ≡ Some d
+short-now : (was now : List KnownState) (place : ℕ) (d : KnownState) → Continues was now → AreAsLong (len d + 1) was now → IsBounded was place → slice_get was place ≡ Some d
     → (i : ℕ) (k : KnownState) → slice_get now i ≡ Some k → len k ≤ len d + 1
 short-now was now place d grown added bounded here i k at =
     elim (lt_or_le i (length was)) [
@@ -94,7 +94,7 @@ short-now was now place d grown added bounded here i k at =
       | inr more ↦ let long = added i k more at in omega (arith, long)
     ]
 
-sorted-now : (was now : List KnownState) (place : ℕ) (d : KnownState) → Grows was now → AreAsLong (len d + 1) was now → IsBounded was place → slice_get was place ≡ Some d
+sorted-now : (was now : List KnownState) (place : ℕ) (d : KnownState) → Continues was now → AreAsLong (len d + 1) was now → IsBounded was place → slice_get was place ≡ Some d
     → IsSorted was → IsSorted now
 sorted-now was now place d grown added bounded here sorted i j a b up first second =
     elim (lt_or_le j (length was)) [
@@ -105,8 +105,8 @@ sorted-now was now place d grown added bounded here sorted i j a b up first seco
           omega (arith, long, short)
     ]
 
-goes-now : (p : Program) (was now : List KnownState) (found : List Finding) (place : ℕ) (d : KnownState) → Grows was now → AreAsLong (len d + 1) was now → IsBounded was place → slice_get was place ≡ Some d
-    → GoNearUpTo p was place → IsClosedAt p now found d.schedule.items → GoNearUpTo p now (place + 1)
+goes-now : (p : Program) (was now : List KnownState) (found : List Finding) (place : ℕ) (d : KnownState) → Continues was now → AreAsLong (len d + 1) was now → IsBounded was place → slice_get was place ≡ Some d
+    → GoNearUpTo p was place → IsClosedSchedule p now found d.schedule.items → GoNearUpTo p now (place + 1)
 goes-now p was now found place d grown added bounded here goes closed i k h at =
     let inside : place < length was = slice_get_within was place d here in
     elim (eq_or_less i place h) [
@@ -125,7 +125,7 @@ goes-now p was now found place d grown added bounded here goes closed i k h at =
 abbrev IsLeft : List KnownState → ℕ → ℕ → Type 0
 IsLeft known place n = (j : ℕ) × (k : KnownState) × (place ≤ j) × (slice_get known j ≡ Some k) × (len k ≤ n)
 
-near-or-left : (p : Program) (known : List KnownState) (place n most : ℕ) (a s : SceneState) (ms : List Move) → GoNearUpTo p known place → n + length ms ≤ most → IsNear p known n a → Plays p a ms s
+near-or-left : (p : Program) (known : List KnownState) (place n most : ℕ) (a s : SceneState) (ms : List Move) → GoNearUpTo p known place → n + length ms ≤ most → IsNear p known n a → PlaysSchedule p a ms s
     → IsNear p known most s ⊎ IsLeft known place most
 near-or-left p known place n most a s [] goes up here plays = inl (near-more p known n most s (omega (arith, up)) (subst (IsNear p known n) (sym plays) here))
 near-or-left p known place n most a s (m ∷ ms) goes up here plays =
@@ -146,7 +146,7 @@ before-next known place i d k sorted here at fewer =
     ]
 
 shorter-found : (p : Program) (known : List KnownState) (found : List Finding) (place : ℕ) (d : KnownState) (f : FinalValue) (ms : List Move) → IsBreadthFirst p known found place → IsClosedUpTo p known found place
-    → slice_get known place ≡ Some d → IsWhole p ms f → length ms < len d → IsFound f found
+    → slice_get known place ≡ Some d → IsWholeSchedule p ms f → length ms < len d → IsFound f found
 shorter-found p known found place d f ms breadth closed here whole fewer =
     elim (near-or-left p known place 0 (length ms) (opening p) whole.last ms breadth.goes (omega arith) breadth.begins whole.plays) [
       | inl near ↦
@@ -169,7 +169,7 @@ shortest-new p known found place d x breadth closed here is new ms whole =
     ]
 
 shortest-now : (p : Program) (known : List KnownState) (found more : List Finding) (place : ℕ) (d : KnownState) → IsBreadthFirst p known found place → IsClosedUpTo p known found place
-    → slice_get known place ≡ Some d → Grows found more → AreNew d.schedule.items found more → AreShortest p more
+    → slice_get known place ≡ Some d → Continues found more → AreNew d.schedule.items found more → AreShortest p more
 shortest-now p known found more place d breadth closed here grown fresh k e h =
     let x : Finding = get_or more k e in
     let at : slice_get more k ≡ Some x = there-at more k e h in
@@ -179,7 +179,7 @@ shortest-now p known found more place d breadth closed here grown fresh k e h =
     ]
 
 pub more-breadth : (p : Program) (was now : List KnownState) (before found : List Finding) (place : ℕ) (d : KnownState) → IsBreadthFirst p was before place → IsClosedUpTo p was before place
-    → slice_get was place ≡ Some d → Grows was now → Grows before found → AreAsLong (len d + 1) was now → AreNew d.schedule.items before found → IsClosedAt p now found d.schedule.items
+    → slice_get was place ≡ Some d → Continues was now → Continues before found → AreAsLong (len d + 1) was now → AreNew d.schedule.items before found → IsClosedSchedule p now found d.schedule.items
     → IsBreadthFirst p now found (place + 1)
 more-breadth p was now before found place d breadth closed here grown more added fresh at =
     let inside : place < length was = slice_get_within was place d here in

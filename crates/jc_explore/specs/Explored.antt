@@ -1,20 +1,20 @@
 -- Whole runs of a program, and the final states that an exploration has found.
 --     IsEnd             no move is possible: nothing can happen any more
---     IsWhole           a schedule of a program leads to an end, and this is its final state
+--     IsWholeSchedule   a schedule of a program leads to an end, and this is its final state
 --     IsFound           a final state is among those that were found
 --     AreWitnessed      each final state that was found has a whole schedule that ends there
 --     AreDistinct       no two final states that were found are the same
 --     IsShortest        no whole schedule that ends with the final state that was found is shorter than its own
 --     AreShortest       each final state that was found has a shortest schedule
 --     HasEachOutcome    the final state of each whole schedule was found
---     IsReached         a schedule leads to a scene
+--     IsReachedScene    a schedule leads to a scene
 --     AreUnlike         no two scenes are alike
 --     IsAmongScenes     a scene is like one of these
 --     HasEachScene      each scene that a schedule leads to is like one of these
 --     IsFollowed        each move from a scene leads to one that is like one of these, and the final state is found if the scene
 --                       is an end
 --     AreFollowed       the first `count` scenes of a list were followed
---     IsCounted         the number of states is that of scenes that were reached, no two of them alike. If the exploration is
+--     CountsScenes      the number of states is that of scenes that were reached, no two of them alike. If the exploration is
 --                       whole, each scene is like one of them; if it isn't, as many of them as the budget allows were followed,
 --                       or more final states were found than the limit
 --     IsTried           an exploration that isn't whole came to more states than its budget, or found more final states than the
@@ -35,16 +35,16 @@ use Rattle.jc_explore.specs.declared.search.Finding.{Finding}
 use Rattle.jc_explore.specs.declared.search.TheConstants.{OUTCOMES_MAX}
 use Rattle.jc_explore.specs.Final.{FinalValue, final_of, IsFinal}
 use Rattle.jc_explore.specs.Keys.{ScenesAlike}
-use Rattle.jc_explore.specs.Schedule.{SceneState, opening, Moves, Plays}
+use Rattle.jc_explore.specs.Schedule.{SceneState, opening, Moves, PlaysSchedule}
 
 -- 1. Whole runs.
 
 abbrev pub IsEnd : Program → SceneState → Type 0
 IsEnd p s = (m : Move) (new : SceneState) → Moves p s m new → ⊥
 
-pub record IsWhole (p : Program) (schedule : List Move) (f : FinalValue) : Type 0 where
+pub record IsWholeSchedule (p : Program) (schedule : List Move) (f : FinalValue) : Type 0 where
   pub last : SceneState
-  pub plays : Plays p (opening p) schedule last
+  pub plays : PlaysSchedule p (opening p) schedule last
   pub ends : IsEnd p last
   pub final : IsFinal last f
 
@@ -54,26 +54,26 @@ abbrev pub IsFound : FinalValue → List Finding → Type 0
 IsFound f found = Any (λ x. final_of x.state ≡ f) found
 
 abbrev pub AreWitnessed : Program → List Finding → Type 0
-AreWitnessed p found = All (λ x. IsWhole p x.witness.items (final_of x.state)) found
+AreWitnessed p found = All (λ x. IsWholeSchedule p x.witness.items (final_of x.state)) found
 
 abbrev pub AreDistinct : List Finding → Type 0
 AreDistinct found = AllPairs (λ x y. final_of x.state ≡ final_of y.state → ⊥) found
 
 abbrev pub IsShortest : Program → Finding → Type 0
 IsShortest p x =
-    (schedule : List Move) → IsWhole p schedule (final_of x.state) → length x.witness.items ≤ length schedule
+    (schedule : List Move) → IsWholeSchedule p schedule (final_of x.state) → length x.witness.items ≤ length schedule
 
 abbrev pub AreShortest : Program → List Finding → Type 0
 AreShortest p found = All (λ x. IsShortest p x) found
 
 abbrev pub HasEachOutcome : Program → List Finding → Type 0
-HasEachOutcome p found = (schedule : List Move) (f : FinalValue) → IsWhole p schedule f → IsFound f found
+HasEachOutcome p found = (schedule : List Move) (f : FinalValue) → IsWholeSchedule p schedule f → IsFound f found
 
 abbrev pub IsTried : ℕ → Explored → Type 0
 IsTried budget r = (budget < r.states) ⊎ (OUTCOMES_MAX < length r.found.items)
 
-abbrev pub IsReached : Program → SceneState → Type 0
-IsReached p s = (schedule : List Move) × Plays p (opening p) schedule s
+abbrev pub IsReachedScene : Program → SceneState → Type 0
+IsReachedScene p s = (schedule : List Move) × PlaysSchedule p (opening p) schedule s
 
 abbrev pub AreUnlike : List SceneState → Type 0
 AreUnlike scenes = AllPairs (λ s t. ScenesAlike s t → ⊥) scenes
@@ -82,7 +82,7 @@ abbrev pub IsAmongScenes : List SceneState → SceneState → Type 0
 IsAmongScenes scenes s = Any (λ t. ScenesAlike s t) scenes
 
 abbrev pub HasEachScene : Program → List SceneState → Type 0
-HasEachScene p scenes = (s : SceneState) → IsReached p s → IsAmongScenes scenes s
+HasEachScene p scenes = (s : SceneState) → IsReachedScene p s → IsAmongScenes scenes s
 
 pub record IsFollowed (p : Program) (scenes : List SceneState) (found : List Finding) (s : SceneState) : Type 0 where
   pub goes : (m : Move) (new : SceneState) → Moves p s m new → IsAmongScenes scenes new
@@ -92,10 +92,10 @@ abbrev pub AreFollowed : Program → ℕ → List SceneState → List Finding �
 AreFollowed p count scenes found =
     (k : ℕ) (s : SceneState) → k < count → slice_get scenes k ≡ Some s → IsFollowed p scenes found s
 
-pub record IsCounted (p : Program) (budget : ℕ) (r : Explored) : Type 0 where
+pub record CountsScenes (p : Program) (budget : ℕ) (r : Explored) : Type 0 where
   pub scenes : List SceneState
   pub count_is : r.states ≡ length scenes
-  pub reached : All (λ s. IsReached p s) scenes
+  pub reached : All (λ s. IsReachedScene p s) scenes
   pub unlike : AreUnlike scenes
   pub each : r.is_whole ≡ true → HasEachScene p scenes
   pub stopped : r.is_whole ≡ false → (OUTCOMES_MAX < length r.found.items) ⊎ AreFollowed p budget scenes r.found.items

@@ -4,7 +4,7 @@
 --     KeyValue                a snapshot, the positions of the threads, and their replies
 --     key_value               the value of a key
 --     HaveOneKey              two keys are the same
---     print_with              a fingerprint with one more number, as in FNV-1a
+--     key_print_with          a fingerprint with one more number, as in FNV-1a
 --     print_with_position     a fingerprint with the position of a thread
 --     print_with_fault        a fingerprint with a refusal
 --     print_with_answer       a fingerprint with a reply
@@ -51,28 +51,28 @@ key_value key = record { snapshot = key.snapshot; positions = key.positions.item
 abbrev pub HaveOneKey : StateKey → StateKey → Type 0
 HaveOneKey a b = key_value a ≡ key_value b
 
-abbrev pub print_with : ℕ → ℕ → ℕ
-print_with print word = (bit_xor print word * PRINT_FACTOR) % 2 ^ 64
+abbrev pub key_print_with : ℕ → ℕ → ℕ
+key_print_with print word = (bit_xor print word * PRINT_FACTOR) % 2 ^ 64
 
 abbrev pub print_with_position : ℕ → Position → ℕ
-print_with_position print position = print_with print position.begun
+print_with_position print position = key_print_with print position.begun
 
 abbrev pub print_with_fault : ℕ → Refusal → ℕ
-print_with_fault print (refusal.LoaderFailed code) = print_with (print_with print 5) code
-print_with_fault print (refusal.WriterFailed code) = print_with (print_with print 6) code
-print_with_fault print (refusal.ProcessorFailed code) = print_with (print_with print 7) code
-print_with_fault print other = print_with print 8
+print_with_fault print (refusal.LoaderFailed code) = key_print_with (key_print_with print 5) code
+print_with_fault print (refusal.WriterFailed code) = key_print_with (key_print_with print 6) code
+print_with_fault print (refusal.ProcessorFailed code) = key_print_with (key_print_with print 7) code
+print_with_fault print other = key_print_with print 8
 
 abbrev pub print_with_answer : ℕ → Reply → ℕ
-print_with_answer print reply.Unit = print_with print 0
-print_with_answer print (reply.Flag true) = print_with print 1
-print_with_answer print (reply.Flag false) = print_with print 2
-print_with_answer print (reply.Value None) = print_with print 3
-print_with_answer print (reply.Value (Some value)) = fold print_with (print_with print 4) value
+print_with_answer print reply.Unit = key_print_with print 0
+print_with_answer print (reply.Flag true) = key_print_with print 1
+print_with_answer print (reply.Flag false) = key_print_with print 2
+print_with_answer print (reply.Value None) = key_print_with print 3
+print_with_answer print (reply.Value (Some value)) = fold key_print_with (key_print_with print 4) value
 print_with_answer print (reply.Fault refusal) = print_with_fault print refusal
 
 abbrev pub print_with_reply : ℕ → ThreadReply → ℕ
-print_with_reply print r = print_with_answer (print_with print r.thread) r.reply
+print_with_reply print r = print_with_answer (key_print_with print r.thread) r.reply
 
 abbrev pub fingerprint_of_value : KeyValue → ℕ
 fingerprint_of_value v =

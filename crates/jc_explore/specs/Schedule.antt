@@ -1,38 +1,38 @@
 -- Schedules of a program, and its runs.
---     SceneState       a world, the number of items that each thread has begun, and the replies, thread by thread
---     state_of         the state of a scene
---     next_number      the number of the next call: they rise from 1
---     has_number_left  both the next call's number and a count of items are below the largest number that a script names
---     has_number_for   an act begins no item, or there is a number for one
---     call_of          the call that a session has under way
---     if_idle          events, if no call is under way
---     item_at          the item of a thread at a place of its list
---     item_in          the item at a place of a list, if there is a list
---     begin_events     the events of an item that begins, with its call's number and session
---     if_failing       events with a code, if there is one
---     entry_calls      the calls of an item's entry processor on its entry
---     run_processor    the event of a processor's run
---     act_events       the events of an act of a call at its key, with the calls of its processor
---     call_events      the events of an act of an item
---     under_way        the events of an act of the call that a thread has under way
---     events_at        the events of a move of a thread that has begun a number of items
---     events_of        the events of a move
---     is_going_on      an outcome after which a call continues: the event fits, and the call isn't made to wait
---     are_going_on     a call continues after each of these
---     is_proper        events happened, and the call continues after each
---     position_after   the position of a thread after a move
---     positions_at     the positions of the threads after a move, if there is such a thread
---     positions_after  the positions of the threads after a move
---     reply_in         the reply of a call in an outcome, if there is one: a refusal is a fault
---     with_reply       one more reply, after those of the threads up to its own
---     replies_after    the replies, with those in the outcomes that were shown
---     Moves            a move of a schedule: its events were played, the call continued after each, and no allocation failed
---     Plays            a schedule, move by move
---     has_session      a move's thread has a session
---     have_sessions    the thread of each of these moves has one
---     with_all_stored  a world with these entries in its store
---     unbegun          the position of a thread that has begun nothing
---     opening          the scene before anything has happened
+--     SceneState         a world, the number of items that each thread has begun, and the replies, thread by thread
+--     scene_state        the state of a scene
+--     next_number        the number of the next call: they rise from 1
+--     has_number_left    both the next call's number and a count of items are below the largest number that a script names
+--     has_number_for     an act begins no item, or there is a number for one
+--     call_under_way     the call that a session has under way
+--     if_idle            events, if no call is under way
+--     item_at            the item of a thread at a place of its list
+--     item_in            the item at a place of a list, if there is a list
+--     begin_events       the events of an item that begins, with its call's number and session
+--     if_failing         events with a code, if there is one
+--     entry_calls        the calls of an item's entry processor on its entry
+--     run_processor      the event of a processor's run
+--     act_events         the events of an act of a call at its key, with the calls of its processor
+--     call_events        the events of an act of an item
+--     under_way          the events of an act of the call that a thread has under way
+--     move_events_at     the events of a move of a thread that has begun a number of items
+--     move_events        the events of a move
+--     is_going_on        an outcome after which a call continues: the event fits, and the call isn't made to wait
+--     are_going_on       a call continues after each of these
+--     is_proper          events happened, and the call continues after each
+--     position_after     the position of a thread after a move
+--     positions_at       the positions of the threads after a move, if there is such a thread
+--     positions_after    the positions of the threads after a move
+--     outcome_reply      the reply of a call in an outcome, if there is one: a refusal is a fault
+--     with_thread_reply  one more reply, after those of the threads up to its own
+--     replies_after      the replies, with those in the outcomes that were shown
+--     Moves              a move of a schedule: its events were played, the call continued after each, and no allocation failed
+--     PlaysSchedule      a schedule, move by move
+--     has_session        a move's thread has a session
+--     have_sessions      the thread of each of these moves has one
+--     with_all_stored    a world with these entries in its store
+--     unbegun            the position of a thread that has begun nothing
+--     opening            the scene before anything has happened
 use Rattle.std.specs.Prelude.{◌≡◌, ℕ, ◌+◌, ◌-◌, List, [], ◌∷◌, length, replicate, Bool, true, false, not, ◌&&◌, ◌||◌, nat_lt, Option, None, Some, find, option_map, count_by, nat_le, slice_get, slice_set, if◌then◌else◌}
 use Rattle.std.specs.List.{list_all, insert}
 use Rattle.std.specs.Global.{Vec}
@@ -73,8 +73,8 @@ pub record SceneState : Type 0 where
   pub positions : List Position
   pub replies : List ThreadReply
 
-abbrev pub state_of : Scene → SceneState
-state_of s = record { world = s.world.world; positions = s.positions.items; replies = s.replies.items }
+abbrev pub scene_state : Scene → SceneState
+scene_state s = record { world = s.world.world; positions = s.positions.items; replies = s.replies.items }
 
 -- 1. The events of a move.
 
@@ -131,8 +131,8 @@ abbrev pub next_number : Option ℕ → ℕ
 next_number None = 1
 next_number (Some last) = last + 1
 
-abbrev pub call_of : WorldState → ℕ → Option ℕ
-call_of w session = option_map (λ u. u.caller.call) (find (is_of_session session) w.calls)
+abbrev pub call_under_way : WorldState → ℕ → Option ℕ
+call_under_way w session = option_map (λ u. u.caller.call) (find (is_of_session session) w.calls)
 
 abbrev pub item_in : Option (Vec Item) → ℕ → Option Item
 item_in None at = None
@@ -153,17 +153,17 @@ has_number_left last position =
 abbrev pub has_number_for : Option ℕ → Position → Act → Bool
 has_number_for last position a = not (is_begin a) || has_number_left last position
 
-abbrev pub events_at : Program → WorldState → Move → Option Position → List WorldEvent
-events_at p w m None = []
-events_at p w m (Some position) =
+abbrev pub move_events_at : Program → WorldState → Move → Option Position → List WorldEvent
+move_events_at p w m None = []
+move_events_at p w m (Some position) =
     if has_number_for w.last position m.act
     then (if is_begin m.act
-    then if_idle (call_of w (m.thread + 1)) (begin_events (next_number w.last) (m.thread + 1) (item_at p m.thread position.begun))
-    else under_way p.faults (call_of w (m.thread + 1)) (item_at p m.thread (position.begun - 1)) m.act)
+    then if_idle (call_under_way w (m.thread + 1)) (begin_events (next_number w.last) (m.thread + 1) (item_at p m.thread position.begun))
+    else under_way p.faults (call_under_way w (m.thread + 1)) (item_at p m.thread (position.begun - 1)) m.act)
     else []
 
-abbrev pub events_of : Program → SceneState → Move → List WorldEvent
-events_of p s m = events_at p s.world m (slice_get s.positions m.thread)
+abbrev pub move_events : Program → SceneState → Move → List WorldEvent
+move_events p s m = move_events_at p s.world m (slice_get s.positions m.thread)
 
 -- 2. Moves that count.
 
@@ -194,35 +194,35 @@ positions_after s m = positions_at m s.positions (slice_get s.positions m.thread
 
 -- 3. Replies.
 
-abbrev pub reply_in : Outcome → Option Reply
-reply_in (outcome.Stepped x) = Some x.reply
-reply_in (outcome.PickedUp x) = Some x.reply
-reply_in (outcome.Refused refusal) = Some (reply.Fault refusal)
-reply_in o = None
+abbrev pub outcome_reply : Outcome → Option Reply
+outcome_reply (outcome.Stepped x) = Some x.reply
+outcome_reply (outcome.PickedUp x) = Some x.reply
+outcome_reply (outcome.Refused refusal) = Some (reply.Fault refusal)
+outcome_reply o = None
 
-abbrev pub with_reply : ℕ → List ThreadReply → Option Reply → List ThreadReply
-with_reply thread replies None = replies
-with_reply thread replies (Some reply) =
+abbrev pub with_thread_reply : ℕ → List ThreadReply → Option Reply → List ThreadReply
+with_thread_reply thread replies None = replies
+with_thread_reply thread replies (Some reply) =
     insert replies (count_by (λ r. nat_le r.thread thread) replies) (record { thread = thread; reply = reply })
 
 abbrev pub replies_after : ℕ → List ThreadReply → List Shown → List ThreadReply
 replies_after thread replies [] = replies
 replies_after thread replies (s ∷ seen) =
-    replies_after thread (with_reply thread replies (reply_in s.outcome)) seen
+    replies_after thread (with_thread_reply thread replies (outcome_reply s.outcome)) seen
 
 -- 4. Moves and schedules.
 
 pub record Moves (p : Program) (old : SceneState) (m : Move) (new : SceneState) : Type 0 where
   pub seen : List Shown
-  pub runs : Run old.world (events_of p old m) seen new.world
+  pub runs : Run old.world (move_events p old m) seen new.world
   pub proper : is_proper seen ≡ true
   pub memory : have_memory seen ≡ true
   pub positions_are : new.positions ≡ positions_after old m
   pub replies_are : new.replies ≡ replies_after m.thread old.replies seen
 
-abbrev pub Plays : Program → SceneState → List Move → SceneState → Type 0
-Plays p old [] new = new ≡ old
-Plays p old (m ∷ ms) new = (mid : SceneState) × Moves p old m mid × Plays p mid ms new
+abbrev pub PlaysSchedule : Program → SceneState → List Move → SceneState → Type 0
+PlaysSchedule p old [] new = new ≡ old
+PlaysSchedule p old (m ∷ ms) new = (mid : SceneState) × Moves p old m mid × PlaysSchedule p mid ms new
 
 abbrev pub has_session : Move → Bool
 has_session m = nat_lt m.thread SESSIONS_MAX

@@ -1,40 +1,40 @@
 -- The functions of a search. No contract of a public function cites this.
---     Grows           a list continues another
---     Adds            the things that a list has after an older one have a property
---     AreAsLong       the schedules of the known states that were added have this length
---     AreNew          the final states that were added weren't found before, and have this schedule
---     LeadsLike       a schedule leads to a scene that is like this one
---     IsKnown         one of the known states is that of such a schedule
---     HasEachKnown    each scene that a schedule leads to is known
---     IsKnownBy       a known state's schedule leads to a scene of which its key is the key
---     HavePrints      the fingerprints are those of the known states' keys
---     HavePlaces      each fingerprint has a place where its state may be
---     AreKnown        all known states have keys by their schedules, no two have the same key, and their fingerprints are noted,
---                     each with a place
---     IsClosedAt      each move from a scene like that of this schedule leads to a scene that is known, and the final state of
---                     such a scene is found if it is an end
---     IsClosedUpTo    the first ones of the known states, up to a number, are closed
---     IsKeyAt         the state at a place has this key
---     Notes           a scene is known, and the known states stay
---     Follows         one move after a schedule was followed: it is possible or not, and the scene to which it leads is known
---     IsAmong         a move is one of these
---     kept_if         moves and one more, if it may be possible
---     KeepsMoves      of these moves each that is possible at a scene is among those
---     WasFollowed     the move at a place of a list was followed after a schedule: the scene to which it leads is known
---     StaysAt         the move at a place of a list isn't possible after a schedule
---     GoesOn          some move of a list is possible after a schedule
---     Expands         each move of a list was followed after a schedule, and whether any is possible is known
---     NotesEnd        the final states of a scene are found, and those found before stay
---     IsSearchOf      the invariant of a search: of its known states and the final states that it has found
---     Visits          a schedule's state was followed: it is closed
---     Searches        a search knows the opening alone, has found nothing, and has the invariant
---     Ends            a search has ended: the final states that it has found, which are all if it is whole
---     HasExplored     the result of an exploration with this budget of states: outcomes with shortest schedules of theirs, no two
---                     the same, and all of them if it is whole, with no more states than the budget; otherwise it has met more
---                     states than the budget, or found more outcomes than the limit
+--     Adds                the things that a list has after an older one have a property
+--     AreAsLong           the schedules of the known states that were added have this length
+--     AreNew              the final states that were added weren't found before, and have this schedule
+--     LeadsLike           a schedule leads to a scene that is like this one
+--     IsKnown             one of the known states is that of such a schedule
+--     HasEachKnown        each scene that a schedule leads to is known
+--     IsKnownBy           a known state's schedule leads to a scene of which its key is the key
+--     HavePrints          the fingerprints are those of the known states' keys
+--     HavePlaces          each fingerprint has a place where its state may be
+--     AreKnown            all known states have keys by their schedules, no two have the same key, and their fingerprints are
+--                         noted, each with a place
+--     IsClosedSchedule    each move from a scene like that of this schedule leads to a scene that is known, and the final state
+--                         of such a scene is found if it is an end
+--     IsClosedUpTo        the first ones of the known states, up to a number, are closed
+--     IsKeyAt             the state at a place has this key
+--     Notes               a scene is known, and the known states stay
+--     Follows             one move after a schedule was followed: it is possible or not, and the scene to which it leads is known
+--     IsAmong             a move is one of these
+--     kept_if             moves and one more, if it may be possible
+--     KeepsMoves          of these moves each that is possible at a scene is among those
+--     WasFollowed         the move at a place of a list was followed after a schedule: the scene to which it leads is known
+--     StaysAt             the move at a place of a list isn't possible after a schedule
+--     HasNextMove         some move of a list is possible after a schedule
+--     Expands             each move of a list was followed after a schedule, and whether any is possible is known
+--     NotesEnd            the final states of a scene are found, and those found before stay
+--     IsSearchOf          the invariant of a search: of its known states and the final states that it has found
+--     Visits              a schedule's state was followed: it is closed
+--     Searches            a search knows the opening alone, has found nothing, and has the invariant
+--     EndsSearch          a search has ended: the final states that it has found, which are all if it is whole
+--     HasExplored         the result of an exploration with this budget of states: outcomes with shortest schedules of theirs, no
+--                         two the same, and all of them if it is whole, with no more states than the budget; otherwise it has met
+--                         more states than the budget, or found more outcomes than the limit
 use Rattle.std.specs.Prelude.{◌≡◌, ℕ, ◌+◌, ◌<◌, ◌≤◌, ◌⊎◌, List, [], ◌∷◌, ◌++◌, Bool, true, false, length, map, Some, slice_get}
 use Rattle.std.specs.List.{All, Any, AllPairs}
 use Rattle.jc_snapshot.specs.declared.seen.Seen.{Seen}
+use Rattle.jc_snapshot.specs.Numbers.{Continues}
 use Rattle.jc_explore.specs.declared.key.StateKey.{StateKey}
 use Rattle.jc_explore.specs.declared.known.KnownState.{KnownState}
 use Rattle.jc_explore.specs.declared.known.States.{States}
@@ -44,13 +44,10 @@ use Rattle.jc_explore.specs.declared.search.Explored.{Explored}
 use Rattle.jc_explore.specs.declared.search.Finding.{Finding}
 use Rattle.jc_explore.specs.declared.search.Search.{Search}
 use Rattle.jc_explore.specs.declared.search.TheConstants.{OUTCOMES_MAX}
-use Rattle.jc_explore.specs.Explored.{AreDistinct, AreShortest, AreWitnessed, HasEachOutcome, IsCounted, IsEnd, IsFound, IsReached, IsTried}
+use Rattle.jc_explore.specs.Explored.{AreDistinct, AreShortest, AreWitnessed, CountsScenes, HasEachOutcome, IsEnd, IsFound, IsReachedScene, IsTried}
 use Rattle.jc_explore.specs.Final.{FinalValue, IsFinal, final_of}
 use Rattle.jc_explore.specs.Keys.{HasPlace, HaveOneKey, IsKeyOf, ScenesAlike, fingerprint_of_key}
-use Rattle.jc_explore.specs.Schedule.{SceneState, Moves, Plays, have_sessions, opening}
-
-abbrev pub Grows : {A : Type 0} → List A → List A → Type 0
-Grows {A} old new = (more : List A) × (new ≡ old ++ more)
+use Rattle.jc_explore.specs.Schedule.{SceneState, Moves, PlaysSchedule, have_sessions, opening}
 
 abbrev pub Adds : {A : Type 0} → (A → Type 0) → List A → List A → Type 0
 Adds {A} P old new = (k : ℕ) (x : A) → length old ≤ k → slice_get new k ≡ Some x → P x
@@ -58,17 +55,17 @@ Adds {A} P old new = (k : ℕ) (x : A) → length old ≤ k → slice_get new k 
 -- 1. States that are known.
 
 abbrev pub LeadsLike : Program → List Move → SceneState → Type 0
-LeadsLike p schedule s = (w : SceneState) × Plays p (opening p) schedule w × ScenesAlike s w
+LeadsLike p schedule s = (w : SceneState) × PlaysSchedule p (opening p) schedule w × ScenesAlike s w
 
 abbrev pub IsKnown : Program → List KnownState → SceneState → Type 0
 IsKnown p known s = Any (λ k. LeadsLike p k.schedule.items s) known
 
 abbrev pub HasEachKnown : Program → List KnownState → Type 0
-HasEachKnown p known = (s : SceneState) → IsReached p s → IsKnown p known s
+HasEachKnown p known = (s : SceneState) → IsReachedScene p s → IsKnown p known s
 
 pub record IsKnownBy (p : Program) (seen : Seen) (k : KnownState) : Type 0 where
   pub scene : SceneState
-  pub plays : Plays p (opening p) k.schedule.items scene
+  pub plays : PlaysSchedule p (opening p) k.schedule.items scene
   pub key : IsKeyOf seen k.key scene
   pub sessions : have_sessions k.schedule.items ≡ true
 
@@ -84,13 +81,13 @@ pub record AreKnown (p : Program) (states : States) : Type 0 where
   pub prints : HavePrints states
   pub places : HavePlaces states
 
-pub record IsClosedAt (p : Program) (known : List KnownState) (found : List Finding) (schedule : List Move) : Type 0 where
+pub record IsClosedSchedule (p : Program) (known : List KnownState) (found : List Finding) (schedule : List Move) : Type 0 where
   pub goes : (s : SceneState) → LeadsLike p schedule s → (m : Move) (new : SceneState) → Moves p s m new → IsKnown p known new
   pub ends : (s : SceneState) (f : FinalValue) → LeadsLike p schedule s → IsEnd p s → IsFinal s f → IsFound f found
 
 abbrev pub IsClosedUpTo : Program → List KnownState → List Finding → ℕ → Type 0
 IsClosedUpTo p known found count =
-    (k : ℕ) (m : KnownState) → k < count → slice_get known k ≡ Some m → IsClosedAt p known found m.schedule.items
+    (k : ℕ) (m : KnownState) → k < count → slice_get known k ≡ Some m → IsClosedSchedule p known found m.schedule.items
 
 abbrev pub AreAsLong : ℕ → List KnownState → List KnownState → Type 0
 AreAsLong moves old new = Adds (λ k. length k.schedule.items ≡ moves) old new
@@ -102,17 +99,17 @@ IsKeyAt known place key = (k : KnownState) × (slice_get known place ≡ Some k)
 
 pub record Notes (p : Program) (schedule : List Move) (old new : States) (s : SceneState) : Type 0 where
   pub known : AreKnown p new
-  pub kept : Grows old.list.items new.list.items
+  pub kept : Continues old.list.items new.list.items
   pub added : AreAsLong (length schedule) old.list.items new.list.items
   pub there : IsKnown p new.list.items s
 
 pub record Follows (p : Program) (schedule : List Move) (m : Move) (old new : States) (moved : Bool) : Type 0 where
   pub known : AreKnown p new
-  pub kept : Grows old.list.items new.list.items
+  pub kept : Continues old.list.items new.list.items
   pub added : AreAsLong (length schedule + 1) old.list.items new.list.items
-  pub all : (s : SceneState) → Plays p (opening p) (schedule ++ m ∷ []) s → IsKnown p new.list.items s
-  pub goes : moved ≡ true → (s : SceneState) × Plays p (opening p) (schedule ++ m ∷ []) s
-  pub stays : moved ≡ false → (s : SceneState) → Plays p (opening p) (schedule ++ m ∷ []) s → ⊥
+  pub all : (s : SceneState) → PlaysSchedule p (opening p) (schedule ++ m ∷ []) s → IsKnown p new.list.items s
+  pub goes : moved ≡ true → (s : SceneState) × PlaysSchedule p (opening p) (schedule ++ m ∷ []) s
+  pub stays : moved ≡ false → (s : SceneState) → PlaysSchedule p (opening p) (schedule ++ m ∷ []) s → ⊥
 
 abbrev pub IsAmong : List Move → Move → Type 0
 IsAmong moves m = (k : ℕ) × (slice_get moves k ≡ Some m)
@@ -127,24 +124,24 @@ pub record KeepsMoves (p : Program) (s : SceneState) (moves kept : List Move) : 
 
 abbrev pub WasFollowed : Program → List Move → List Move → List KnownState → ℕ → Type 0
 WasFollowed p moves schedule known k =
-    (m : Move) → slice_get moves k ≡ Some m → (s : SceneState) → Plays p (opening p) (schedule ++ m ∷ []) s → IsKnown p known s
+    (m : Move) → slice_get moves k ≡ Some m → (s : SceneState) → PlaysSchedule p (opening p) (schedule ++ m ∷ []) s → IsKnown p known s
 
 abbrev pub StaysAt : Program → List Move → List Move → ℕ → Type 0
 StaysAt p moves schedule k =
-    (m : Move) → slice_get moves k ≡ Some m → (s : SceneState) → Plays p (opening p) (schedule ++ m ∷ []) s → ⊥
+    (m : Move) → slice_get moves k ≡ Some m → (s : SceneState) → PlaysSchedule p (opening p) (schedule ++ m ∷ []) s → ⊥
 
-pub record GoesOn (p : Program) (moves schedule : List Move) : Type 0 where
+pub record HasNextMove (p : Program) (moves schedule : List Move) : Type 0 where
   pub step : Move
   pub among : IsAmong moves step
   pub new : SceneState
-  pub plays : Plays p (opening p) (schedule ++ step ∷ []) new
+  pub plays : PlaysSchedule p (opening p) (schedule ++ step ∷ []) new
 
 pub record Expands (p : Program) (moves schedule : List Move) (old new : States) (any : Bool) : Type 0 where
   pub known : AreKnown p new
-  pub kept : Grows old.list.items new.list.items
+  pub kept : Continues old.list.items new.list.items
   pub added : AreAsLong (length schedule + 1) old.list.items new.list.items
   pub followed : (k : ℕ) → k < length moves → WasFollowed p moves schedule new.list.items k
-  pub on : any ≡ true → GoesOn p moves schedule
+  pub on : any ≡ true → HasNextMove p moves schedule
   pub none : any ≡ false → (k : ℕ) → k < length moves → StaysAt p moves schedule k
 
 -- 3. Final states.
@@ -156,7 +153,7 @@ AreNew schedule old new =
 pub record NotesEnd (p : Program) (schedule : List Move) (old new : List Finding) (s : SceneState) : Type 0 where
   pub witnessed : AreWitnessed p new
   pub distinct : AreDistinct new
-  pub kept : Grows old new
+  pub kept : Continues old new
   pub fresh : AreNew schedule old new
   pub there : (f : FinalValue) → IsFinal s f → IsFound f new
 
@@ -169,11 +166,11 @@ pub record IsSearchOf (p : Program) (states : States) (found : List Finding) : T
 
 pub record Visits (p : Program) (schedule : List Move) (old new : Search) : Type 0 where
   pub search : IsSearchOf p new.known new.found.items
-  pub known_kept : Grows old.known.list.items new.known.list.items
-  pub found_kept : Grows old.found.items new.found.items
+  pub known_kept : Continues old.known.list.items new.known.list.items
+  pub found_kept : Continues old.found.items new.found.items
   pub added : AreAsLong (length schedule + 1) old.known.list.items new.known.list.items
   pub fresh : AreNew schedule old.found.items new.found.items
-  pub closed : IsClosedAt p new.known.list.items new.found.items schedule
+  pub closed : IsClosedSchedule p new.known.list.items new.found.items schedule
 
 pub record Searches (p : Program) (s : Search) : Type 0 where
   pub search : IsSearchOf p s.known s.found.items
@@ -181,7 +178,7 @@ pub record Searches (p : Program) (s : Search) : Type 0 where
   pub first : AreAsLong 0 [] s.known.list.items
   pub none : s.found.items ≡ []
 
-pub record Ends (p : Program) (budget : ℕ) (s : Search) (whole : Bool) : Type 0 where
+pub record EndsSearch (p : Program) (budget : ℕ) (s : Search) (whole : Bool) : Type 0 where
   pub witnessed : AreWitnessed p s.found.items
   pub distinct : AreDistinct s.found.items
   pub shortest : AreShortest p s.found.items
@@ -199,4 +196,4 @@ pub record HasExplored (p : Program) (budget : ℕ) (r : Explored) : Type 0 wher
   pub all : r.is_whole ≡ true → HasEachOutcome p r.found.items
   pub within : r.is_whole ≡ true → r.states ≤ budget
   pub tried : r.is_whole ≡ false → IsTried budget r
-  pub counted : IsCounted p budget r
+  pub counted : CountsScenes p budget r

@@ -5,7 +5,7 @@ ghost use Rattle.jc_model.specs.declared.event.LoadAnswer.TheVariants.{Failed};
 ghost use Rattle.jc_world.specs.declared.command.Command.TheVariants.{Single};
 ghost use Rattle.jc_world.specs.declared.event.WorldEvent.TheVariants as event;
 ghost use Rattle.jc_world.specs.declared.process.LoadSource.TheVariants as source;
-ghost use Rattle.jc_explore.specs.Schedule.{act_events, begin_events, call_events, entry_calls, events_at, has_number_for, if_failing, next_number, run_processor, under_way};
+ghost use Rattle.jc_explore.specs.Schedule.{act_events, begin_events, call_events, entry_calls, has_number_for, if_failing, move_events_at, next_number, run_processor, under_way};
 
 use crate::moves::{Act, Move};
 use crate::program::{Faults, Item, Program};
@@ -332,7 +332,7 @@ pub(crate) fn put_events(
 ) -> Result<(), AllocError>
     requires { step.thread < SESSIONS_MAX }
     ensures { OnOk result (events.new.items
-        ≡ events.old.items ++ events_at program.now world.now.world step (Some position)) }
+        ≡ events.old.items ++ move_events_at program.now world.now.world step (Some position)) }
 {
     let last = world.last();
     if !has_number_for(last, &position, step.act) {

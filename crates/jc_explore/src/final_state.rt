@@ -1,7 +1,7 @@
 //! Final states of a program.
 ghost use Rattle.std.specs.Prelude.{◌≡◌, true, false, IfOk};
 ghost use Rattle.jc_explore.specs.Final.{final_of, IsFinal};
-ghost use Rattle.jc_explore.specs.Schedule.{state_of};
+ghost use Rattle.jc_explore.specs.Schedule.{scene_state};
 
 use crate::replies::{ThreadReply, same_replies};
 use crate::scene::Scene;
@@ -81,7 +81,7 @@ fn same_keys(one: &[Key], other: &[Key]) -> bool
 impl FinalState {
     /// The final state of a scene. An `Err` says that an allocation failed.
     pub(crate) fn of(alloc: Global, scene: &Scene) -> Result<FinalState, AllocError>
-        ensures { IfOk result (λ f. IsFinal (state_of scene.now) (final_of f)) }
+        ensures { IfOk result (λ f. IsFinal (scene_state scene.now) (final_of f)) }
     {
         let replies = Vec::from_slice(alloc, &scene.replies)?;
         let audit = scene.world.audit(alloc)?;

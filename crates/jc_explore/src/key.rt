@@ -2,9 +2,9 @@
 ghost use Rattle.std.specs.Prelude.{◌≡◌, true, false, IfOk};
 ghost use Rattle.std.specs.List.{fold};
 ghost use Rattle.jc_snapshot.specs.Snapshot.{GrowsTo};
-ghost use Rattle.jc_explore.specs.Schedule.{state_of};
+ghost use Rattle.jc_explore.specs.Schedule.{scene_state};
 ghost use Rattle.jc_explore.specs.Keys.{HaveOneKey, IsKeyOf, fingerprint_of_key};
-ghost use Rattle.jc_explore.specs.Keys.{print_with, print_with_fault, print_with_position, print_with_reply};
+ghost use Rattle.jc_explore.specs.Keys.{key_print_with, print_with_fault, print_with_position, print_with_reply};
 
 use crate::replies::{ThreadReply, same_replies};
 use crate::scene::{Position, Scene};
@@ -30,7 +30,7 @@ pub struct StateKey {
 impl StateKey {
     /// The key of a scene. A thing that a table hasn't met gets its next number. An `Err` says that an allocation failed.
     pub fn of(alloc: Global, scene: &Scene, seen: &mut Seen) -> Result<StateKey, AllocError>
-        ensures key { IfOk result (λ key. IsKeyOf seen.new key (state_of scene.now)) }
+        ensures key { IfOk result (λ key. IsKeyOf seen.new key (scene_state scene.now)) }
         ensures grows { IfOk result (λ key. GrowsTo seen.old seen.new) }
     {
         let snapshot = Snapshot::of(alloc, &scene.world, seen)?;
@@ -65,14 +65,14 @@ impl StateKey {
 
 /// A fingerprint with one more number.
 fn with_word(print: u64, word: u64) -> u64
-    ensures { result ≡ print_with print word }
+    ensures { result ≡ key_print_with print word }
 {
     (print ^ word).wrapping_mul(PRINT_FACTOR)
 }
 
 /// A fingerprint with bytes.
 fn with_bytes(print: u64, bytes: &[u8]) -> u64
-    ensures { result ≡ fold print_with print bytes.now }
+    ensures { result ≡ fold key_print_with print bytes.now }
 {
     let mut longer = print;
     for byte in bytes {

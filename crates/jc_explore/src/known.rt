@@ -1,7 +1,7 @@
 //! The states that an exploration has come to, each once.
 ghost use Rattle.std.specs.Prelude.{◌≡◌, ◌<◌, ◌++◌, ◌∷◌, [], length, true, false, OnOk};
 ghost use Rattle.std.specs.List.{All, Any};
-ghost use Rattle.jc_explore.specs.Schedule.{Plays, have_sessions, opening, state_of};
+ghost use Rattle.jc_explore.specs.Schedule.{PlaysSchedule, have_sessions, opening, scene_state};
 ghost use Rattle.jc_explore.specs.Keys.{HaveOneKey, fingerprint_of_key};
 ghost use Rattle.jc_explore.specs.Search.{AreKnown, HavePlaces, HavePrints, IsKeyAt, Notes};
 
@@ -129,11 +129,11 @@ pub(crate) fn note_state(
     schedule: Vec<Move>,
     known: &mut States,
 ) -> Result<(), AllocError>
-    requires plays { Plays program.now (opening program.now) schedule.items (state_of scene.now) }
+    requires plays { PlaysSchedule program.now (opening program.now) schedule.items (scene_state scene.now) }
     requires sessions { have_sessions schedule.items ≡ true }
     requires known { AreKnown program.now known.old }
     ensures { OnOk result (
-        Notes program.now schedule.items known.old known.new (state_of scene.now)) }
+        Notes program.now schedule.items known.old known.new (scene_state scene.now)) }
 {
     snapshots_tell();
     snapshots_stay();
@@ -159,11 +159,11 @@ pub(crate) fn note_next(
     step: Move,
     known: &mut States,
 ) -> Result<(), AllocError>
-    requires plays { Plays program.now (opening program.now) (schedule.now ++ step ∷ []) (state_of scene.now) }
+    requires plays { PlaysSchedule program.now (opening program.now) (schedule.now ++ step ∷ []) (scene_state scene.now) }
     requires sessions { have_sessions (schedule.now ++ step ∷ []) ≡ true }
     requires known { AreKnown program.now known.old }
     ensures { OnOk result (
-        Notes program.now (schedule.now ++ step ∷ []) known.old known.new (state_of scene.now)) }
+        Notes program.now (schedule.now ++ step ∷ []) known.old known.new (scene_state scene.now)) }
 {
     let mut longer = Vec::from_slice(alloc, schedule)?;
     longer.push(step)?;

@@ -1,6 +1,6 @@
 //! The replies to threads.
 ghost use Rattle.std.specs.Prelude.{◌≡◌, true, false, count_by, nat_le, OnOk, Some};
-ghost use Rattle.jc_explore.specs.Schedule.{reply_in, with_reply, replies_after};
+ghost use Rattle.jc_explore.specs.Schedule.{outcome_reply, with_thread_reply, replies_after};
 
 use jc_model::Reply;
 use jc_world::{Outcome, Shown};
@@ -16,8 +16,8 @@ pub struct ThreadReply {
 }
 
 /// The reply of a call in an outcome, if there is one.
-fn reply_in(outcome: &Outcome) -> Option<Reply>
-    ensures { result ≡ reply_in outcome.now }
+fn outcome_reply(outcome: &Outcome) -> Option<Reply>
+    ensures { result ≡ outcome_reply outcome.now }
 {
     match outcome {
         Outcome::Stepped(stepped) => Some(stepped.reply),
@@ -36,7 +36,7 @@ fn up_to(replies: &[ThreadReply], thread: usize) -> usize
 
 /// Adds a reply after those of the threads up to its own.
 fn put_reply(replies: &mut Vec<ThreadReply>, thread: usize, reply: Reply) -> Result<(), AllocError>
-    ensures { OnOk result (replies.new.items ≡ with_reply thread replies.old.items (Some reply)) }
+    ensures { OnOk result (replies.new.items ≡ with_thread_reply thread replies.old.items (Some reply)) }
 {
     let at = up_to(replies, thread);
     replies.insert(at, ThreadReply { thread, reply })?;
@@ -50,9 +50,9 @@ fn put_reply_in(
     outcome: &Outcome,
 ) -> Result<(), AllocError>
     ensures { OnOk result (
-        replies.new.items ≡ with_reply thread replies.old.items (reply_in outcome.now)) }
+        replies.new.items ≡ with_thread_reply thread replies.old.items (outcome_reply outcome.now)) }
 {
-    match reply_in(outcome) {
+    match outcome_reply(outcome) {
         Some(reply) => put_reply(replies, thread, reply),
         None => Ok(()),
     }

@@ -4,8 +4,8 @@ ghost use Rattle.std.specs.Prelude.{slice_get};
 ghost use Rattle.jc_types.specs.Limits.{check};
 ghost use Rattle.jc_types.specs.declared.limits.TheConstants.{SESSIONS_MAX};
 ghost use Rattle.jc_world.specs.Determinism.{has_memory, have_memory};
-ghost use Rattle.jc_explore.specs.Schedule.{SceneState, Moves, are_going_on, events_of, has_session, is_going_on, is_proper};
-ghost use Rattle.jc_explore.specs.Schedule.{has_number_for, opening, position_after, state_of, unbegun, with_all_stored};
+ghost use Rattle.jc_explore.specs.Schedule.{SceneState, Moves, are_going_on, move_events, has_session, is_going_on, is_proper};
+ghost use Rattle.jc_explore.specs.Schedule.{has_number_for, opening, position_after, scene_state, unbegun, with_all_stored};
 
 use crate::events::{has_number_for, put_events};
 use crate::moves::{Act, Move};
@@ -137,7 +137,7 @@ impl Scene {
     /// The scene before anything has happened. An `Err` says that an allocation failed.
     pub fn open(alloc: Global, program: &Program) -> Result<Scene, AllocError>
         requires { check program.now.config ≡ Ok tt }
-        ensures { IfOk result (λ s. state_of s ≡ opening program.now) }
+        ensures { IfOk result (λ s. scene_state s ≡ opening program.now) }
     {
         let mut positions = Vec::new(alloc);
         put_positions(&mut positions, program.threads.len())?;
@@ -163,7 +163,7 @@ impl Scene {
     /// Goes back to before anything has happened. An `Err` says that an allocation failed; the scene can't be used any more then.
     pub fn restart(&mut self, alloc: Global, program: &Program) -> Result<(), AllocError>
         requires { check program.now.config ≡ Ok tt }
-        ensures { OnOk result (state_of self.new ≡ opening program.now) }
+        ensures { OnOk result (scene_state self.new ≡ opening program.now) }
     {
         if is_shape(self.world.config(), &program.config) {
             self.restart_here(program)?;
@@ -176,7 +176,7 @@ impl Scene {
     /// Goes back with the world that is there, which has the program's shape.
     fn restart_here(&mut self, program: &Program) -> Result<(), AllocError>
         requires { self.old.world.world.config ≡ program.now.config }
-        ensures { OnOk result (state_of self.new ≡ opening program.now) }
+        ensures { OnOk result (scene_state self.new ≡ opening program.now) }
     {
         self.world.restart();
         self.replies.clear();
@@ -189,7 +189,7 @@ impl Scene {
     /// Goes back with a world that is made anew.
     fn restart_anew(&mut self, alloc: Global, program: &Program) -> Result<(), AllocError>
         requires { check program.now.config ≡ Ok tt }
-        ensures { OnOk result (state_of self.new ≡ opening program.now) }
+        ensures { OnOk result (scene_state self.new ≡ opening program.now) }
     {
         let fresh = Scene::open(alloc, program)?;
         let old = mem::replace(self, fresh);
@@ -213,7 +213,7 @@ impl Scene {
     pub fn may(&self, alloc: Global, program: &Program, step: Move) -> Result<bool, AllocError>
         requires { has_session step ≡ true }
         ensures { IfOk result (λ may. may ≡ false
-            → (new : SceneState) → Moves program.now (state_of self.now) step new → ⊥) }
+            → (new : SceneState) → Moves program.now (scene_state self.now) step new → ⊥) }
     {
         let Some(position) = position_at(&self.positions, step.thread) else {
             return Ok(false);
@@ -232,9 +232,9 @@ impl Scene {
     pub fn step(&mut self, alloc: Global, program: &Program, step: Move) -> Result<bool, AllocError>
         requires { has_session step ≡ true }
         ensures moved { IfOk result (λ moved. moved ≡ true
-            → Moves program.now (state_of self.old) step (state_of self.new)) }
+            → Moves program.now (scene_state self.old) step (scene_state self.new)) }
         ensures stays { IfOk result (λ moved. moved ≡ false
-            → (new : SceneState) → Moves program.now (state_of self.old) step new → ⊥) }
+            → (new : SceneState) → Moves program.now (scene_state self.old) step new → ⊥) }
     {
         runs_are_determined();
         let Some(position) = position_at(&self.positions, step.thread) else {

@@ -4,11 +4,11 @@ ghost use Rattle.jc_explore.specs.declared.search.TheConstants.{OUTCOMES_MAX};
 ghost use Rattle.std.specs.Prelude.{◌≡◌, ◌||◌, ◌≤◌, ◌<◌, ◌++◌, ◌∷◌, [], List, Ok, length, true, false, IfOk, OnOk};
 ghost use Rattle.std.specs.List.{All};
 ghost use Rattle.jc_types.specs.Limits.{check};
-ghost use Rattle.jc_explore.specs.Explored.{AreDistinct, AreShortest, AreWitnessed, HasEachOutcome, IsCounted, IsEnd, IsFound, IsRefusedAs, IsTried, IsAccepted};
+ghost use Rattle.jc_explore.specs.Explored.{AreDistinct, AreShortest, AreWitnessed, HasEachOutcome, CountsScenes, IsEnd, IsFound, IsRefusedAs, IsTried, IsAccepted};
 ghost use Rattle.jc_explore.specs.Final.{FinalValue, IsFinal, final_of};
 ghost use Rattle.jc_explore.specs.Moves.{moves_up_to};
-ghost use Rattle.jc_explore.specs.Schedule.{Moves, Plays, has_session, have_sessions, opening, state_of};
-ghost use Rattle.jc_explore.specs.Search.{AreKnown, Ends, Expands, Follows, HasExplored, IsSearchOf, KeepsMoves, NotesEnd, Searches, Visits, kept_if};
+ghost use Rattle.jc_explore.specs.Schedule.{Moves, PlaysSchedule, has_session, have_sessions, opening, scene_state};
+ghost use Rattle.jc_explore.specs.Search.{AreKnown, EndsSearch, Expands, Follows, HasExplored, IsSearchOf, KeepsMoves, NotesEnd, Searches, Visits, kept_if};
 
 use crate::final_state::FinalState;
 use crate::known::{States, note_next, note_state};
@@ -75,7 +75,7 @@ fn replay(
     schedule: &[Move],
 ) -> Result<(), AllocError>
     requires { have_sessions schedule.now ≡ true }
-    ensures { OnOk result (Plays program.now (state_of scene.old) schedule.now (state_of scene.new)) }
+    ensures { OnOk result (PlaysSchedule program.now (scene_state scene.old) schedule.now (scene_state scene.new)) }
 {
     for step in schedule {
         if !scene.step(alloc, program, *step)? {
@@ -95,7 +95,7 @@ fn go_to(
     requires config { check program.now.config ≡ Ok tt }
     requires sessions { have_sessions schedule.now ≡ true }
     ensures { OnOk result (
-        Plays program.now (opening program.now) schedule.now (state_of scene.new)) }
+        PlaysSchedule program.now (opening program.now) schedule.now (scene_state scene.new)) }
 {
     scene.restart(alloc, program)?;
     replay(alloc, program, scene, schedule)?;
@@ -113,9 +113,9 @@ fn return_to(
     requires config { check program.now.config ≡ Ok tt }
     requires sessions { have_sessions schedule.now ≡ true }
     requires there { is_there ≡ true
-        → Plays program.now (opening program.now) schedule.now (state_of scene.old) }
+        → PlaysSchedule program.now (opening program.now) schedule.now (scene_state scene.old) }
     ensures { OnOk result (
-        Plays program.now (opening program.now) schedule.now (state_of scene.new)) }
+        PlaysSchedule program.now (opening program.now) schedule.now (scene_state scene.new)) }
 {
     if is_there {
         return Ok(());
@@ -137,7 +137,7 @@ fn follow(
     requires config { check program.now.config ≡ Ok tt }
     requires sessions { have_sessions schedule.now ≡ true }
     requires session { has_session step ≡ true }
-    requires there { Plays program.now (opening program.now) schedule.now (state_of scene.old) }
+    requires there { PlaysSchedule program.now (opening program.now) schedule.now (scene_state scene.old) }
     requires known { AreKnown program.now known.old }
     ensures { IfOk result (λ moved.
         Follows program.now schedule.now step known.old known.new moved) }
@@ -169,7 +169,7 @@ fn keep_moves(
     moves: &[Move],
 ) -> Result<Vec<Move>, AllocError>
     requires { have_sessions moves.now ≡ true }
-    ensures { IfOk result (λ kept. KeepsMoves program.now (state_of scene.now) moves.now kept.items) }
+    ensures { IfOk result (λ kept. KeepsMoves program.now (scene_state scene.now) moves.now kept.items) }
 {
     let mut kept = Vec::new(alloc);
     for step in moves {
@@ -199,7 +199,7 @@ fn expand(
     requires config { check program.now.config ≡ Ok tt }
     requires moves { have_sessions moves.now ≡ true }
     requires sessions { have_sessions schedule.now ≡ true }
-    requires there { Plays program.now (opening program.now) schedule.now (state_of scene.old) }
+    requires there { PlaysSchedule program.now (opening program.now) schedule.now (scene_state scene.old) }
     requires known { AreKnown program.now known.old }
     ensures { IfOk result (λ any.
         Expands program.now moves.now schedule.now known.old known.new any) }
@@ -237,12 +237,12 @@ fn note_end(
     schedule: &[Move],
     found: &mut Vec<Finding>,
 ) -> Result<(), AllocError>
-    requires plays { Plays program.now (opening program.now) schedule.now (state_of scene.now) }
-    requires ends { IsEnd program.now (state_of scene.now) }
+    requires plays { PlaysSchedule program.now (opening program.now) schedule.now (scene_state scene.now) }
+    requires ends { IsEnd program.now (scene_state scene.now) }
     requires witnessed { AreWitnessed program.now found.old.items }
     requires distinct { AreDistinct found.old.items }
     ensures { OnOk result (
-        NotesEnd program.now schedule.now found.old.items found.new.items (state_of scene.now)) }
+        NotesEnd program.now schedule.now found.old.items found.new.items (scene_state scene.now)) }
 {
     let _threads = program.threads.len();
     let state = FinalState::of(alloc, scene)?;
@@ -307,7 +307,7 @@ fn visit_all<W: Watch>(
 ) -> Result<bool, AllocError>
     requires accepted { IsAccepted program.now }
     requires search { Searches program.now search.old }
-    ensures { IfOk result (λ whole. Ends program.now states search.new whole) }
+    ensures { IfOk result (λ whole. EndsSearch program.now states search.new whole) }
 {
     let moves = moves_up_to(alloc, program.threads.len())?;
     runs_are_determined();
@@ -330,7 +330,7 @@ fn visit_all<W: Watch>(
 
 /// A search that knows the opening alone. The scene must be at the opening.
 fn begin(alloc: Global, program: &Program, scene: &Scene) -> Result<Search, AllocError>
-    requires { state_of scene.now ≡ opening program.now }
+    requires { scene_state scene.now ≡ opening program.now }
     ensures { IfOk result (λ search. Searches program.now search) }
 {
     let mut known = States::new(alloc);
@@ -349,7 +349,7 @@ fn search_with<W: Watch>(
     watch: &mut W,
 ) -> Result<Explored, AllocError>
     requires accepted { IsAccepted program.now }
-    requires opened { state_of scene.old ≡ opening program.now }
+    requires opened { scene_state scene.old ≡ opening program.now }
     ensures { IfOk result (λ r. HasExplored program.now states r) }
 {
     let mut search = begin(alloc, program, scene)?;
@@ -404,7 +404,7 @@ pub fn explore<W: Watch>(
     ensures all { IfOk result (λ r. r.is_whole ≡ true → HasEachOutcome program.now r.found.items) }
     ensures budget { IfOk result (λ r. r.is_whole ≡ true → r.states ≤ states) }
     ensures tried { IfOk result (λ r. r.is_whole ≡ false → IsTried states r) }
-    ensures counted { IfOk result (λ r. IsCounted program.now states r) }
+    ensures counted { IfOk result (λ r. CountsScenes program.now states r) }
     ensures refused { IsRefusedAs program.now result }
 {
     if program.threads.len() > SESSIONS_MAX as usize {

@@ -14,9 +14,9 @@ pub use Rattle.jc_cache.specs.Caches.{CacheState}
 pub use Rattle.jc_cache.specs.Sessions.{HasAsked, MayCall}
 pub use Rattle.jc_session.specs.declared.session.Session.{Session}
 pub use Rattle.jc_invoke.specs.Invoke.{IsInvokedAll, result_at, result_entries, result_of}
-pub use Rattle.jc_invoke.specs.InvokeRounds.{HaveAsked, IsInvoked, IsReady, RunsOn}
+pub use Rattle.jc_invoke.specs.InvokeRounds.{HaveAsked, IsInvokeReady, IsInvoked, RunsOn}
 pub use Rattle.jc_invoke.specs.Processing.{HasRunEach, IsRoundAsked, IsTicketRun, IsToBeRun, KeepsProcessing, KeepsRunsRoom, MayRunEach, TakesKey}
-pub use Rattle.jc_invoke.specs.RoundRooms.{IsNextRoom, IsRoomFor, LeavesBatches}
+pub use Rattle.jc_invoke.specs.RoundRooms.{IsNextRoom, IsRoundRoomFor, LeavesBatches}
 pub use Rattle.jc_invoke.specs.Runs.{CallsEach, CallsRound, RunBehavior, RunsEach, RunsOne, WritesKind, batch_changes, in_boxes, run_behavior}
 pub use Rattle.jc_invoke.specs.declared.room.Batches.{Batches}
 pub use Rattle.jc_invoke.specs.declared.room.RoundRoom.{RoundRoom}
@@ -28,18 +28,18 @@ pub use Rattle.jc_model.specs.declared.event.Op.TheVariants.{Clear, Get, Invoke,
 pub use Rattle.jc_mutentry.specs.Done.{ProcessResult}
 pub use Rattle.jc_outside.specs.Calling.{KeepsType}
 pub use Rattle.jc_rounds.proofs.CallerLemmas.{IsOutAt, all_map, all_mapped, all_out, among_there, carried_out, distinct_reserved, entries_more, entries_new, entries_whole, may_again, no_batch, none_run, opens_call, or_true, ran_more, ran_none, ran_quiet, ran_refused, refused_over, same_keys, types_on}
-pub use Rattle.jc_rounds.specs.Answers.{IsToBeAnswered, RunState, claim_after, claims_after, done_of, done_room, is_change_of, key_of, key_run, reports, reservations_of}
+pub use Rattle.jc_rounds.specs.Answers.{IsToBeAnswered, RunState, asked_key, claim_after, claims_after, done_of, done_room, is_change_of, key_run, reports, reservations_of}
 pub use Rattle.jc_rounds.specs.Asking.{AsksFor, reserved_keys}
 pub use Rattle.jc_rounds.specs.Ends.{KeyEnd, key_end, key_ends}
 pub use Rattle.jc_rounds.specs.OutsideCalls.{WriteCallAsked, WriteCallState, WritesBatch, asked_keys, no_writes, wanted}
-pub use Rattle.jc_rounds.specs.Ran.{HasReserved, IsTold, KeepsTickets}
+pub use Rattle.jc_rounds.specs.Ran.{HasReserved, IsRoundTold, KeepsTickets}
 pub use Rattle.jc_rounds.specs.Rounds.{IsShown, KeyRun, ProcessAll, ProcessRound, Round, change_of, keys_asked}
 pub use Rattle.jc_rounds.specs.Running.{EachTakesMemory, HasRun, IsCarriedOut, with_rounds}
 pub use Rattle.jc_rounds.specs.Targets.{ops_of, ops_with}
-pub use Rattle.jc_rounds.specs.Underway.{AreRooms, IsBetween, IsNew, IsOver, Past, are_fresh, reserved_by, with_round}
-pub use Rattle.jc_rounds.specs.declared.answers.Answers.{Answers}
+pub use Rattle.jc_rounds.specs.Underway.{AreRooms, CallPast, IsBetween, IsNew, IsOver, are_fresh, reserved_by, with_round}
+pub use Rattle.jc_rounds.specs.declared.answers.RoundAnswers.{RoundAnswers}
 pub use Rattle.jc_rounds.specs.declared.bulk_call.BulkCall.{BulkCall}
-pub use Rattle.jc_rounds.specs.declared.progress.Progress.{Progress}
+pub use Rattle.jc_rounds.specs.declared.progress.KeyProgress.{KeyProgress}
 pub use Rattle.jc_session.specs.declared.agent.Agent.{Agent}
 pub use Rattle.jc_stripe.specs.Tickets.{Claim, TicketClaim, asks_processor, claim_of, entry_seen, id_of, is_loadable}
 pub use Rattle.jc_stripe.specs.declared.ticket.Reservation.{Reservation}

@@ -10,11 +10,11 @@
 --     told_of          what was answered for the keys that a round has reserved
 --     calls_then       the calls of rounds, and of those after them
 --     have_none, have_same, have_more    what the rounds have asked
-use Rattle.jc_invoke.proofs.Common.{CacheState, HasAsked, Session, HaveAsked, IsInvoked, IsReady, IsRoundAsked, IsToBeRun, MayRunEach, LeavesBatches, IsRoomFor, IsNextRoom, CallsEach, CallsRound, RunBehavior, in_boxes, Batches, RoundRoom, Bytes, Op, Clear, Get, Invoke, LoadAll, KeepsType, IsOutAt, all_map, all_mapped, all_out, among_there, distinct_reserved, types_on, RunState, done_room, key_run, reservations_of, AsksFor, reserved_keys, HasReserved, IsTold, KeepsTickets, IsShown, KeyRun, ProcessAll, ProcessRound, Round, EachTakesMemory, ops_of, ops_with, Past, are_fresh, reserved_by, Answers, BulkCall, Progress, TicketClaim, asks_processor, entry_seen, is_loadable, Reservation, ◌≡◌, ◌≤◌, ◌++◌, ℕ, zero, suc, List, [], ◌∷◌, map, slice_get, Bool, true, Option, None, Some, IfNone, IfSome, refl, sym, ap, subst, ◌∙◌, map-append, same_Some, Vec, All, AllByRecursion, IsAmong, DynBox}
+use Rattle.jc_invoke.proofs.Common.{CacheState, HasAsked, Session, HaveAsked, IsInvoked, IsInvokeReady, IsRoundAsked, IsToBeRun, MayRunEach, LeavesBatches, IsRoundRoomFor, IsNextRoom, CallsEach, CallsRound, RunBehavior, in_boxes, Batches, RoundRoom, Bytes, Op, Clear, Get, Invoke, LoadAll, KeepsType, IsOutAt, all_map, all_mapped, all_out, among_there, distinct_reserved, types_on, RunState, done_room, key_run, reservations_of, AsksFor, reserved_keys, HasReserved, IsRoundTold, KeepsTickets, IsShown, KeyRun, ProcessAll, ProcessRound, Round, EachTakesMemory, ops_of, ops_with, CallPast, are_fresh, reserved_by, RoundAnswers, BulkCall, KeyProgress, TicketClaim, asks_processor, entry_seen, is_loadable, Reservation, ◌≡◌, ◌≤◌, ◌++◌, ℕ, zero, suc, List, [], ◌∷◌, map, slice_get, Bool, true, Option, None, Some, IfNone, IfSome, refl, sym, ap, subst, ◌∙◌, map-append, same_Some, Vec, All, AllByRecursion, IsAmong, DynBox}
 use Rattle.jc_types.specs.declared.caller.Caller.{Caller}
 use Rattle.jc_types.specs.declared.config.Config.{Config}
 use Rattle.jc_stripe.specs.Refusals.{first_asked}
-use Rattle.jc_rounds.specs.KeyProgress.{is_reserved}
+use Rattle.jc_rounds.specs.KeyProgress.{holds_reservation}
 use Rattle.jc_rounds.specs.Keys.{IsTicketFor}
 use Rattle.jc_invoke.proofs.RoundAsked.{keys_run}
 
@@ -29,7 +29,7 @@ op_there (k ∷ keys) (suc place) key op at = op_there keys place key op at
 abbrev pub IsCalled : Config → List (Bytes × Op) → Reservation → Type 0
 IsCalled config targets r = (op : Op) × (entry : Option Bytes) × IsAmong targets (r.key, op) × (asks_processor (first_asked config op entry) ≡ true) × (r.first ≡ first_asked config op entry)
 
-called : (caller : Caller) (config : Config) (targets : List (Bytes × Op)) (keys : List Bytes) (ps : List Progress) (r : Reservation) → targets ≡ ops_with Invoke keys → IsOutAt is_reserved (IsTicketFor caller config) targets ps r → IsCalled config targets r
+called : (caller : Caller) (config : Config) (targets : List (Bytes × Op)) (keys : List Bytes) (ps : List KeyProgress) (r : Reservation) → targets ≡ ops_with Invoke keys → IsOutAt holds_reservation (IsTicketFor caller config) targets ps r → IsCalled config targets r
 called caller config targets keys ps r are out =
     let ticket = out.7 in
     let invoke : out.2 ≡ Invoke = op_there keys out.0 out.1 out.2 (ap (λ ts. slice_get ts out.0) (sym are) ∙ out.4) in
@@ -67,15 +67,15 @@ each_invoked config call invoked through place key op at =
     }
 
 -- what a round that has asked has left
-pub left_room : (most : ℕ) (through : Bool) (room : RoundRoom) (answers : Answers) (rest : Option Batches) (left : Option RoundRoom) → IsRoomFor most through room → LeavesBatches room rest → IsNextRoom rest answers left → most ≤ done_room answers
-    → IfSome left (λ next. IsRoomFor most through next)
+pub left_room : (most : ℕ) (through : Bool) (room : RoundRoom) (answers : RoundAnswers) (rest : Option Batches) (left : Option RoundRoom) → IsRoundRoomFor most through room → LeavesBatches room rest → IsNextRoom rest answers left → most ≤ done_room answers
+    → IfSome left (λ next. IsRoundRoomFor most through next)
 left_room most through room answers None None is quiet next few = tt
 left_room most through room answers None (Some n) is quiet next few = absurd next
 left_room most through room answers (Some b) None is quiet next few = tt
 left_room most through room answers (Some b) (Some n) is quiet next few =
-    subst (λ t. IsRoomFor most t n) (sym quiet.0 ∙ is.through_is) (next most few (quiet.1 ∙ is.writes_are) (quiet.2 ∙ is.deletes_are))
+    subst (λ t. IsRoundRoomFor most t n) (sym quiet.0 ∙ is.through_is) (next most few (quiet.1 ∙ is.writes_are) (quiet.2 ∙ is.deletes_are))
 
-pub left_none : (most : ℕ) (through : Bool) (room : RoundRoom) (answers : Answers) (rest : Option Batches) (left : Option RoundRoom) → IsRoomFor most through room → LeavesBatches room rest → IsNextRoom rest answers left → IfNone left (through ≡ true)
+pub left_none : (most : ℕ) (through : Bool) (room : RoundRoom) (answers : RoundAnswers) (rest : Option Batches) (left : Option RoundRoom) → IsRoundRoomFor most through room → LeavesBatches room rest → IsNextRoom rest answers left → IfNone left (through ≡ true)
 left_none most through room answers None None is quiet next = sym is.through_is ∙ quiet
 left_none most through room answers None (Some n) is quiet next = tt
 left_none most through room answers (Some b) None is quiet next = absurd next
@@ -87,22 +87,22 @@ left_there P (Some x) is it = cc
 
 -- 2. A round.
 
-pub ready_later : (config : Config) (call begun : BulkCall) (room : RoundRoom) → begun.targets ≡ call.targets → begun.most ≡ call.most → IsReady config call room → IsReady config begun room
+pub ready_later : (config : Config) (call begun : BulkCall) (room : RoundRoom) → begun.targets ≡ call.targets → begun.most ≡ call.most → IsInvokeReady config call room → IsInvokeReady config begun room
 ready_later config call begun room targets most ready = record {
   invoked = (ready.invoked.0, ap (λ t. ops_of t.now) targets ∙ ready.invoked.1);
-  room_is = subst (λ n. IsRoomFor n config.write_through room) (sym most) ready.room_is;
+  room_is = subst (λ n. IsRoundRoomFor n config.write_through room) (sym most) ready.room_is;
 }
 
 module _ {I J : Type 0} {D : I → Type 0} {E : J → Type 0} (cache : CacheState) where
   -- each ticket is of a key of the call, and asks its processor
-  pub all_called : (past : Past) (mid : Session I J D E) (begun : BulkCall) → IsInvoked begun → HasReserved cache past mid begun → AllByRecursion (IsCalled cache.config (ops_of begun.targets.now)) (map reserved_by begun.tickets.items)
+  pub all_called : (past : CallPast) (mid : Session I J D E) (begun : BulkCall) → IsInvoked begun → HasReserved cache past mid begun → AllByRecursion (IsCalled cache.config (ops_of begun.targets.now)) (map reserved_by begun.tickets.items)
   all_called past mid begun invoked reserved =
       let ops = ops_of begun.targets.now in
-      all_map (IsOutAt is_reserved (IsTicketFor past.caller cache.config) ops begun.progress.items) (IsCalled cache.config ops) (map reserved_by begun.tickets.items)
+      all_map (IsOutAt holds_reservation (IsTicketFor past.caller cache.config) ops begun.progress.items) (IsCalled cache.config ops) (map reserved_by begun.tickets.items)
       (λ r out. called past.caller cache.config ops invoked.0 begun.progress.items r invoked.1 out)
-      (all_out is_reserved (IsTicketFor past.caller cache.config) ops begun.progress.items (map reserved_by begun.tickets.items) reserved.started.on.under.calls_are)
+      (all_out holds_reservation (IsTicketFor past.caller cache.config) ops begun.progress.items (map reserved_by begun.tickets.items) reserved.started.on.under.calls_are)
 
-  pub may_run : (past : Past) (mid : Session I J D E) (begun : BulkCall) (room : RoundRoom) → IsReady cache.config begun room → HasReserved cache past mid begun → MayRunEach mid begun.tickets room
+  pub may_run : (past : CallPast) (mid : Session I J D E) (begun : BulkCall) (room : RoundRoom) → IsInvokeReady cache.config begun room → HasReserved cache past mid begun → MayRunEach mid begun.tickets room
   may_run past mid begun room ready reserved =
       let started = reserved.started in
       record {
@@ -131,15 +131,15 @@ module _ {P L W : Type 0} (behavior : RunBehavior L W P) (args : List Bytes) (th
 
 module _ {I J P Z : Type 0} {D : I → Type 0} {E : J → Type 0} {F : P → Type 0}
     (behavior : RunBehavior ((i : I) × D i) ((j : J) × E j) (DynBox P Z F)) (args : List Bytes) (cache : CacheState) where
-  abbrev Asked : List Bytes → Session I J D E → Bool → List TicketClaim → DynBox P Z F → Session I J D E → Answers → DynBox P Z F → Type 0
+  abbrev Asked : List Bytes → Session I J D E → Bool → List TicketClaim → DynBox P Z F → Session I J D E → RoundAnswers → DynBox P Z F → Type 0
   Asked given mid through tickets processor after answers p = HasAsked mid after (IsRoundAsked behavior given through mid.agent tickets processor after.agent answers p)
 
   -- `given` are the arguments that the processor was run with
-  pub told_of : (given : List Bytes) (past : Past) (mid after : Session I J D E) (begun filled : BulkCall) (v : Vec TicketClaim) (processor p : DynBox P Z F) (through : Bool) (answers : Answers) → HasReserved cache past mid begun → IsInvoked begun → through ≡ cache.config.write_through
-      → KeepsTickets begun.tickets v → filled ≡ record begun { tickets = v } → (has : Asked given mid through begun.tickets.items processor after answers p) → IsTold cache past (ProcessAll has.asked.round) after filled answers None
+  pub told_of : (given : List Bytes) (past : CallPast) (mid after : Session I J D E) (begun filled : BulkCall) (v : Vec TicketClaim) (processor p : DynBox P Z F) (through : Bool) (answers : RoundAnswers) → HasReserved cache past mid begun → IsInvoked begun → through ≡ cache.config.write_through
+      → KeepsTickets begun.tickets v → filled ≡ record begun { tickets = v } → (has : Asked given mid through begun.tickets.items processor after answers p) → IsRoundTold cache past (ProcessAll has.asked.round) after filled answers None
   told_of given past mid after begun filled v processor p through answers reserved invoked same kept is has =
       let a = has.asked in
-      subst (λ (x : BulkCall). IsTold cache past (ProcessAll a.round) after x answers None) (sym is) (record {
+      subst (λ (x : BulkCall). IsRoundTold cache past (ProcessAll a.round) after x answers None) (sym is) (record {
         asking = mid;
         reserving = begun;
         reserved = reserved;
@@ -174,7 +174,7 @@ module _ {I J P Z : Type 0} {D : I → Type 0} {E : J → Type 0} {F : P → Typ
   }
 
   -- `new` is the session once the round is over
-  pub have_more : (old mid asking after new : Session I J D E) (processor p q : DynBox P Z F) (rounds : List Round) (tickets : List TicketClaim) (through : Bool) (answers : Answers) (given : List Bytes) → asking.agent.hands ≡ mid.agent.hands → Have old processor mid p rounds
+  pub have_more : (old mid asking after new : Session I J D E) (processor p q : DynBox P Z F) (rounds : List Round) (tickets : List TicketClaim) (through : Bool) (answers : RoundAnswers) (given : List Bytes) → asking.agent.hands ≡ mid.agent.hands → Have old processor mid p rounds
       → given ≡ args → through ≡ cache.config.write_through → (has : Asked given asking through tickets p after answers q) → new.agent.hands ≡ after.agent.hands → Have old processor new q (rounds ++ ProcessAll has.asked.round ∷ [])
   unfolding have_same
   have_more old mid asking after new processor p q rounds tickets through answers given from have same_args same has to =

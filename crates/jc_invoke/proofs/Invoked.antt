@@ -4,12 +4,12 @@
 --     over           after the last round nothing is out, and each key has an end
 --     invoked        then the call is carried out
 --     left_as        the processor that is left, under whichever name
-use Rattle.jc_invoke.proofs.Common.{CacheState, MayCall, Session, IsInvokedAll, RunsOn, RunBehavior, Bytes, Invoke, carried_out, may_again, none_run, opens_call, KeyEnd, key_ends, ProcessAll, ProcessRound, HasRun, IsCarriedOut, with_rounds, ops_of, ops_with, IsBetween, IsNew, IsOver, Past, BulkCall, ◌≡◌, ◌==◌, ℕ, List, [], length, map, refl, sym, ap, subst, ◌∙◌, pointwise, IsDistinct, keys_of, DynBox}
+use Rattle.jc_invoke.proofs.Common.{CacheState, MayCall, Session, IsInvokedAll, RunsOn, RunBehavior, Bytes, Invoke, carried_out, may_again, none_run, opens_call, KeyEnd, key_ends, ProcessAll, ProcessRound, HasRun, IsCarriedOut, with_rounds, ops_of, ops_with, IsBetween, IsNew, IsOver, CallPast, BulkCall, ◌≡◌, ◌==◌, ℕ, List, [], length, map, refl, sym, ap, subst, ◌∙◌, pointwise, IsDistinct, keys_of, DynBox}
 use Rattle.jc_session.specs.Sessions.{next_call}
 use Rattle.jc_invoke.proofs.KeyResults.{as_many, keys_distinct}
 
 module _ {I J : Type 0} {D : I → Type 0} {E : J → Type 0} (cache : CacheState) (old mid : Session I J D E) (call : BulkCall) (keys : List Bytes) where
-  abbrev pub before_it : Past
+  abbrev pub before_it : CallPast
   before_it = record { caller = (next_call old).agent.caller; first = old.seats.items; rounds = [] }
 
   between : MayCall cache old → mid ≡ next_call old → IsNew call.targets.now cache.config.stripes call → ops_of call.targets.now ≡ ops_with Invoke keys → IsDistinct (pointwise ◌==◌) keys → IsBetween cache before_it mid call

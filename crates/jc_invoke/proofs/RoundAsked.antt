@@ -5,13 +5,13 @@
 --     kind_asked       a call of the writer, as that of the round's changes of one kind
 --     unasked_writer   the writer isn't called for nothing
 --     round_asked      the round
-use Rattle.jc_invoke.proofs.Common.{Session, HasRunEach, IsRoundAsked, IsToBeRun, RunBehavior, RunsEach, WritesKind, batch_changes, in_boxes, RoundRoom, is_among, Bytes, Change, ProcessResult, KeepsType, no_batch, or_true, IsToBeAnswered, RunState, claims_after, key_of, key_run, reports, reservations_of, reserved_keys, WriteCallAsked, WritesBatch, wanted, KeyRun, ProcessAll, ProcessRound, keys_asked, reserved_by, Agent, Claim, TicketClaim, asks_processor, ◌≡◌, ◌==◌, ◌||◌, ℕ, zero, suc, List, [], ◌∷◌, map, reverse, Bool, true, false, Option, Result, Ok, refl, sym, ap, subst, ◌∙◌, arith, nat_list_eq_equiv, reverse-reverse, pointwise, Vec, AllByRecursion, IsAmong, DynBox}
+use Rattle.jc_invoke.proofs.Common.{Session, HasRunEach, IsRoundAsked, IsToBeRun, RunBehavior, RunsEach, WritesKind, batch_changes, in_boxes, RoundRoom, is_among, Bytes, Change, ProcessResult, KeepsType, no_batch, or_true, IsToBeAnswered, RunState, claims_after, asked_key, key_run, reports, reservations_of, reserved_keys, WriteCallAsked, WritesBatch, wanted, KeyRun, ProcessAll, ProcessRound, keys_asked, reserved_by, Agent, Claim, TicketClaim, asks_processor, ◌≡◌, ◌==◌, ◌||◌, ℕ, zero, suc, List, [], ◌∷◌, map, reverse, Bool, true, false, Option, Result, Ok, refl, sym, ap, subst, ◌∙◌, arith, nat_list_eq_equiv, reverse-reverse, pointwise, Vec, AllByRecursion, IsAmong, DynBox}
 use Rattle.jc_model.specs.declared.event.WriteAnswer.{WriteAnswer}
 use Rattle.jc_model.specs.declared.event.WriteAnswer.TheVariants.{NotAsked}
 use Rattle.jc_outside.specs.CallingAll.{DeleteAllRelation, WriteAllRelation, writes_done}
 use Rattle.jc_outside.specs.Done.{WriteResult}
 use Rattle.jc_session.specs.Boxed.{boxed}
-use Rattle.jc_rounds.specs.declared.answers.Answers.TheVariants as answers
+use Rattle.jc_rounds.specs.declared.answers.RoundAnswers.TheVariants as answers
 use Rattle.jc_invoke.proofs.Runs.{changes_are}
 
 -- 1. Keys.
@@ -52,7 +52,7 @@ pub unasked_writer : {I J : Type 0} {D : I → Type 0} {E : J → Type 0}
 unasked_writer writes_all deletes_all write_state session deletes items done none nothing = record {
   said = λ key. NotAsked;
   writes = no_batch (boxed writes_all) (boxed deletes_all) (boxed write_state) deletes items session.agent.hands.outside.writer (λ key. NotAsked) none;
-  done_are = ap reverse nothing ∙ sym (ap (writes_done key_of (λ key. NotAsked)) none);
+  done_are = ap reverse nothing ∙ sym (ap (writes_done asked_key (λ key. NotAsked)) none);
   writer_type = refl;
   loader = refl;
 }
@@ -82,8 +82,8 @@ module _ {I J P Z : Type 0} {D : I → Type 0} {E : J → Type 0} {F : P → Typ
             runs = has.runs;
             calls_are = sym has.calls_are;
             done_are = ap reverse back ∙ reverse-reverse room.runs.items ∙ has.done_are;
-            written_are = w.done_are ∙ ap (writes_done key_of w.said) has.writes_are ∙ (λ i. reports (sym same i) false w.said has.runs);
-            deleted_are = d.done_are ∙ ap (writes_done key_of d.said) has.deletes_are ∙ (λ i. reports (sym same i) true d.said has.runs);
+            written_are = w.done_are ∙ ap (writes_done asked_key w.said) has.writes_are ∙ (λ i. reports (sym same i) false w.said has.runs);
+            deleted_are = d.done_are ∙ ap (writes_done asked_key d.said) has.deletes_are ∙ (λ i. reports (sym same i) true d.said has.runs);
             each = each_among (map key_run has.runs) has.runs (λ run is. is);
           },
           key_asked round tickets (λ key is. ap (λ ks. is_among ks key) keys ∙ is) fresh,

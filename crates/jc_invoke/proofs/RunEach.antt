@@ -11,7 +11,7 @@
 --     run_as          a run, under whichever names of its ticket and of its arguments
 --     may_take        there is room for the next run, and its key is new
 --     begins          before the first run
-use Rattle.jc_invoke.proofs.Common.{HasRunEach, IsTicketRun, KeepsRunsRoom, TakesKey, IsRoomFor, IsNextRoom, RunBehavior, in_boxes, Batches, RoundRoom, is_among, Bytes, RunState, claims_after, done_of, done_room, reservations_of, reserved_keys, WriteCallState, asked_keys, no_writes, reserved_by, Answers, Agent, TicketClaim, ◌≡◌, ◌≤◌, ◌<◌, ◌+◌, ◌++◌, ℕ, zero, suc, List, [], ◌∷◌, length, map, set, take, drop, get_or, Bool, false, true, Option, Some, vec_capacity, refl, sym, ap, subst, ◌∙◌, arith, drop_more, length-append, map-append, take-append-drop, take-map, take_more, pointwise, IsDistinct, DynBox}
+use Rattle.jc_invoke.proofs.Common.{HasRunEach, IsTicketRun, KeepsRunsRoom, TakesKey, IsRoundRoomFor, IsNextRoom, RunBehavior, in_boxes, Batches, RoundRoom, is_among, Bytes, RunState, claims_after, done_of, done_room, reservations_of, reserved_keys, WriteCallState, asked_keys, no_writes, reserved_by, RoundAnswers, Agent, TicketClaim, ◌≡◌, ◌≤◌, ◌<◌, ◌+◌, ◌++◌, ℕ, zero, suc, List, [], ◌∷◌, length, map, set, take, drop, get_or, Bool, false, true, Option, Some, vec_capacity, refl, sym, ap, subst, ◌∙◌, arith, drop_more, length-append, map-append, take-append-drop, take-map, take_more, pointwise, IsDistinct, DynBox}
 use Rattle.jc_invoke.proofs.Runs.{claims_push, new_claim, runs_push}
 
 pub record RoomLeft (through : Bool) (all place : ℕ) (room : RoundRoom) : Type 0 where
@@ -35,8 +35,8 @@ keeps_both a b c one two = record {
 pub keeps_noted : (room room' : RoundRoom) → room'.through ≡ room.through → vec_capacity room'.runs ≡ vec_capacity room.runs → (room.through ≡ false → ⊥) → KeepsRunsRoom room room'
 keeps_noted room room' through runs never = record { through_is = through; runs_room = runs; quiet = λ off. absurd (never off) }
 
-pub room_of : (rest : Option Batches) (batches : Batches) (answers : Answers) (room : RoundRoom) → rest ≡ Some batches
-    → ((keys : ℕ) → keys ≤ done_room answers → batches.writes ≡ no_writes false keys → batches.deletes ≡ no_writes true keys → IsRoomFor keys false room) → IsNextRoom rest answers (Some room)
+pub room_of : (rest : Option Batches) (batches : Batches) (answers : RoundAnswers) (room : RoundRoom) → rest ≡ Some batches
+    → ((keys : ℕ) → keys ≤ done_room answers → batches.writes ≡ no_writes false keys → batches.deletes ≡ no_writes true keys → IsRoundRoomFor keys false room) → IsNextRoom rest answers (Some room)
 room_of rest batches answers room is next = subst (λ r. IsNextRoom r answers (Some room)) (sym is) next
 
 -- 2. Tickets.
@@ -126,7 +126,7 @@ run_as behavior args given old new processor p t same ticket room room' given_is
 -- before the first run
 pub begins : {I J P Z : Type 0} {D : I → Type 0} {E : J → Type 0} {F : P → Type 0}
     (behavior : RunBehavior ((i : I) × D i) ((j : J) × E j) (DynBox P Z F)) (args : List Bytes)
-    (most : ℕ) (through : Bool) (first : Agent I J D E) (processor : DynBox P Z F) (tickets : List TicketClaim) (room : RoundRoom) → length tickets ≤ most → IsRoomFor most through room
+    (most : ℕ) (through : Bool) (first : Agent I J D E) (processor : DynBox P Z F) (tickets : List TicketClaim) (room : RoundRoom) → length tickets ≤ most → IsRoundRoomFor most through room
     → RoomLeft room.through (length tickets) 0 room × HasRunEach behavior args room.through first [] processor first room processor
 begins behavior args most through first processor tickets room few is =
     let writes = ap (λ (w : WriteCallState). w.room) is.writes_are in

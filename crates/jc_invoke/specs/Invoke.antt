@@ -19,8 +19,8 @@ use Rattle.jc_model.specs.declared.event.Reply.TheVariants as reply
 use Rattle.jc_engine.specs.Asking.{KeepsTypes}
 use Rattle.jc_cache.specs.Caches.{CacheState}
 use Rattle.jc_session.specs.declared.session.Session.{Session}
-use Rattle.jc_rounds.specs.declared.progress.Progress.{Progress}
-use Rattle.jc_rounds.specs.declared.progress.Progress.TheVariants.{Waiting, Reserved, Joined, Ended}
+use Rattle.jc_rounds.specs.declared.progress.KeyProgress.{KeyProgress}
+use Rattle.jc_rounds.specs.declared.progress.KeyProgress.TheVariants.{Waiting, Reserved, Joined, Ended}
 use Rattle.jc_rounds.specs.Ends.{KeyEnd, entries_by}
 use Rattle.jc_rounds.specs.Rounds.{ProcessAll, ProcessRound}
 use Rattle.jc_rounds.specs.Running.{IsCarriedOut}
@@ -35,7 +35,7 @@ result_of (Ok (reply.Value (Some value))) = Some (Ok value)
 result_of (Ok (reply.Flag flag)) = None
 result_of (Ok reply.Unit) = None
 
-abbrev pub result_at : Progress → Option (Result Bytes Refusal)
+abbrev pub result_at : KeyProgress → Option (Result Bytes Refusal)
 result_at Waiting = None
 result_at Reserved = None
 result_at Joined = None

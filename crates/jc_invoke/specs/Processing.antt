@@ -26,7 +26,7 @@ use Rattle.jc_engine.specs.Asking.{KeepsTypes}
 use Rattle.jc_cache.specs.Caches.{CacheState}
 use Rattle.jc_cache.specs.Sessions.{IsOf}
 use Rattle.jc_session.specs.declared.session.Session.{Session}
-use Rattle.jc_rounds.specs.declared.answers.Answers.{Answers}
+use Rattle.jc_rounds.specs.declared.answers.RoundAnswers.{RoundAnswers}
 use Rattle.jc_rounds.specs.Answers.{AreAnswers, RunState, claims_after, done_of, key_run, reservations_of}
 use Rattle.jc_rounds.specs.Asking.{reserved_keys}
 use Rattle.jc_rounds.specs.OutsideCalls.{asked_keys}
@@ -34,7 +34,7 @@ use Rattle.jc_rounds.specs.Rounds.{ProcessAll, ProcessRound}
 use Rattle.jc_rounds.specs.Underway.{reserved_by}
 use Rattle.jc_invoke.specs.declared.room.RoundRoom.{RoundRoom}
 use Rattle.jc_invoke.specs.declared.run.Processing.{Processing}
-use Rattle.jc_invoke.specs.RoundRooms.{IsRoomFor}
+use Rattle.jc_invoke.specs.RoundRooms.{IsRoundRoomFor}
 use Rattle.jc_invoke.specs.Runs.{CallsRound, RunBehavior, RunsEach, RunsOne, in_boxes}
 
 -- 1. One ticket. `room'` is the room after it.
@@ -99,7 +99,7 @@ pub record MayRunEach {I J : Type 0} {D : I → Type 0} {E : J → Type 0} (sess
   pub distinct : IsDistinct (pointwise ◌==◌) (reserved_keys (map reserved_by tickets.items))
   pub most : ℕ
   pub few : length tickets.items ≤ most
-  pub room_is : IsRoomFor most cache.config.write_through room
+  pub room_is : IsRoundRoomFor most cache.config.write_through room
 
 pub record HasRunEach
     {I J P Z : Type 0} {D : I → Type 0} {E : J → Type 0} {F : P → Type 0}
@@ -122,7 +122,7 @@ pub record IsRoundAsked
     {I J P Z : Type 0} {D : I → Type 0} {E : J → Type 0} {F : P → Type 0}
     (behavior : RunBehavior ((i : I) × D i) ((j : J) × E j) (DynBox P Z F)) (args : List Bytes) (through : Bool)
     (old : Agent I J D E) (calls : List TicketClaim) (processor : DynBox P Z F)
-    (new : Agent I J D E) (answers : Answers) (processor' : DynBox P Z F) : Type 0 where
+    (new : Agent I J D E) (answers : RoundAnswers) (processor' : DynBox P Z F) : Type 0 where
   pub round : ProcessRound
   pub runs : List RunState
   pub calls_are : reservations_of runs ≡ map reserved_by calls

@@ -12,7 +12,7 @@ ghost use Rattle.jc_rounds.specs.Targets.{ops_with};
 use indexmap::IndexMap;
 use jc_batch::insert_new;
 use jc_model::Reply;
-use jc_rounds::Progress;
+use jc_rounds::KeyProgress;
 use jc_types::{Key, Refusal, Value};
 
 /// The result of a key that has ended. A processor that gives no value has no result.
@@ -28,12 +28,12 @@ fn result_of(ended: &Result<Reply, Refusal>) -> Option<Result<Value, Refusal>>
 }
 
 /// The result of a key in this state, if it has one.
-fn result_at(progress: &Progress) -> Option<Result<Value, Refusal>>
+fn result_at(progress: &KeyProgress) -> Option<Result<Value, Refusal>>
     ensures { result ≡ result_at progress.now }
 {
     match progress {
-        Progress::Waiting | Progress::Reserved | Progress::Joined => None,
-        Progress::Ended(ended) => result_of(ended),
+        KeyProgress::Waiting | KeyProgress::Reserved | KeyProgress::Joined => None,
+        KeyProgress::Ended(ended) => result_of(ended),
     }
 }
 
@@ -41,7 +41,7 @@ fn result_at(progress: &Progress) -> Option<Result<Value, Refusal>>
 pub(crate) fn fill_results(
     results: &mut IndexMap<Key, Result<Value, Refusal>>,
     keys: &[Key],
-    progress: &[Progress],
+    progress: &[KeyProgress],
 )
     requires keys { IsDistinct (pointwise ◌==◌) keys.now × (length progress.now ≡ length keys.now) }
     requires empty { (results.old.entries ≡ []) × (length keys.now ≤ spare results.old) }
@@ -56,7 +56,7 @@ pub(crate) fn fill_results(
 fn insert_result(
     results: &mut IndexMap<Key, Result<Value, Refusal>>,
     key: &Key,
-    progress: &Progress,
+    progress: &KeyProgress,
 )
     requires new { (list_any (pointwise ◌==◌ key.now) (keys_of results.old.entries) ≡ false) × (0 < spare results.old) }
     ensures entries { results.new.entries ≡ results.old.entries

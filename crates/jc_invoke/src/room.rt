@@ -1,5 +1,5 @@
 //! The memory of one round for what it asks outside.
-use jc_rounds::{Answers, WriteCall};
+use jc_rounds::{RoundAnswers, WriteCall};
 use jc_stripe::{Ask, ProcDone};
 use std::alloc::{AllocError, Global};
 
@@ -29,11 +29,11 @@ impl RoundRoom {
     ghost use Rattle.jc_types.specs.declared.config.Config.{Config};
     ghost use Rattle.jc_rounds.specs.Answers.{AreAnswers};
     ghost use Rattle.jc_rounds.specs.Rounds.{ProcessAll, ProcessRound};
-    ghost use Rattle.jc_invoke.specs.RoundRooms.{IsRoomFor, IsNextRoom};
+    ghost use Rattle.jc_invoke.specs.RoundRooms.{IsRoundRoomFor, IsNextRoom};
 
     /// Room for `keys` keys, in a cache that writes through or doesn't. An `Err` says that an allocation failed.
     pub(crate) fn new(alloc: Global, through: bool, keys: usize) -> Result<RoundRoom, AllocError>
-        ensures { IfOk result (λ room. IsRoomFor keys through room) }
+        ensures { IfOk result (λ room. IsRoundRoomFor keys through room) }
     {
         let runs = Vec::with_capacity(alloc, keys)?;
         match WriteCall::writes(alloc, keys) {
@@ -59,7 +59,7 @@ impl RoundRoom {
 
     /// The memory of the next round, of what a round has left, once all its answers were taken. It takes no new memory. A round
     /// that had a batch for the writer leaves none.
-    pub(crate) fn again(answers: Answers, rest: Option<Batches>) -> Option<RoundRoom>
+    pub(crate) fn again(answers: RoundAnswers, rest: Option<Batches>) -> Option<RoundRoom>
         requires { (config : Config) × (round : ProcessRound) × AreAnswers config (ProcessAll round) answers [] }
         ensures { IsNextRoom rest answers result }
     {
@@ -79,7 +79,7 @@ impl RoundRoom {
 
     /// Frees the memory of a round that has asked nobody.
     pub(crate) fn end(self)
-        requires { (keys : ℕ) × (through : Bool) × IsRoomFor keys through self }
+        requires { (keys : ℕ) × (through : Bool) × IsRoundRoomFor keys through self }
     {
         let RoundRoom {
             through: _,

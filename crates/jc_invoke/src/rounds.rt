@@ -1,10 +1,10 @@
 //! The rounds of a call that runs a processor on many keys, with their calls outside and the memory for them.
 ghost use Rattle.std.specs.Prelude.{◌≡◌, ℕ, Bool, IfErr, IfOk, IfSome, None};
-ghost use Rattle.jc_rounds.specs.Underway.{IsOver, Past};
+ghost use Rattle.jc_rounds.specs.Underway.{CallPast, IsOver};
 ghost use Rattle.jc_rounds.specs.Running.{HasRun};
-ghost use Rattle.jc_invoke.specs.InvokeRounds.{IsReady, RunsOn};
+ghost use Rattle.jc_invoke.specs.InvokeRounds.{IsInvokeReady, RunsOn};
 ghost use Rattle.jc_invoke.specs.Processing.{KeepsProcessing};
-ghost use Rattle.jc_invoke.specs.RoundRooms.{IsRoomFor};
+ghost use Rattle.jc_invoke.specs.RoundRooms.{IsRoundRoomFor};
 ghost use Rattle.jc_invoke.specs.Runs.{run_behavior};
 
 use crate::room::RoundRoom;
@@ -27,10 +27,10 @@ pub(crate) fn run_rounds<R: Wait>(
     room: RoundRoom,
     processing: &mut Processing<'_>,
 )
-    requires ready { IsReady cache.now.config call.old room }
-    requires run { (past : Past) × HasRun cache.now past session.old call.old }
+    requires ready { IsInvokeReady cache.now.config call.old room }
+    requires run { (past : CallPast) × HasRun cache.now past session.old call.old }
     ensures over { IsOver call.new × KeepsProcessing processing.old processing.new }
-    ensures runs { (past : Past) → HasRun cache.now past session.old call.old
+    ensures runs { (past : CallPast) → HasRun cache.now past session.old call.old
         → RunsOn (run_behavior loads load_state writes_all deletes_all write_state processes process_state)
         processing.old.args.now cache.now past session.old call.old processing.old.processor.now
         session.new call.new processing.new.processor.now }
@@ -67,8 +67,8 @@ fn next_room(
     keys: usize,
     left: Option<RoundRoom>,
 ) -> Result<RoundRoom, AllocError>
-    requires { IfSome left (λ room. IsRoomFor keys cache.now.config.write_through room) }
-    ensures { IfOk result (λ room. IsRoomFor keys cache.now.config.write_through room) × IfErr result (λ failed. left ≡ None) }
+    requires { IfSome left (λ room. IsRoundRoomFor keys cache.now.config.write_through room) }
+    ensures { IfOk result (λ room. IsRoundRoomFor keys cache.now.config.write_through room) × IfErr result (λ failed. left ≡ None) }
 {
     match left {
         Some(room) => Ok(room),
@@ -78,7 +78,7 @@ fn next_room(
 
 /// Frees what the last round has left.
 fn end_room(left: Option<RoundRoom>)
-    requires { (keys : ℕ) × (through : Bool) × IfSome left (λ room. IsRoomFor keys through room) }
+    requires { (keys : ℕ) × (through : Bool) × IfSome left (λ room. IsRoundRoomFor keys through room) }
 {
     match left {
         Some(room) => room.end(),

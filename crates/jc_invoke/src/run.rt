@@ -11,7 +11,7 @@ use crate::room::{Batches, RoundRoom};
 use jc_cache::Session;
 use jc_model::Change;
 use jc_mutentry::EntryProcessor;
-use jc_rounds::{Answers, change_after};
+use jc_rounds::{RoundAnswers, change_after};
 use jc_stripe::{Ask, ProcDone, Ticket};
 use jc_types::Value;
 use std::alloc::Global;
@@ -44,7 +44,7 @@ impl RoundRoom {
         session: &mut Session,
         tickets: &mut Vec<Ticket>,
         processing: &mut Processing<'_>,
-    ) -> (Answers, Option<Batches>)
+    ) -> (RoundAnswers, Option<Batches>)
         requires may { MayRunEach session.old tickets.old self }
         ensures asked { HasAsked session.old session.new
             (IsRoundAsked (run_behavior loads load_state writes_all deletes_all write_state processes process_state)
@@ -66,12 +66,12 @@ impl RoundRoom {
         if through {
             let (written, _returned) = writes.ask(rt, session);
             let (deleted, _also_returned) = deletes.ask(rt, session);
-            (Answers::Processes(done, written, deleted), None)
+            (RoundAnswers::Processes(done, written, deleted), None)
         } else {
             let written = Vec::new(processing.alloc);
             let deleted = Vec::new(processing.alloc);
             let rest = Batches { writes, deletes };
-            (Answers::Processes(done, written, deleted), Some(rest))
+            (RoundAnswers::Processes(done, written, deleted), Some(rest))
         }
     }
 

@@ -20,7 +20,7 @@ use Rattle.jc_litmus.specs.declared.run.LitmusEnd.{LitmusEnd}
 use Rattle.jc_litmus.specs.declared.run.LitmusEnd.TheVariants as end
 use Rattle.jc_litmus.specs.Meaning.{EndMeans, IsDecided, IsUndecided, Means, MeansBy, FulfilledBy, MissedBy}
 use Rattle.jc_explore.specs.Search.{HasExplored}
-use Rattle.jc_litmus.specs.Running.{Answers, IsAnswer}
+use Rattle.jc_litmus.specs.Running.{AnswersProgram, IsProgramAnswer}
 
 decided_by : (p : Program) (e : Expectation) (found : List Finding) (i : ℕ) → AreWitnessed p found → first_deciding e found ≡ Some i → IsDecided p e
 decided_by p e [] i w eq = absurd cc
@@ -102,6 +102,6 @@ pub end_means : (p : Program) (budget : ℕ) (r : Explored) (es : List Expectati
 end_means p budget r es found = end_by p budget r es found (list_any (λ e. is_failure (verdict_on r e)) es) r.is_whole refl refl
 
 pub answers_of : {V E : Type 0} (budget : ℕ) (input : List ℕ) (x : Litmus) (out : V → List ℕ) (end : V → LitmusEnd) (r : Result V E)
-    → program_of input ≡ Ok (value_of_program x) → IfOk r (λ v. IsAnswer budget x (out v) (end v)) → IfOk r (λ v. Answers budget input (out v) (end v))
+    → program_of input ≡ Ok (value_of_program x) → IfOk r (λ v. IsProgramAnswer budget x (out v) (end v)) → IfOk r (λ v. AnswersProgram budget input (out v) (end v))
 answers_of budget input x out end (Ok v) said is = inl (x, said, is)
 answers_of budget input x out end (Err e) said is = tt

@@ -9,7 +9,7 @@ use Rattle.std.specs.Global.{Vec}
 use Rattle.jc_explore.specs.declared.program.Item.{Item}
 use Rattle.jc_litmus.specs.declared.line_error.LineError.{LineError}
 use Rattle.jc_litmus.specs.declared.line_error.LineError.TheVariants as errors
-use Rattle.jc_litmus.specs.Reads.{Reads}
+use Rattle.jc_litmus.specs.Reads.{ReadsAs}
 
 pub onto_the_last : (one : Item) (threads : List (List Item)) (last : List Item) → onto_last one (threads ++ last ∷ []) ≡ threads ++ (last ++ one ∷ []) ∷ []
 onto_the_last one [] last = refl
@@ -40,7 +40,7 @@ next_line so_far new n text after rest cut read =
     ∙ ap (λ (r : Result ReadSoFar LineFault). then_on n r (λ new. program_from new (n + 1) (pieces_of after))) read
 
 pub at_fault : (so_far new : ReadSoFar) (n : ℕ) (text after rest : List ℕ) (error : LineError) → pieces_of rest ≡ text ∷ pieces_of after
-    → Reads {X = ReadSoFar} (Err error) (after_line so_far text) → ReadsLines (Err (fault_at n error)) new (program_from so_far n (pieces_of rest))
+    → ReadsAs {X = ReadSoFar} (Err error) (after_line so_far text) → ReadsLines (Err (fault_at n error)) new (program_from so_far n (pieces_of rest))
 at_fault so_far new n text after rest errors.Memory cut read = tt
 at_fault so_far new n text after rest (errors.Fault fault) cut read =
     at_line so_far n text after rest cut

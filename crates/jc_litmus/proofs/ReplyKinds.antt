@@ -15,8 +15,8 @@ use Rattle.jc_model.specs.declared.event.ProcessAnswer.{ProcessAnswer}
 use Rattle.jc_model.specs.declared.event.ProcessAnswer.TheVariants as process
 use Rattle.jc_model.specs.declared.event.Reply.TheVariants as reply
 use Rattle.jc_model.specs.Table.{early_fault, first_fault, first_of_two, is_invoke, is_load_given, is_process_given, is_write_given, load_fault, load_fits, loader_ask, process_fault, reply_by_fault, reply_without_fault, write_ask, write_fault}
-use Rattle.jc_litmus.specs.declared.reply_words.Answer.{Answer}
-use Rattle.jc_litmus.specs.declared.reply_words.Answer.TheVariants as answer
+use Rattle.jc_litmus.specs.declared.reply_words.AnswerKind.{AnswerKind}
+use Rattle.jc_litmus.specs.declared.reply_words.AnswerKind.TheVariants as answer
 
 -- 1. What is read.
 
@@ -36,7 +36,7 @@ value_read : (kind : ReplyKind) (r : Reply) (value : Result (Option Bytes) Fault
 value_read kind r (Ok value) is e = under kind true (reply.Value value) r (Err BadReply) (λ t. is) (no_reply kind r) e
 value_read kind r (Err fault) is e = no_reply kind r e
 
-plain_read : (kind : ReplyKind) (a : Answer) (word : List ℕ) (r : Reply) → kind.answer ≡ a → plain_reply a word ≡ Ok r → HasReply kind r
+plain_read : (kind : ReplyKind) (a : AnswerKind) (word : List ℕ) (r : Reply) → kind.answer ≡ a → plain_reply a word ≡ Ok r → HasReply kind r
 plain_read kind answer.Unit word r is e = under kind (bytes_eq word (codes "ok")) reply.Unit r (Err BadReply) (λ t. is) (no_reply kind r) e
 plain_read kind answer.Flag word r is e =
     under kind (bytes_eq word (codes "true")) (reply.Flag true) r _ (λ t. is)

@@ -23,8 +23,8 @@ use Rattle.jc_script.specs.declared.fault.Fault.{Fault}
 use Rattle.jc_script.specs.declared.fault.Fault.TheVariants.{BadLine}
 use Rattle.jc_script.specs.declared.read.line.Line.{Line}
 use Rattle.jc_script.specs.declared.read.line.Line.TheVariants as line
-use Rattle.jc_script.specs.declared.read.line.Act.{Act}
-use Rattle.jc_script.specs.declared.read.line.Act.TheVariants as act
+use Rattle.jc_script.specs.declared.read.line.ScriptAct.{ScriptAct}
+use Rattle.jc_script.specs.declared.read.line.ScriptAct.TheVariants as act
 use Rattle.jc_script.specs.declared.read.line.Operation.{Operation}
 use Rattle.jc_script.specs.Words.{number_of}
 use Rattle.jc_script.specs.Lines.{begin_of, read_line}
@@ -68,7 +68,7 @@ plain_calls Store calls (Some code) = Err (Script BadLine)
 plain_calls (Stated value) calls fail = Err (Script BadLine)
 plain_calls (Failing code) calls fail = Err (Script BadLine)
 
-abbrev pub act_calls : Act → Result (List EntryCall) LineFault
+abbrev pub act_calls : ScriptAct → Result (List EntryCall) LineFault
 act_calls (act.Process load calls fail) = plain_calls load calls fail
 act_calls other = Err (Script BadLine)
 

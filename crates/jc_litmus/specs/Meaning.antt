@@ -9,7 +9,7 @@ use Rattle.std.specs.Prelude.{◌≡◌, List, true, false}
 use Rattle.std.specs.List.{All, Any}
 use Rattle.jc_explore.specs.declared.moves.Move.{Move}
 use Rattle.jc_explore.specs.declared.program.Program.{Program}
-use Rattle.jc_explore.specs.Explored.{IsWhole}
+use Rattle.jc_explore.specs.Explored.{IsWholeSchedule}
 use Rattle.jc_explore.specs.Final.{FinalValue}
 use Rattle.jc_litmus.specs.declared.judge.Verdict.{Verdict}
 use Rattle.jc_litmus.specs.declared.judge.Verdict.TheVariants as verdict
@@ -21,10 +21,10 @@ use Rattle.jc_litmus.specs.declared.run.LitmusEnd.TheVariants as end
 use Rattle.jc_litmus.specs.Judging.{decides}
 
 abbrev pub IsDecided : Program → Expectation → Type 0
-IsDecided p e = (schedule : List Move) × (f : FinalValue) × IsWhole p schedule f × (decides e f ≡ true)
+IsDecided p e = (schedule : List Move) × (f : FinalValue) × IsWholeSchedule p schedule f × (decides e f ≡ true)
 
 abbrev pub IsUndecided : Program → Expectation → Type 0
-IsUndecided p e = (schedule : List Move) (f : FinalValue) → IsWhole p schedule f → decides e f ≡ false
+IsUndecided p e = (schedule : List Move) (f : FinalValue) → IsWholeSchedule p schedule f → decides e f ≡ false
 
 abbrev pub FulfilledBy : Program → Expectation → Quantifier → Type 0
 FulfilledBy p e Sometimes = IsDecided p e

@@ -6,7 +6,7 @@
 --     unanswered_line               the line of a call that is never answered
 --     answer_line                   the line of a call: its reply, or that it has none, if it is the first such call of its
 --                                   thread
---     call_text                     the line of the call at this place among its thread's calls
+--     thread_call_text              the line of the call at this place among its thread's calls
 --     item_if                       the line of an item, if there is one
 --     item_text                     the line of a thread's item at a place
 --     text_up_to                    the texts of the numbers from 0 up to a count, one after another
@@ -27,7 +27,7 @@
 --     ending_text                   the verdict on an expectation
 --     verdict_line                  an expectation, and its verdict
 --     verdicts_text                 several expectations, each with its verdict
---     answer_text                   the whole answer
+--     exploration_text              the whole answer
 --     fault_text                    the line for a fault of a line
 use Rattle.std.specs.Prelude.{◌==◌, ℕ, zero, suc, ◌+◌, List, [], ◌++◌, codes, decimal, length, take, count_by, Bool, true, false, nat_lt, Option, None, Some, slice_get, if◌then◌else◌}
 use Rattle.std.specs.List.{flat_map}
@@ -73,13 +73,13 @@ answer_line thread at first (Some reply) = reply_line thread at reply
 answer_line thread at true None = unanswered_line thread at
 answer_line thread at false None = []
 
-abbrev pub call_text : List ThreadReply → ℕ → ℕ → ℕ → List ℕ
-call_text replies thread at call = answer_line thread at (call == replies_to thread replies) (reply_of thread call replies)
+abbrev pub thread_call_text : List ThreadReply → ℕ → ℕ → ℕ → List ℕ
+thread_call_text replies thread at call = answer_line thread at (call == replies_to thread replies) (reply_of thread call replies)
 
 abbrev pub item_if : List ThreadReply → ℕ → List Item → ℕ → Option Item → List ℕ
 item_if replies thread items at None = []
 item_if replies thread items at (Some x) =
-    if is_call x then call_text replies thread at (calls_before items at) else []
+    if is_call x then thread_call_text replies thread at (calls_before items at) else []
 
 abbrev pub item_text : List ThreadReply → ℕ → List Item → ℕ → List ℕ
 item_text replies thread items at = item_if replies thread items at (slice_get items at)
@@ -154,8 +154,8 @@ verdict_line r e = e.text.items ++ ending_text (verdict_on r e) ++ codes "\n"
 abbrev pub verdicts_text : Explored → List Expectation → List ℕ
 verdicts_text r es = flat_map (verdict_line r) es
 
-abbrev pub answer_text : ℕ → Program → Explored → List Expectation → List ℕ
-answer_text budget p r es = outcomes_text p r.found.items ++ closing_text budget r ++ verdicts_text r es
+abbrev pub exploration_text : ℕ → Program → Explored → List Expectation → List ℕ
+exploration_text budget p r es = outcomes_text p r.found.items ++ closing_text budget r ++ verdicts_text r es
 
 unfoldable pub fault_text : ℕ → LineFault → List ℕ
 fault_text number fault = codes "line " ++ decimal number ++ codes ": " ++ line_fault_text fault ++ codes "\n"

@@ -6,7 +6,8 @@
 --     opened_with, after_open                an `open`: the first one, with a shape that a cache may have
 --     stored_before, after_set               a `set`, before the first thread
 --     onto_last                              threads, with one more item in the last
---     room_in, may_add, with_item, after_item    an item of the last thread: at most ITEMS_MAX, of all threads together
+--     room_for_item, may_add, with_thread_item, after_item    an item of the last thread: at most ITEMS_MAX, of all threads
+--                                            together
 --     after_script_line                      a line that scripts have, too
 --     one_thread_more, after_thread          a `thread`: at most THREADS_MAX
 --     after_call                             a call of one key
@@ -110,18 +111,18 @@ onto_last one [] = []
 onto_last one (thread ∷ []) = (thread ++ one ∷ []) ∷ []
 onto_last one (thread ∷ next ∷ more) = thread ∷ onto_last one (next ∷ more)
 
-abbrev pub room_in : ReadSoFar → List (List Item) → Result (Unit {0}) LineFault
-room_in so_far [] = Err NoThread
-room_in so_far (thread ∷ more) = if nat_lt so_far.items ITEMS_MAX then Ok tt else Err TooManyItems
+abbrev pub room_for_item : ReadSoFar → List (List Item) → Result (Unit {0}) LineFault
+room_for_item so_far [] = Err NoThread
+room_for_item so_far (thread ∷ more) = if nat_lt so_far.items ITEMS_MAX then Ok tt else Err TooManyItems
 
 abbrev pub may_add : ReadSoFar → Result (Unit {0}) LineFault
-may_add so_far = if_open so_far.config (room_in so_far so_far.threads)
+may_add so_far = if_open so_far.config (room_for_item so_far so_far.threads)
 
-abbrev pub with_item : ReadSoFar → Item → ReadSoFar
-with_item so_far one = record so_far { threads = onto_last one so_far.threads; items = so_far.items + 1 }
+abbrev pub with_thread_item : ReadSoFar → Item → ReadSoFar
+with_thread_item so_far one = record so_far { threads = onto_last one so_far.threads; items = so_far.items + 1 }
 
 unfoldable pub after_item : ReadSoFar → Item → Result ReadSoFar LineFault
-after_item so_far one = may_add so_far >>= λ room. Ok (with_item so_far one)
+after_item so_far one = may_add so_far >>= λ room. Ok (with_thread_item so_far one)
 
 unfoldable pub after_script_line : ReadSoFar → Line → Result ReadSoFar LineFault
 after_script_line so_far (line.Open config) = after_open so_far config

@@ -1,6 +1,6 @@
 -- The result of a function that reads a line.
 --     error_of    an error of a script's reader, as one of a program's
---     Reads       a function returned what the definition states, unless an allocation failed
+--     ReadsAs     a function returned what the definition states, unless an allocation failed
 use Rattle.std.specs.Prelude.{◌≡◌, Result, Ok, Err}
 use Rattle.jc_script.specs.declared.fault.ReadError.{ReadError}
 use Rattle.jc_script.specs.declared.fault.ReadError.TheVariants as script
@@ -13,7 +13,7 @@ abbrev pub error_of : ReadError → LineError
 error_of script.Memory = errors.Memory
 error_of (script.Fault fault) = errors.Fault (faults.Script fault)
 
-abbrev pub Reads : {X : Type 0} → Result X LineError → Result X LineFault → Type 0
-Reads (Ok x) said = said ≡ Ok x
-Reads (Err errors.Memory) said = Unit {0}
-Reads (Err (errors.Fault fault)) said = said ≡ Err fault
+abbrev pub ReadsAs : {X : Type 0} → Result X LineError → Result X LineFault → Type 0
+ReadsAs (Ok x) said = said ≡ Ok x
+ReadsAs (Err errors.Memory) said = Unit {0}
+ReadsAs (Err (errors.Fault fault)) said = said ≡ Err fault

@@ -1,10 +1,11 @@
 -- Runs, from the bytes of a reader to the bytes of a writer.
---     IsAnswer       an output is the answer of an exploration of a program; each verdict in it, and the end, which is that of
---                    the expectations, has its meaning for all schedules
---     IsComplaint    an output names the first line of the input that is at fault, with its fault, and the end is `LineFault`
---     Answers        the answer to the program of the input's text, or the complaint about that text
---     Ran            the input was read to its end, and its answer written
---     Broke          the input was read to its end, and a prefix of its answer written, up to a write that failed
+--     IsProgramAnswer         an output is the answer of an exploration of a program; each verdict in it, and the end, which is
+--                             that of the expectations, has its meaning for all schedules
+--     IsComplaint             an output names the first line of the input that is at fault, with its fault, and the end is
+--                             `LineFault`
+--     AnswersProgram          the answer to the program of the input's text, or the complaint about that text
+--     RunsExploration         the input was read to its end, and its answer written
+--     BreaksOffExploration    the input was read to its end, and a prefix of its answer written, up to a write that failed
 use Rattle.std.specs.Prelude.{◌≡◌, ◌≤◌, ◌⊎◌, ℕ, List, take, length, Option, Ok, Err}
 use Rattle.std.specs.List.{All}
 use Rattle.std.specs.Io.KnownBytes.{Appends}
@@ -18,13 +19,13 @@ use Rattle.jc_litmus.specs.declared.program.LineFault as faulty
 use Rattle.jc_litmus.specs.declared.program.Litmus.{Litmus}
 use Rattle.jc_litmus.specs.Judging.{end_of, verdict_on}
 use Rattle.jc_litmus.specs.Meaning.{EndMeans, Means}
-use Rattle.jc_litmus.specs.Outcomes.{answer_text, fault_text}
+use Rattle.jc_litmus.specs.Outcomes.{exploration_text, fault_text}
 use Rattle.jc_litmus.specs.Program.{program_of, value_of_program}
 
-pub record IsAnswer (budget : ℕ) (x : Litmus) (out : List ℕ) (end : LitmusEnd) : Type 0 where
+pub record IsProgramAnswer (budget : ℕ) (x : Litmus) (out : List ℕ) (end : LitmusEnd) : Type 0 where
   pub explored : Explored
   pub is_explored : HasExplored x.program budget explored
-  pub out_is : out ≡ answer_text budget x.program explored x.expectations.items
+  pub out_is : out ≡ exploration_text budget x.program explored x.expectations.items
   pub verdicts : All (λ e. Means x.program e (verdict_on explored e)) x.expectations.items
   pub end_is : end ≡ end_of explored x.expectations.items
   pub means : EndMeans x.program x.expectations.items end
@@ -36,24 +37,24 @@ pub record IsComplaint (input out : List ℕ) (end : LitmusEnd) : Type 0 where
   pub out_is : out ≡ fault_text line fault
   pub end_is : end ≡ LineFault
 
-abbrev pub Answers : ℕ → List ℕ → List ℕ → LitmusEnd → Type 0
-Answers budget input out end =
-    ((x : Litmus) × (program_of input ≡ Ok (value_of_program x)) × IsAnswer budget x out end)
+abbrev pub AnswersProgram : ℕ → List ℕ → List ℕ → LitmusEnd → Type 0
+AnswersProgram budget input out end =
+    ((x : Litmus) × (program_of input ≡ Ok (value_of_program x)) × IsProgramAnswer budget x out end)
     ⊎ IsComplaint input out end
 
-pub record Ran (budget : ℕ) (before after old new : Option (List ℕ)) (end : LitmusEnd) : Type 0 where
+pub record RunsExploration (budget : ℕ) (before after old new : Option (List ℕ)) (end : LitmusEnd) : Type 0 where
   pub input : List ℕ
   pub read : ReadsAll before after input
   pub out : List ℕ
-  pub answer : Answers budget input out end
+  pub answer : AnswersProgram budget input out end
   pub written : Appends old new out
 
-pub record Broke (budget : ℕ) (before after old new : Option (List ℕ)) : Type 0 where
+pub record BreaksOffExploration (budget : ℕ) (before after old new : Option (List ℕ)) : Type 0 where
   pub input : List ℕ
   pub read : ReadsAll before after input
   pub out : List ℕ
   pub end : LitmusEnd
-  pub answer : Answers budget input out end
+  pub answer : AnswersProgram budget input out end
   pub count : ℕ
   pub within : count ≤ length out
   pub written : Appends old new (take count out)

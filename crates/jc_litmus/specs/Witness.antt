@@ -1,26 +1,26 @@
 -- A schedule as a script: the lines that play it.
---     no_progress       the state of a thread that has begun nothing
---     has_numbers       both the next call's number and a count of items are below the largest number that a script names
---     begin_line        the line by which a session begins an item, with its call's number
---     if_coded          a line with a code, if there is one
---     run_line          the line of a processor's run
---     act_line          the line of an act of a call, with the calls of its processor
---     call_line         the line of an act of an item
---     line_at           the line of a move of a thread in this state
---     line_of_move      the line of a move
---     begun_by          the state of a thread after an item began
---     last_by           the number of the last call after an item began
---     begun_item        the item that a move of a thread begins, if it begins one
---     progress_at       the state of a thread after a move of it
---     last_at           the number of the last call after a move of a thread
---     threads_at        the states of the threads after a move of a thread in this state
---     progress_after    the states of the threads after a move
---     last_after        the number of the last call after a move
---     piped             a line as it is shown
---     piped_if          the same, if there is a line
---     steps_text        the lines of the moves of a schedule as they are shown
---     set_text          the line of an entry of the store as it is shown
---     witness_text      the script of a schedule as it is shown: the cache's shape, the store, the moves, and an audit
+--     no_progress              the state of a thread that has begun nothing
+--     has_numbers              both the next call's number and a count of items are below the largest number that a script names
+--     begin_line               the line by which a session begins an item, with its call's number
+--     if_coded                 a line with a code, if there is one
+--     run_line                 the line of a processor's run
+--     act_line                 the line of an act of a call, with the calls of its processor
+--     call_line                the line of an act of an item
+--     line_at                  the line of a move of a thread in this state
+--     line_of_move             the line of a move
+--     begun_by                 the state of a thread after an item began
+--     last_by                  the number of the last call after an item began
+--     begun_item               the item that a move of a thread begins, if it begins one
+--     progress_at              the state of a thread after a move of it
+--     last_at                  the number of the last call after a move of a thread
+--     threads_at               the states of the threads after a move of a thread in this state
+--     thread_progress_after    the states of the threads after a move
+--     last_after               the number of the last call after a move
+--     piped                    a line as it is shown
+--     piped_if                 the same, if there is a line
+--     steps_text               the lines of the moves of a schedule as they are shown
+--     set_text                 the line of an entry of the store as it is shown
+--     witness_text             the script of a schedule as it is shown: the cache's shape, the store, the moves, and an audit
 use Rattle.std.specs.Prelude.{ℕ, ◌+◌, ◌-◌, List, [], ◌∷◌, ◌++◌, codes, length, replicate, Bool, ◌&&◌, nat_lt, Option, None, Some, slice_get, slice_set, if◌then◌else◌}
 use Rattle.std.specs.List.{flat_map}
 use Rattle.jc_types.specs.declared.limits.TheConstants.{NUMBER_MAX}
@@ -40,7 +40,7 @@ use Rattle.jc_explore.specs.Moves.{is_begin}
 use Rattle.jc_explore.specs.Schedule.{item_at}
 use Rattle.jc_script.specs.declared.read.line.Line.{Line}
 use Rattle.jc_script.specs.declared.read.line.Line.TheVariants.{Open, Set, Begin, OfCall, Foreign, Audit}
-use Rattle.jc_script.specs.declared.read.line.Act.TheVariants as line
+use Rattle.jc_script.specs.declared.read.line.ScriptAct.TheVariants as line
 use Rattle.jc_script.specs.Spelled.{spelling}
 use Rattle.jc_litmus.specs.declared.witness.Progress.{Progress}
 
@@ -119,8 +119,8 @@ abbrev pub threads_at : Program → ℕ → List Progress → Move → Option Pr
 threads_at p last threads m None = threads
 threads_at p last threads m (Some progress) = slice_set threads m.thread (progress_at p last m progress)
 
-abbrev pub progress_after : Program → ℕ → List Progress → Move → List Progress
-progress_after p last threads m = threads_at p last threads m (slice_get threads m.thread)
+abbrev pub thread_progress_after : Program → ℕ → List Progress → Move → List Progress
+thread_progress_after p last threads m = threads_at p last threads m (slice_get threads m.thread)
 
 abbrev pub last_at : Program → ℕ → Move → Option Progress → ℕ
 last_at p last m None = last
@@ -141,7 +141,7 @@ piped_if (Some line) = piped line
 abbrev pub steps_text : Program → ℕ → List Progress → List Move → List ℕ
 steps_text p last threads [] = []
 steps_text p last threads (m ∷ ms) =
-    piped_if (line_of_move p last threads m) ++ steps_text p (last_after p last threads m) (progress_after p last threads m) ms
+    piped_if (line_of_move p last threads m) ++ steps_text p (last_after p last threads m) (thread_progress_after p last threads m) ms
 
 abbrev pub set_text : Bytes × Bytes → List ℕ
 set_text entry = piped (Set entry.0 entry.1)

@@ -1,7 +1,7 @@
 //! The whole answer, as text.
 ghost use Rattle.std.specs.Prelude.{◌≡◌, ◌++◌, ◌+◌, ◌<◌, ◌^◌, codes, OnOk, IfOk, IfSome};
 ghost use Rattle.jc_litmus.specs.Judging.{IsNumbered};
-ghost use Rattle.jc_litmus.specs.Outcomes.{answer_text, budget_line, closing_text, counts_text, ending_text, fault_text, first_text, outcomes_line, verdict_line, verdicts_text, whole_line};
+ghost use Rattle.jc_litmus.specs.Outcomes.{budget_line, closing_text, counts_text, ending_text, exploration_text, fault_text, first_text, outcomes_line, verdict_line, verdicts_text, whole_line};
 
 use crate::judge::{Verdict, verdict_on};
 use crate::outcome::put_outcomes;
@@ -148,7 +148,7 @@ pub fn answer(
     expectations: &[Expectation],
 ) -> Result<Vec<u8>, AllocError>
     ensures { IfOk result (λ out. out.items
-        ≡ answer_text states program.now explored.now expectations.now) }
+        ≡ exploration_text states program.now explored.now expectations.now) }
 {
     let mut out = Vec::new(alloc);
     put_outcomes(alloc, &mut out, program, &explored.found)?;

@@ -3,7 +3,7 @@ ghost use Rattle.std.specs.Prelude.{◌≡◌, ◌++◌, ◌∷◌, [], map, OnO
 ghost use Rattle.std.specs.List.{list_all};
 ghost use Rattle.jc_script.specs.Words.{key_of, value_or_none_of};
 ghost use Rattle.jc_script.specs.Lines.{ok_with};
-ghost use Rattle.jc_litmus.specs.Reads.{Reads};
+ghost use Rattle.jc_litmus.specs.Reads.{ReadsAs};
 ghost use Rattle.jc_litmus.specs.Atoms.{number_or_bad, numbers_of, in_script, cached_of, stored_of, replied_of, pair_of, atom_of};
 ghost use Rattle.jc_litmus.specs.Atoms.{is_about, is_atom, are_atoms, atom_onto, atoms_from};
 
@@ -179,7 +179,7 @@ fn push_atom(atoms: &mut Vec<Atom>, atom: Atom) -> Result<(), AllocError>
 
 /// Appends the atom of a word, about these threads.
 fn add_atom(atoms: &mut Vec<Atom>, threads: &[Vec<Item>], word: &[u8]) -> Result<(), LineError>
-    ensures { Reads (ok_with atoms.new.items result)
+    ensures { ReadsAs (ok_with atoms.new.items result)
         (atom_onto (map (λ t. t.items) threads.now) atoms.old.items word.now) }
 {
     let _types: Option<&(Reply, Key, Option<Value>)> = None;
@@ -194,7 +194,7 @@ pub(crate) fn add_atoms(
     threads: &[Vec<Item>],
     words: &[&[u8]],
 ) -> Result<(), LineError>
-    ensures { Reads (ok_with atoms.new.items result)
+    ensures { ReadsAs (ok_with atoms.new.items result)
         (atoms_from (map (λ t. t.items) threads.now) atoms.old.items (map (λ w. w.now) words.now)) }
 {
     for word in words {

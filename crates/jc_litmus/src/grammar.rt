@@ -2,7 +2,7 @@
 ghost use Rattle.std.specs.Prelude.{◌≡◌, ◌++◌, codes, map, OnOk, IfOk};
 ghost use Rattle.std.specs.List.{flat_map};
 ghost use Rattle.jc_script.specs.Lines.{ok_with};
-ghost use Rattle.jc_litmus.specs.Reads.{Reads};
+ghost use Rattle.jc_litmus.specs.Reads.{ReadsAs};
 ghost use Rattle.jc_litmus.specs.Grammar.{after_space, begin_line, begin_words, process_text, made_line, operation_in, plain_calls, act_calls, line_calls, calls_of_text};
 ghost use Rattle.jc_litmus.specs.Grammar.{failing_named, may_fail, with_fault, quantifier_named};
 
@@ -12,7 +12,7 @@ use jc_explore::Faults;
 use jc_script::fault::Fault;
 use jc_script::put;
 use jc_script::read::grammar::{begin, read};
-use jc_script::read::line::{Act, Line, Operation};
+use jc_script::read::line::{Line, Operation, ScriptAct};
 use jc_script::read::words::{is, number};
 use jc_world::process::{EntryCalls, LoadSource};
 use std::alloc::{AllocError, Global};
@@ -67,7 +67,7 @@ fn process_text(alloc: Global, words: &[&[u8]]) -> Result<Vec<u8>, AllocError>
 
 /// Reads a line of a script into `line`. The line is no comment.
 fn made_line(alloc: Global, text: &[u8], line: &mut Line) -> Result<(), LineError>
-    ensures { Reads (ok_with line.new result) (made_line text.now) }
+    ensures { ReadsAs (ok_with line.new result) (made_line text.now) }
 {
     let mut words = Vec::new(alloc);
     match read(alloc, text, &mut words, line) {
@@ -84,7 +84,7 @@ pub(crate) fn begin_line(
     rest: &[&[u8]],
     line: &mut Line,
 ) -> Result<(), LineError>
-    ensures { Reads (ok_with line.new result) (begin_line first.now (map (λ w. w.now) rest.now)) }
+    ensures { ReadsAs (ok_with line.new result) (begin_line first.now (map (λ w. w.now) rest.now)) }
 {
     let words = begin_words(alloc, first, rest)?;
     match begin(alloc, &words, line) {
@@ -110,7 +110,7 @@ fn plain_calls(
     calls: &EntryCalls,
     fail: &Option<u32>,
 ) -> Result<EntryCalls, LineError>
-    ensures { Reads result (plain_calls load.now calls.now fail.now) }
+    ensures { ReadsAs result (plain_calls load.now calls.now fail.now) }
 {
     match load {
         LoadSource::Store => match fail {
@@ -122,18 +122,18 @@ fn plain_calls(
 }
 
 /// The calls of such an entry processor, from what happens next to a call.
-fn act_calls(alloc: Global, act: &Act) -> Result<EntryCalls, LineError>
-    ensures { Reads result (act_calls act.now) }
+fn act_calls(alloc: Global, act: &ScriptAct) -> Result<EntryCalls, LineError>
+    ensures { ReadsAs result (act_calls act.now) }
 {
     match act {
-        Act::Process { load, calls, fail } => plain_calls(alloc, load, calls, fail),
+        ScriptAct::Process { load, calls, fail } => plain_calls(alloc, load, calls, fail),
         _ => Err(LineError::Fault(LineFault::Script(Fault::BadLine))),
     }
 }
 
 /// The calls of such an entry processor, from the line of a script.
 fn line_calls(alloc: Global, line: &Line) -> Result<EntryCalls, LineError>
-    ensures { Reads result (line_calls line.now) }
+    ensures { ReadsAs result (line_calls line.now) }
 {
     match line {
         Line::OfCall(_, act) => act_calls(alloc, act),
@@ -147,7 +147,7 @@ pub(crate) fn entry_calls(
     words: &[&[u8]],
     line: &mut Line,
 ) -> Result<EntryCalls, LineError>
-    ensures { Reads result (
+    ensures { ReadsAs result (
         calls_of_text (process_text (flat_map after_space (map (λ w. w.now) words.now)))) }
 {
     let text = process_text(alloc, words)?;

@@ -1,7 +1,7 @@
 //! Outcomes, as text.
 ghost use Rattle.std.specs.Prelude.{◌≡◌, ◌++◌, ◌+◌, ◌<◌, ◌^◌, codes, length, slice_get, OnOk};
 ghost use Rattle.jc_litmus.specs.ReplyTexts.{refused_text, replied_text, unanswered_text};
-ghost use Rattle.jc_litmus.specs.Outcomes.{call_text, calls_before, item_name, item_text, number_line, outcome_if, outcome_text, outcomes_text};
+ghost use Rattle.jc_litmus.specs.Outcomes.{calls_before, item_name, item_text, number_line, outcome_if, outcome_text, outcomes_text, thread_call_text};
 ghost use Rattle.jc_litmus.specs.Outcomes.{replies_to, reply_line, state_text, thread_at, thread_text, threads_text, unanswered_line};
 
 use crate::calls::is_call;
@@ -107,7 +107,7 @@ fn put_call(
 ) -> Result<(), AllocError>
     requires thread { thread + 1 < 2 ^ 64 }
     requires at { at + 1 < 2 ^ 64 }
-    ensures { OnOk result (out.new.items ≡ out.old.items ++ call_text replies.now thread at call) }
+    ensures { OnOk result (out.new.items ≡ out.old.items ++ thread_call_text replies.now thread at call) }
 {
     match reply_of(thread, call, replies) {
         Some(reply) => put_reply_line(out, thread, at, &reply),

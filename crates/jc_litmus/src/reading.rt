@@ -3,7 +3,7 @@ ghost use Rattle.std.specs.Prelude.{◌≡◌, ◌≤◌, ◌<◌, ◌+◌, ◌+
 ghost use Rattle.jc_types.specs.Limits.{check};
 ghost use Rattle.jc_script.specs.Lines.{ok_with};
 ghost use Rattle.jc_litmus.specs.Opened.{shape_fault};
-ghost use Rattle.jc_litmus.specs.Reads.{Reads};
+ghost use Rattle.jc_litmus.specs.Reads.{ReadsAs};
 ghost use Rattle.jc_litmus.specs.Program.{after_item, after_open, after_set, expected, fault_at, if_open, is_blank, may_add, nothing_read, onto_last};
 ghost use Rattle.jc_litmus.specs.Program.{program_from, program_of, program_read, value_of_program, ReadsLines, ReadsProgram};
 ghost use Rattle.jc_script.specs.Transcript.{pieces_of};
@@ -26,7 +26,7 @@ use std::marker::Model;
 
 /// The parts of a program whose lines were read.
 #[derive(Drop)]
-struct Reading {
+struct ProgramParts {
     config: Option<Config>,
     stored: Vec<(Key, Value)>,
     threads: Vec<Vec<Item>>,
@@ -35,7 +35,7 @@ struct Reading {
     expectations: Vec<Expectation>,
 }
 
-impl Model for Reading {
+impl Model for ProgramParts {
     ghost use Rattle.std.specs.Prelude.{◌≡◌, ◌≤◌, true, length, map};
     ghost use Rattle.jc_litmus.specs.Opened.{has_shape};
     ghost use Rattle.jc_litmus.specs.Program.{ReadSoFar, expected};
@@ -57,7 +57,7 @@ impl Model for Reading {
 
 /// Buffers for the words of a line, and for the line of a script that it may be. Each line uses them again.
 #[derive(Drop)]
-struct Room<'a> {
+struct ReadBuffers<'a> {
     words: Vec<&'a [u8]>,
     line: Line,
 }
@@ -110,12 +110,12 @@ fn push_expectation(
     Ok(())
 }
 
-impl Reading {
+impl ProgramParts {
     /// The parts of a program before its first line is read.
-    fn new(alloc: Global) -> Reading
+    fn new(alloc: Global) -> ProgramParts
         ensures { result ≡ nothing_read }
     {
-        Reading {
+        ProgramParts {
             config: None,
             stored: Vec::new(alloc),
             threads: Vec::new(alloc),
@@ -175,7 +175,7 @@ impl Reading {
     /// Adds an entry of the store.
     #[tactic(auto, unfolding(crate::specs::Program::after_set))]
     fn set(&mut self, key: &Key, value: &Value) -> Result<(), LineError>
-        ensures { Reads (ok_with self.new result) (after_set self.old key.now value.now) }
+        ensures { ReadsAs (ok_with self.new result) (after_set self.old key.now value.now) }
     {
         self.check_open()?;
         if !self.threads.is_empty() {
@@ -188,7 +188,7 @@ impl Reading {
     /// Adds an item to the last thread.
     #[tactic(auto, unfolding(crate::specs::Program::after_item))]
     fn add(&mut self, item: Item) -> Result<(), LineError>
-        ensures { Reads (ok_with self.new result) (after_item self.old item) }
+        ensures { ReadsAs (ok_with self.new result) (after_item self.old item) }
     {
         self.check_item()?;
         push_item(&mut self.threads, item)?;
@@ -198,7 +198,7 @@ impl Reading {
 
     /// Adds a write of another program.
     fn foreign(&mut self, key: &Key, value: &Option<Value>) -> Result<(), LineError>
-        ensures { Reads (ok_with self.new result) (after_item self.old (items.Foreign key.now value.now)) }
+        ensures { ReadsAs (ok_with self.new result) (after_item self.old (items.Foreign key.now value.now)) }
     {
         let (key, value) = (*key, *value);
         self.add(Item::Foreign { key, value })
@@ -210,7 +210,7 @@ impl Reading {
         ensures fits { IfSome result (λ litmus.
             (is_ok (check litmus.program.config) ≡ true) × (length litmus.program.threads.items ≤ THREADS_MAX)) }
     {
-        let Reading {
+        let ProgramParts {
             config,
             stored,
             threads,
@@ -257,8 +257,8 @@ fn fault_at(number: u64, error: LineError) -> ProgramFault
 fn read_lines<'a>(
     alloc: Global,
     input: &'a [u8],
-    reading: &mut Reading,
-    room: &mut Room<'a>,
+    reading: &mut ProgramParts,
+    room: &mut ReadBuffers<'a>,
 ) -> Result<(u64, bool), ProgramFault>
     ensures { ReadsLines result reading.new (program_from reading.old 1 (pieces_of input.now)) }
 {
@@ -279,11 +279,11 @@ fn read_lines<'a>(
 fn read_all_lines(
     alloc: Global,
     input: &[u8],
-    reading: &mut Reading,
+    reading: &mut ProgramParts,
 ) -> Result<(u64, bool), ProgramFault>
     ensures { ReadsLines result reading.new (program_from reading.old 1 (pieces_of input.now)) }
 {
-    let mut room = Room {
+    let mut room = ReadBuffers {
         words: Vec::new(alloc),
         line: Line::Audit,
     };
@@ -296,7 +296,7 @@ pub(crate) fn read_program(alloc: Global, input: &[u8]) -> Result<Litmus, Progra
     ensures fits { IfOk result (λ litmus.
         (is_ok (check litmus.program.config) ≡ true) × (length litmus.program.threads.items ≤ THREADS_MAX)) }
 {
-    let mut reading = Reading::new(alloc);
+    let mut reading = ProgramParts::new(alloc);
     let (number, ended) = read_all_lines(alloc, input, &mut reading)?;
     if !ended {
         return Err(ProgramFault::Line(number, LineFault::Script(Fault::CutLine)));

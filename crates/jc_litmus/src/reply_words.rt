@@ -1,7 +1,7 @@
 //! Replies, as an expectation writes them.
 ghost use Rattle.std.specs.Prelude.{◌≡◌};
 ghost use Rattle.jc_script.specs.Words.{number_of};
-ghost use Rattle.jc_litmus.specs.ReplyWords.{answer_of, failure_of, failure_with, loading, plain_reply, refusal_of, reply_kind, reply_said, silent, two_words, writing};
+ghost use Rattle.jc_litmus.specs.ReplyWords.{answer_kind_of, failure_with, fault_reply, loading, plain_reply, refusal_of, reply_kind, reply_said, silent, two_words, writing};
 
 use crate::program::LineFault;
 use crate::word_parts::halves_of;
@@ -11,7 +11,7 @@ use jc_types::Refusal;
 
 /// The kind of answer of a call that is neither refused nor fails.
 #[derive(Clone, Copy)]
-pub(crate) enum Answer {
+pub(crate) enum AnswerKind {
     /// It is done, without a value.
     Unit,
     /// A flag.
@@ -25,7 +25,7 @@ pub(crate) enum Answer {
 #[derive(Clone, Copy)]
 pub(crate) struct ReplyKind {
     /// The kind of answer without a fault.
-    pub answer: Answer,
+    pub answer: AnswerKind,
     /// Whether its loader may fail.
     pub loader: bool,
     /// Whether its entry processor may fail.
@@ -35,7 +35,7 @@ pub(crate) struct ReplyKind {
 }
 
 /// The replies of an operation that asks nobody outside.
-fn silent(answer: Answer) -> ReplyKind
+fn silent(answer: AnswerKind) -> ReplyKind
     ensures { result ≡ silent answer }
 {
     ReplyKind {
@@ -47,7 +47,7 @@ fn silent(answer: Answer) -> ReplyKind
 }
 
 /// The replies of an operation that asks the loader alone.
-fn loading(answer: Answer) -> ReplyKind
+fn loading(answer: AnswerKind) -> ReplyKind
     ensures { result ≡ loading answer }
 {
     ReplyKind {
@@ -59,7 +59,7 @@ fn loading(answer: Answer) -> ReplyKind
 }
 
 /// The replies of an operation that asks the writer alone.
-fn writing(answer: Answer) -> ReplyKind
+fn writing(answer: AnswerKind) -> ReplyKind
     ensures { result ≡ writing answer }
 {
     ReplyKind {
@@ -71,13 +71,13 @@ fn writing(answer: Answer) -> ReplyKind
 }
 
 /// The kind of answer of an operation, which is the same at each key.
-fn answer_of(op: &Op) -> Answer
-    ensures { result ≡ answer_of op.now }
+fn answer_kind_of(op: &Op) -> AnswerKind
+    ensures { result ≡ answer_kind_of op.now }
 {
     match op.reply_after(None, &Out::nothing_said()) {
-        Reply::Unit | Reply::Fault(_) => Answer::Unit,
-        Reply::Flag(_) => Answer::Flag,
-        Reply::Value(_) => Answer::Value,
+        Reply::Unit | Reply::Fault(_) => AnswerKind::Unit,
+        Reply::Flag(_) => AnswerKind::Flag,
+        Reply::Value(_) => AnswerKind::Value,
     }
 }
 
@@ -85,7 +85,7 @@ fn answer_of(op: &Op) -> Answer
 pub(crate) fn reply_kind(op: &Op) -> ReplyKind
     ensures { result ≡ reply_kind op.now }
 {
-    let answer = answer_of(op);
+    let answer = answer_kind_of(op);
     match op.kind() {
         OpKind::Get | OpKind::LoadAll { .. } => loading(answer),
         OpKind::ContainsKey | OpKind::Clear => silent(answer),
@@ -100,16 +100,16 @@ pub(crate) fn reply_kind(op: &Op) -> ReplyKind
 }
 
 /// The reply of a call without a fault, from its only word.
-fn plain_reply(answer: Answer, word: &[u8]) -> Result<Reply, LineFault>
+fn plain_reply(answer: AnswerKind, word: &[u8]) -> Result<Reply, LineFault>
     ensures { result ≡ plain_reply answer word.now }
 {
     match answer {
-        Answer::Unit if is(word, "ok") => Ok(Reply::Unit),
-        Answer::Unit => Err(LineFault::BadReply),
-        Answer::Flag if is(word, "true") => Ok(Reply::Flag(true)),
-        Answer::Flag if is(word, "false") => Ok(Reply::Flag(false)),
-        Answer::Flag => Err(LineFault::BadReply),
-        Answer::Value => match value_or_none(word) {
+        AnswerKind::Unit if is(word, "ok") => Ok(Reply::Unit),
+        AnswerKind::Unit => Err(LineFault::BadReply),
+        AnswerKind::Flag if is(word, "true") => Ok(Reply::Flag(true)),
+        AnswerKind::Flag if is(word, "false") => Ok(Reply::Flag(false)),
+        AnswerKind::Flag => Err(LineFault::BadReply),
+        AnswerKind::Value => match value_or_none(word) {
             Ok(value) => Ok(Reply::Value(value)),
             Err(_) => Err(LineFault::BadReply),
         },
@@ -127,8 +127,8 @@ fn refusal_of(name: &[u8]) -> Result<Reply, LineFault>
 }
 
 /// The reply of a call with a fault, from the name and the code of the fault.
-fn failure_of(kind: ReplyKind, name: &[u8], code: u32) -> Result<Reply, LineFault>
-    ensures { result ≡ failure_of kind name.now code }
+fn fault_reply(kind: ReplyKind, name: &[u8], code: u32) -> Result<Reply, LineFault>
+    ensures { result ≡ fault_reply kind name.now code }
 {
     match name {
         _ if is(name, "LoaderFailed") && kind.loader => {
@@ -149,7 +149,7 @@ fn failure_with(kind: ReplyKind, name: &[u8], word: &[u8]) -> Result<Reply, Line
     ensures { result ≡ failure_with kind name.now (number_of word.now) }
 {
     match number(word) {
-        Ok(code) => failure_of(kind, name, code),
+        Ok(code) => fault_reply(kind, name, code),
         Err(_) => Err(LineFault::BadReply),
     }
 }

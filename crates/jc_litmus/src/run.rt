@@ -1,9 +1,9 @@
 //! The run of a program, from the bytes that are read to the bytes that are written.
 ghost use Rattle.std.specs.Prelude.{◌≡◌, ◌≢◌, ◌↔◌, true, false, ◌<◌, length, IfOk, IfErr, IfSome};
 ghost use Rattle.jc_litmus.specs.Judging.{end_of};
-ghost use Rattle.jc_litmus.specs.Outcomes.{answer_text};
+ghost use Rattle.jc_litmus.specs.Outcomes.{exploration_text};
 ghost use Rattle.jc_explore.specs.Search.{HasExplored};
-ghost use Rattle.jc_litmus.specs.Running.{Answers, Broke, IsAnswer, Ran};
+ghost use Rattle.jc_litmus.specs.Running.{AnswersProgram, BreaksOffExploration, IsProgramAnswer, RunsExploration};
 
 use crate::answer::{answer, complaint};
 use crate::judge::end_of;
@@ -55,7 +55,7 @@ fn text_of(
     explored: &Explored,
 ) -> Result<Vec<u8>, AllocError>
     ensures { IfOk result (λ out. out.items
-        ≡ answer_text states litmus.now.program explored.now litmus.now.expectations.items) }
+        ≡ exploration_text states litmus.now.program explored.now litmus.now.expectations.items) }
 {
     let (program, expectations) = (&litmus.program, litmus.expectations.as_slice());
     answer(alloc, states, program, explored, expectations)
@@ -76,7 +76,7 @@ fn answer_to(
     explored: &Explored,
 ) -> Result<(Vec<u8>, LitmusEnd), AllocError>
     requires { HasExplored litmus.now.program states explored.now }
-    ensures { IfOk result (λ r. IsAnswer states litmus.now r.0.items r.1) }
+    ensures { IfOk result (λ r. IsProgramAnswer states litmus.now r.0.items r.1) }
 {
     let out = text_of(alloc, states, litmus, explored)?;
     Ok((out, end_with(litmus, explored)))
@@ -89,7 +89,7 @@ fn answer_to_read<H: Watch>(
     states: usize,
     watch: &mut H,
 ) -> Result<(Vec<u8>, LitmusEnd), AllocError>
-    ensures { IfOk result (λ r. IsAnswer states litmus.now r.0.items r.1) }
+    ensures { IfOk result (λ r. IsProgramAnswer states litmus.now r.0.items r.1) }
 {
     match explore(alloc, &litmus.program, states, watch) {
         Ok(explored) => answer_to(alloc, states, litmus, &explored),
@@ -104,7 +104,7 @@ fn answered<H: Watch>(
     states: usize,
     watch: &mut H,
 ) -> Result<(Vec<u8>, LitmusEnd), AllocError>
-    ensures { IfOk result (λ r. Answers states input.now r.0.items r.1) }
+    ensures { IfOk result (λ r. AnswersProgram states input.now r.0.items r.1) }
 {
     match read_program(alloc, input) {
         Ok(litmus) => answer_to_read(alloc, &litmus, states, watch),
@@ -125,9 +125,9 @@ pub fn run<R: Read, W: Write, H: Watch>(
     watch: &mut H,
 ) -> Result<LitmusEnd, LitmusFault>
     // The bytes written are the answer to the bytes read.
-    ensures ran { IfOk result (λ end. Ran states (R.remaining reader.old.inner) (R.remaining reader.new.inner) (W.contents writer.old.inner) (W.contents writer.new.inner) end) }
+    ensures ran { IfOk result (λ end. RunsExploration states (R.remaining reader.old.inner) (R.remaining reader.new.inner) (W.contents writer.old.inner) (W.contents writer.new.inner) end) }
     // After a failed write they are a prefix of it.
-    ensures broke { result ≡ Err LitmusFault.Write → Broke states (R.remaining reader.old.inner) (R.remaining reader.new.inner) (W.contents writer.old.inner) (W.contents writer.new.inner) }
+    ensures broke { result ≡ Err LitmusFault.Write → BreaksOffExploration states (R.remaining reader.old.inner) (R.remaining reader.new.inner) (W.contents writer.old.inner) (W.contents writer.new.inner) }
     // Any other fault writes nothing.
     ensures silent { IfErr result (λ e. e ≢ LitmusFault.Write → writer.new ≡ writer.old) }
     // `TooLong` means that the program is over the limit.

@@ -3,7 +3,7 @@ ghost use Rattle.std.specs.Prelude.{◌≡◌, ◌++◌, ◌∷◌, [], OnOk, ma
 ghost use Rattle.jc_script.specs.ProcessWords.{call_text, fail_words, source_words};
 ghost use Rattle.jc_script.specs.Spelled.{flag_words, operation_words, spelling};
 ghost use Rattle.jc_script.specs.Printing.{value_text};
-ghost use Rattle.jc_script.specs.declared.read.line.Act.TheVariants as act;
+ghost use Rattle.jc_script.specs.declared.read.line.ScriptAct.TheVariants as act;
 ghost use Rattle.jc_script.specs.declared.read.line.Line.TheVariants as line;
 ghost use Rattle.jc_litmus.specs.Spaced.{begin_text, coded_text, lone_text, open_text, spaced};
 

@@ -6,7 +6,7 @@ ghost use Rattle.jc_script.specs.declared.read.line.Line.TheVariants as line;
 ghost use Rattle.jc_explore.specs.Moves.{is_begin};
 ghost use Rattle.jc_litmus.specs.Spaced.{coded_line_text, lone_text};
 ghost use Rattle.jc_litmus.specs.Witness.{act_line, begin_line, begun_by, begun_item, call_line, last_after, last_at, last_by, line_at, line_of_move};
-ghost use Rattle.jc_litmus.specs.Witness.{has_numbers, no_progress, piped, piped_if, progress_after, progress_at, run_line, set_text, steps_text, witness_text};
+ghost use Rattle.jc_litmus.specs.Witness.{has_numbers, no_progress, piped, piped_if, progress_at, run_line, set_text, steps_text, thread_progress_after, witness_text};
 
 use crate::spelling::{
     Beginning, put_begin, put_coded, put_foreign, put_lone, put_open, put_process, put_set,
@@ -258,7 +258,7 @@ fn put_step(
 ) -> Result<u64, AllocError>
     ensures text { OnOk result (out.new.items
         ≡ out.old.items ++ piped_if (line_of_move program.now last threads.old.items step)) }
-    ensures threads { OnOk result (threads.new.items ≡ progress_after program.now last threads.old.items step) }
+    ensures threads { OnOk result (threads.new.items ≡ thread_progress_after program.now last threads.old.items step) }
     ensures last { IfOk result (λ next. next ≡ last_after program.now last threads.old.items step) }
 {
     if step.thread >= threads.len() {

@@ -21,7 +21,7 @@ pub use Rattle.jc_bulk.specs.declared.fault.BulkFault.{BulkFault}
 pub use Rattle.jc_loadall.specs.Loading.{EndsInPieces, LoadsInPieces, LoadsPiece, OnReturn, PieceEnd, all_ends, first_cause, of_clients, out_of_memory}
 pub use Rattle.jc_loadall.specs.Notes.{AreWithin, IsNoteOf, IsResultOf, LoadsAndNotes, MayAdd, all_noted, cause_noted, entries_noted, find_note, first_noted, refusal_noted, result_in}
 pub use Rattle.jc_loadall.specs.Pieces.{piece_at, piece_count}
-pub use Rattle.jc_loadall.specs.Working.{AreLoadedBy, CanLoad, CanLoadBy, DoesPiece, EndsByTeam, IsIdle, Keeps, LoadsBy}
+pub use Rattle.jc_loadall.specs.Working.{AreLoadedBy, CanLoad, CanLoadBy, DoesPiece, EndsByTeam, IsIdleWorker, Keeps, LoadsBy}
 pub use Rattle.jc_loadall.specs.declared.limits.TheConstants.{PIECE_KEYS}
 pub use Rattle.jc_loadall.specs.declared.notes.Note.{Note}
 pub use Rattle.jc_loadall.specs.declared.notes.PieceResult.{PieceResult}

@@ -7,7 +7,7 @@ use Rattle.jc_cache.specs.Caches.{CacheState}
 use Rattle.jc_session.specs.declared.session.Session.{Session}
 use Rattle.jc_bulk.specs.Outside.{BulkBehavior}
 use Rattle.jc_rounds.specs.KeyProgress.{IsCauseIn, refusal_in}
-use Rattle.jc_rounds.specs.Rounds.{LoadAll, ProcessAll, Round, WriteAll, fault_of, faults_in, round_fault}
+use Rattle.jc_rounds.specs.Rounds.{LoadAll, ProcessAll, Round, WriteAll, faults_in, round_fault, writer_failure}
 use Rattle.jc_loadall.proofs.JoinedNotes.{nothing_noted}
 
 -- 1. The keys that failed, looked up one by one.
@@ -82,7 +82,7 @@ among_cons None rs r h = inr h
 among_cons (Some x) rs r (zero, (lt, is)) = inl (ap Some (sym is))
 among_cons (Some x) rs r (suc i, (lt, is)) = inr (i, (omega (arith, lt), is))
 
-code_only : (returned : Result (Unit {0}) ℕ) → fault_of returned ≡ Some OutOfMemory → ⊥
+code_only : (returned : Result (Unit {0}) ℕ) → writer_failure returned ≡ Some OutOfMemory → ⊥
 code_only (Ok done) is = cc
 code_only (Err code) is = let same : WriterFailed code ≡ OutOfMemory = cc in cc
 

@@ -2,7 +2,7 @@
 --     front          a prefix, taken from its list
 --     able_all       workers who have loaded nothing can load each piece
 --     team_loaded    what the pool says of them, said of the tools, and of what they noted
-use Rattle.jc_loadall.proofs.Common.{◌≡◌, ◌<◌, ◌≤◌, ◌+◌, ◌++◌, ℕ, zero, suc, List, [], ◌∷◌, true, false, cond, eqb, length, take, map, get_or, zip, All, vec_len, vec_capacity, Some, unwrap_or, refl, sym, ap, subst, ◌∙◌, arith, nat_lt, flat_map-cons, AllByRecursion, IsDistinct, concat, flat_map, pointwise, Bor, MutBor, Shared, IndexSet, spare, Bytes, CanDoAll, DoesEachOnce, LeadsTo, once_below, times, Note, PieceResult, Loaded, Worker, find_note, result_in, piece_at, piece_count, AreLoadedBy, CanLoad, CanLoadBy, DoesPiece, IsIdle, Keeps, LoadsBy}
+use Rattle.jc_loadall.proofs.Common.{◌≡◌, ◌<◌, ◌≤◌, ◌+◌, ◌++◌, ℕ, zero, suc, List, [], ◌∷◌, true, false, cond, eqb, length, take, map, get_or, zip, All, vec_len, vec_capacity, Some, unwrap_or, refl, sym, ap, subst, ◌∙◌, arith, nat_lt, flat_map-cons, AllByRecursion, IsDistinct, concat, flat_map, pointwise, Bor, MutBor, Shared, IndexSet, spare, Bytes, CanDoAll, DoesEachOnce, LeadsTo, once_below, times, Note, PieceResult, Loaded, Worker, find_note, result_in, piece_at, piece_count, AreLoadedBy, CanLoad, CanLoadBy, DoesPiece, IsIdleWorker, Keeps, LoadsBy}
 use Rattle.std.specs.Prelude.{◌==◌}
 use Rattle.jc_pool.proofs.CallerLemmas.{length-zip, zip_at}
 use Rattle.jc_loadall.proofs.Gathered.{Gathering, SomeStep, fact_at, gathered, joined, kept_all, led_each}
@@ -36,7 +36,7 @@ module _ {F S T : Type 0} (g : Shared F (Bor (IndexSet Bytes S) × (MutBor T × 
       (new.0.load.now ≡ old.0.load.now) × (new.0.keys.now ≡ old.0.keys.now)
       × DoesPiece g old.0.load.now old.0.keys.now old.0.notes.items old.1 piece new.0.notes.items new.1
 
-  able_one : (pieces : ℕ) (w : Worker F) (t : T) → IsIdle load keys pieces w → CanLoadBy g load t → Keeps g load → IsDistinct (pointwise ◌==◌) keys → pieces ≡ piece_count (length keys)
+  able_one : (pieces : ℕ) (w : Worker F) (t : T) → IsIdleWorker load keys pieces w → CanLoadBy g load t → Keeps g load → IsDistinct (pointwise ◌==◌) keys → pieces ≡ piece_count (length keys)
       → CanDoAll Can pieces (w, t)
   able_one pieces w t idle may keeps distinct is piece lt =
       let there : piece < piece_count (length keys) = omega arith in
@@ -54,7 +54,7 @@ module _ {F S T : Type 0} (g : Shared F (Bor (IndexSet Bytes S) × (MutBor T × 
         keeps = subst (λ f. Keeps g f) (sym idle.load_is) keeps;
       }
 
-  pub able_all : (pieces : ℕ) (ws : List (Worker F)) (ts : List T) → length ts ≡ length ws → All (IsIdle load keys pieces) ws → All (CanLoadBy g load) ts → Keeps g load
+  pub able_all : (pieces : ℕ) (ws : List (Worker F)) (ts : List T) → length ts ≡ length ws → All (IsIdleWorker load keys pieces) ws → All (CanLoadBy g load) ts → Keeps g load
       → IsDistinct (pointwise ◌==◌) keys → pieces ≡ piece_count (length keys) → All (CanDoAll Can pieces) (zip ws ts)
   able_all pieces ws ts each idle may keeps distinct is k d within =
       let len = length-zip ws ts each in
@@ -92,7 +92,7 @@ module _ {F S T : Type 0} (g : Shared F (Bor (IndexSet Bytes S) × (MutBor T × 
   tools_led f (w ∷ ws) (w' ∷ ws') (t ∷ ts) (t' ∷ ts') (h ∷ shares) a b c s led (suc k) d lt =
       tools_led f ws ws' ts ts' shares (omega arith) (omega arith) (omega arith) (omega arith) (λ k d lt. led (suc k) d (omega arith)) k d (omega arith)
 
-  no_notes : (pieces : ℕ) (ws : List (Worker F)) (ts : List T) → All (IsIdle load keys pieces) ws → AllByRecursion (λ (b : Worker F × T). b.0.notes.items ≡ []) (zip ws ts)
+  no_notes : (pieces : ℕ) (ws : List (Worker F)) (ts : List T) → All (IsIdleWorker load keys pieces) ws → AllByRecursion (λ (b : Worker F × T). b.0.notes.items ≡ []) (zip ws ts)
   no_notes pieces [] ts idle = tt
   no_notes pieces (w ∷ ws) [] idle = tt
   no_notes pieces (w ∷ ws) (t ∷ ts) idle = ((idle 0 w (omega arith)).none, no_notes pieces ws ts (λ k d lt. idle (suc k) d (omega arith)))
@@ -103,7 +103,7 @@ module _ {F S T : Type 0} (g : Shared F (Bor (IndexSet Bytes S) × (MutBor T × 
   notes_of (w ∷ ws) (t ∷ ts) each = ap (λ l. w.notes.items ++ l) (notes_of ws ts (omega arith)) ∙ sym (flat_map-cons (λ (w : Worker F). w.notes.items) w ws)
 
   pub team_loaded : {J : Type 0} (did : Worker F × T → List ℕ) (job : Worker F × T → J) (pieces : ℕ) (ws ws' : List (Worker F)) (ts ts' : List T)
-      → length ts ≡ length ws → length ws' ≡ length ws → length ts' ≡ length ts → All (IsIdle load keys pieces) ws → pieces ≡ piece_count (length keys)
+      → length ts ≡ length ws → length ws' ≡ length ws → length ts' ≡ length ts → All (IsIdleWorker load keys pieces) ws → pieces ≡ piece_count (length keys)
       → DoesEachOnce did job Can Does pieces (zip ws ts) (zip ws' ts')
       → AreLoadedBy g load keys (result_in (flat_map (λ (w : Worker F). w.notes.items) ws')) ts ts'
   team_loaded did job pieces ws ws' ts ts' each many many_tools idle is done = subst (λ (f : ℕ → PieceResult). AreLoadedBy g load keys f ts ts') (λ i p. sym (same p) i) loaded

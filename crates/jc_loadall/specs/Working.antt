@@ -1,16 +1,16 @@
 -- Workers, each of which loads pieces by a tool, with a function that loads one piece.
---     CanLoadBy    the function may be called with the keys of a piece and this tool
---     LoadsBy      a call of the function with these keys: its result, and the tool before and after
---     Keeps        each call of the function leaves a tool with which it may be called again
+--     CanLoadBy      the function may be called with the keys of a piece and this tool
+--     LoadsBy        a call of the function with these keys: its result, and the tool before and after
+--     Keeps          each call of the function leaves a tool with which it may be called again
 --     CanLoadByAll   there is a tool; the function may be called with each tool, and can be called again
---     CanLoad      a worker can load the piece with this number: there is such a piece; there is room for its keys, and for the
---                  note of its end; and the function may be called with the tool
---     DoesPiece    a piece was loaded with the tool, and the worker noted its end
---     AreLoadedBy  each piece of these keys was loaded once, with this result: each tool has a share of the pieces, which were
---                  loaded with it one after another
---     EndsByTeam   as `AreLoadedBy`, with the result of the call: that it is done, or the first cause that is noted, with each
---                  key of which a fault or a refusal is noted
---     IsIdle       a worker has loaded nothing, and has room for this number of notes
+--     CanLoad        a worker can load the piece with this number: there is such a piece; there is room for its keys, and for the
+--                    note of its end; and the function may be called with the tool
+--     DoesPiece      a piece was loaded with the tool, and the worker noted its end
+--     AreLoadedBy    each piece of these keys was loaded once, with this result: each tool has a share of the pieces, which were
+--                    loaded with it one after another
+--     EndsByTeam     as `AreLoadedBy`, with the result of the call: that it is done, or the first cause that is noted, with each
+--                    key of which a fault or a refusal is noted
+--     IsIdleWorker   a worker has loaded nothing, and has room for this number of notes
 use Rattle.std.specs.Prelude.{◌≡◌, ◌==◌, ◌<◌, ◌≤◌, ◌+◌, ◌++◌, ℕ, List, [], ◌∷◌, length, slice_index_or, vec_capacity, Result}
 use Rattle.std.specs.List.{All, IsDistinct, concat}
 use Rattle.std.specs.Cmp.Lexicographic.{pointwise}
@@ -80,7 +80,7 @@ module _ {F S T : Type 0} (g : Shared F (Bor (IndexSet Bytes S) × (MutBor T × 
       (results : ℕ → PieceResult) × AreLoadedBy keys results old new
       × TellsDone result (first_noted results (piece_count (length keys))) (all_noted results keys (piece_count (length keys)))
 
-pub record IsIdle {F : Type 0} (load : F) (keys : List Bytes) (pieces : ℕ) (worker : Worker F) : Type 0 where
+pub record IsIdleWorker {F : Type 0} (load : F) (keys : List Bytes) (pieces : ℕ) (worker : Worker F) : Type 0 where
   pub load_is : worker.load.now ≡ load
   pub keys_are : worker.keys.now ≡ keys
   pub room_for_keys : PIECE_KEYS ≤ length worker.piece_keys.keys + spare worker.piece_keys

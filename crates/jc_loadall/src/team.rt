@@ -3,7 +3,7 @@ ghost use Rattle.std.specs.Prelude.{◌≡◌, All, IfOk, OnErr, length, vec_len
 ghost use Rattle.std.specs.List.{IsDistinct};
 ghost use Rattle.jc_bulk.specs.Bulk.{OrRefused};
 ghost use Rattle.jc_loadall.specs.Pieces.{piece_count};
-ghost use Rattle.jc_loadall.specs.Working.{CanLoadByAll, EndsByTeam, IsIdle};
+ghost use Rattle.jc_loadall.specs.Working.{CanLoadByAll, EndsByTeam, IsIdleWorker};
 
 use crate::joining::join_notes;
 use crate::notes::PieceResult;
@@ -71,7 +71,7 @@ fn hire<'a, F>(
     workers: usize,
     pieces: usize,
 ) -> Result<Vec<Worker<'a, F>>, AllocError>
-    ensures { IfOk result (λ team. (vec_len team ≡ workers) × All (IsIdle load.now keys.now pieces) team.items) }
+    ensures { IfOk result (λ team. (vec_len team ≡ workers) × All (IsIdleWorker load.now keys.now pieces) team.items) }
 {
     let mut team = Vec::with_capacity(alloc, workers)?;
     'hiring: while team.len() < workers {

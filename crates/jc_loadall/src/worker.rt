@@ -3,7 +3,7 @@ ghost use Rattle.std.specs.Prelude.{◌≡◌, ◌==◌, ◌+◌, ◌≤◌, ◌
 ghost use Rattle.std.specs.List.{IsDistinct, flat_map};
 ghost use Rattle.std.specs.Cmp.Lexicographic.{pointwise};
 ghost use Rattle.indexmap.specs.IndexSet.{spare};
-ghost use Rattle.jc_loadall.specs.Working.{CanLoad, CanLoadBy, DoesPiece, IsIdle, LoadsBy};
+ghost use Rattle.jc_loadall.specs.Working.{CanLoad, CanLoadBy, DoesPiece, IsIdleWorker, LoadsBy};
 ghost use Rattle.jc_loadall.specs.declared.limits.TheConstants.{PIECE_KEYS};
 
 use crate::limits::PIECE_KEYS;
@@ -35,7 +35,7 @@ impl<'a, F> Worker<'a, F> {
         keys: &'a [Key],
         pieces: usize,
     ) -> Result<Worker<'a, F>, AllocError>
-        ensures { IfOk result (λ w. IsIdle load.now keys.now pieces w) }
+        ensures { IfOk result (λ w. IsIdleWorker load.now keys.now pieces w) }
     {
         Ok(Worker {
             load,

@@ -16,22 +16,22 @@ use Rattle.std.proofs.lemmas.Bool.{cases_lt}
 use Rattle.std.proofs.lemmas.List.Folds.{concat-append}
 use Rattle.std.specs.List.Sorted.{IsStrictlyIncreasing}
 use Rattle.atomic_table.specs.Seated.{TableId}
-use Rattle.jc_pool.specs.declared.view.Plan.{Plan}
+use Rattle.jc_pool.specs.declared.view.JobPlan.{JobPlan}
 use Rattle.jc_pool.specs.declared.view.Claims.{Claims}
 use Rattle.jc_pool.specs.Shares.{CanDoAll, LeadsTo, DoesShare, DoShares, DoesEachOnce}
-use Rattle.jc_pool.specs.Views.{next_after, fresh_claims, ended_claims, after_join, after_split, split_off}
+use Rattle.jc_pool.specs.Views.{least_above, fresh_claims, ended_claims, claims_after_join, claims_after_split, split_off}
 use Rattle.jc_pool.specs.Teams.{CanBegin, CanBeginHalves, HasEnded, HaveEnded}
-use Rattle.jc_pool.proofs.Steps.{next_after-append}
+use Rattle.jc_pool.proofs.Steps.{least_above-append}
 
-below_next : (xs : List ℕ) (k : ℕ) → k < length xs → get_or xs k 0 < next_after xs
+below_next : (xs : List ℕ) (k : ℕ) → k < length xs → get_or xs k 0 < least_above xs
 below_next [] k l = absurd (omega arith)
 below_next (x ∷ xs) zero l = omega arith
 below_next (x ∷ xs) (suc k) l = let ih = below_next xs k (omega arith) in omega arith
 
-pub next-snoc : (xs : List ℕ) (n : ℕ) → next_after xs ≤ n → next_after (xs ++ n ∷ []) ≡ n + 1
-next-snoc xs n le = let e = next_after-append xs (n ∷ []) in omega arith
+pub next-snoc : (xs : List ℕ) (n : ℕ) → least_above xs ≤ n → least_above (xs ++ n ∷ []) ≡ n + 1
+next-snoc xs n le = let e = least_above-append xs (n ∷ []) in omega arith
 
-pub rises-snoc : (xs : List ℕ) (n : ℕ) → IsStrictlyIncreasing xs → next_after xs ≤ n → IsStrictlyIncreasing (xs ++ n ∷ [])
+pub rises-snoc : (xs : List ℕ) (n : ℕ) → IsStrictlyIncreasing xs → least_above xs ≤ n → IsStrictlyIncreasing (xs ++ n ∷ [])
 rises-snoc xs n rises le k within =
     let len = length-append xs (n ∷ []) in
     let first : k < length xs = omega arith in
@@ -105,7 +105,7 @@ module _ {W T : Type 0} (P : W × T → Type 0) (ws first rest : List W) (ts fir
   pub rest_of_all : ws ≡ first ++ rest → ts ≡ first_tools ++ rest_tools → length first_tools ≡ length first → All P (zip ws ts) → All P (zip rest rest_tools)
   rest_of_all w t len all = All-back P (zip first first_tools) (zip rest rest_tools) (subst (All P) (split-zip w t len) all)
 
-module _ {W T J : Type 0} (did : W × T → List ℕ) (job : W × T → J) (can_do : W × T → ℕ → Type 0) (does : W × T → ℕ → W × T → Type 0) (counter : TableId × Plan) where
+module _ {W T J : Type 0} (did : W × T → List ℕ) (job : W × T → J) (can_do : W × T → ℕ → Type 0) (does : W × T → ℕ → W × T → Type 0) (counter : TableId × JobPlan) where
   pub alone_can : (ws : List W) (w : W) (ts : List T) (t : T) (n : ℕ) → length ws ≡ 1 → length ts ≡ length ws → All (CanDoAll can_do n) (zip ws ts) → CanDoAll can_do n (get_or ws 0 w, get_or ts 0 t)
   alone_can [] w ts t n one each all = absurd (omega arith)
   alone_can (x ∷ ws) w [] t n one each all = absurd (omega arith)
@@ -132,13 +132,13 @@ module _ {W T J : Type 0} (did : W × T → List ℕ) (job : W × T → J) (can_
       alone (suc k) l d = absurd (omega arith)
 
   pub begin_first : (claimer left : TableId × Claims) (first rest : List W) (first_tools rest_tools : List T) → CanBeginHalves can_do counter claimer first first_tools rest rest_tools
-      → left.0 ≡ counter.0 → left.1 ≡ after_split claimer.1 → CanBegin can_do counter left first first_tools
+      → left.0 ≡ counter.0 → left.1 ≡ claims_after_split claimer.1 → CanBegin can_do counter left first first_tools
   begin_first claimer left first rest first_tools rest_tools begin counter_is is =
       let many = length-append first rest in
       let fewer : length (first ++ rest) - length (first ++ rest) / 2 ≡ length first = omega (arith, many, begin.half) in
       record {
         counter_is = counter_is;
-        claims = is ∙ ap after_split begin.can.claims ∙ ap (fresh_claims counter.1) fewer;
+        claims = is ∙ ap claims_after_split begin.can.claims ∙ ap (fresh_claims counter.1) fewer;
         some = begin.some;
         tool_each = begin.tool_each;
         able = first_of_all (CanDoAll can_do counter.1.pieces) (first ++ rest) first rest (first_tools ++ rest_tools) first_tools rest_tools refl refl begin.tool_each begin.can.able;
@@ -159,7 +159,7 @@ module _ {W T J : Type 0} (did : W × T → List ℕ) (job : W × T → J) (can_
 
   pub both_ended : (a b joined : TableId × Claims) (xs xs' ys ys' : List W) (us us' vs vs' : List T) → length us ≡ length xs
       → HaveEnded did job can_do does counter a xs us xs' us' → HaveEnded did job can_do does counter b ys vs ys' vs'
-      → joined.0 ≡ counter.0 → joined.1 ≡ after_join a.1 b.1 → HaveEnded did job can_do does counter joined (xs ++ ys) (us ++ vs) (xs' ++ ys') (us' ++ vs')
+      → joined.0 ≡ counter.0 → joined.1 ≡ claims_after_join a.1 b.1 → HaveEnded did job can_do does counter joined (xs ++ ys) (us ++ vs) (xs' ++ ys') (us' ++ vs')
   both_ended a b joined xs xs' ys ys' us us' vs vs' tool_each p q counter_is is =
       let front : length xs' ≡ length xs = p.workers in let front_tools : length us' ≡ length us = p.tools in
       let back : length ys' ≡ length ys = q.workers in let back_tools : length vs' ≡ length vs = q.tools in
@@ -167,7 +167,7 @@ module _ {W T J : Type 0} (did : W × T → List ℕ) (job : W × T → J) (can_
       record {
         counter_is = counter_is;
         shares = p.shares ++ q.shares;
-        claims = is ∙ (λ i. after_join (p.claims i) (q.claims i))
+        claims = is ∙ (λ i. claims_after_join (p.claims i) (q.claims i))
             ∙ (λ i. record { plan = counter.1; claimed = sym (concat-append p.shares q.shares) i; working = 0; ended = sym (length-append xs ys) i });
         workers = omega arith;
         tools = omega arith;

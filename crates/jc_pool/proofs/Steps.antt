@@ -7,10 +7,10 @@ use mathlib.Core.Option.{some, none, some-injective, some-ne-none}
 use lib.ListN.{get_elem?}
 use Rattle.atomic_table.specs.Table.{State, Me, keeps, step, Allows, Splits, Joins, opening, Seen}
 use Rattle.atomic_table.proofs.Lists.{at_set, set_else}
-use Rattle.jc_pool.specs.declared.view.Plan.{Plan}
+use Rattle.jc_pool.specs.declared.view.JobPlan.{JobPlan}
 use Rattle.jc_pool.specs.declared.view.Claims.{Claims}
 use Rattle.jc_pool.specs.Shares.{times, once_below}
-use Rattle.jc_pool.specs.Views.{workers_of, next_after, fresh_claims, spent_claims, after_claim, after_end, after_split, split_off, after_join}
+use Rattle.jc_pool.specs.Views.{workers_of, least_above, fresh_claims, spent_claims, after_claim, after_end, claims_after_split, split_off, claims_after_join}
 use Rattle.jc_pool.specs.Rule.{ClaimsFit, CountsClaims, IsClaim}
 
 -- 1. Lists of numbers.
@@ -24,9 +24,9 @@ once_more x n =
     let more : once_below x n + cond (eqb n x) 1 0 ≡ once_below x (n + 1) = grind (arith, nat_tests) in
     omega arith
 
-pub next_after-append : (xs ys : List ℕ) → next_after (xs ++ ys) ≡ max (next_after xs) (next_after ys)
-next_after-append [] ys = let n : ℕ = next_after ys in let g : n ≡ max 0 n = omega arith in g
-next_after-append (x ∷ xs) ys = let ih = next_after-append xs ys in omega arith
+pub least_above-append : (xs ys : List ℕ) → least_above (xs ++ ys) ≡ max (least_above xs) (least_above ys)
+least_above-append [] ys = let n : ℕ = least_above ys in let g : n ≡ max 0 n = omega arith in g
+least_above-append (x ∷ xs) ys = let ih = least_above-append xs ys in omega arith
 
 -- 2. Sums over the claimers.
 
@@ -72,15 +72,15 @@ each_end : (P : Claims → Type 0) (views : List Claims) (w : Claims) → ((j : 
     → (j : ℕ) (u : Claims) → get_elem? (views ++ w ∷ []) j ≡ some u → P u
 each_end P views w others mine j u e = ⊎_elim (λ t. others j u t) (λ t. subst P t.1 mine) (at_end views w u j e)
 
-fit_later : (plan : Plan) (n m : ℕ) (v : Claims) → n ≤ m → ClaimsFit plan n v → ClaimsFit plan m v
+fit_later : (plan : JobPlan) (n m : ℕ) (v : Claims) → n ≤ m → ClaimsFit plan n v → ClaimsFit plan m v
 fit_later plan n m v le fit = record {
-  below = (let b : next_after v.claimed ≤ n = fit.below in omega arith);
+  below = (let b : least_above v.claimed ≤ n = fit.below in omega arith);
   past = λ some_ended. let p : plan.pieces ≤ n = fit.past some_ended in omega arith;
   nobody = fit.nobody;
   planned = fit.planned;
 }
 
-fit_spent : (plan : Plan) (n : ℕ) → ClaimsFit plan n spent_claims
+fit_spent : (plan : JobPlan) (n : ℕ) → ClaimsFit plan n spent_claims
 fit_spent plan n = record { below = omega arith; past = λ e. absurd (omega arith); nobody = λ _. refl; planned = λ e. absurd (omega arith) }
 
 either_ended : (a b : ℕ) → 0 < a + b → (0 < a) ⊎ (0 < b)
@@ -96,7 +96,7 @@ M = Me (Unit {0}) Claims
 -- 4. The steps.
 
 -- one claimer changes, by a claim or an end
-moved : (plan : Plan) (s : St) (r : CountsClaims plan s) (id : ℕ) (v w : Claims) (words : List ℕ) (number : ℕ) → words ≡ number ∷ [] → r.number ≤ number
+moved : (plan : JobPlan) (s : St) (r : CountsClaims plan s) (id : ℕ) (v w : Claims) (words : List ℕ) (number : ℕ) → words ≡ number ∷ [] → r.number ≤ number
     → get_elem? s.views id ≡ some v → workers_of w ≡ workers_of v
     → number ≤ plan.pieces + sum_by (λ u. u.ended) (set s.views id w)
     → ((x : ℕ) → sum_by (λ u. times x u.claimed) (set s.views id w) ≡ once_below x (min number plan.pieces))
@@ -112,18 +112,18 @@ moved plan s r id v w words number is up at same ends once fit = record {
   each = each_set (ClaimsFit plan number) s.views id w (λ j u _ e. fit_later plan r.number number u up (r.each j u e)) fit;
 }
 
-pub claims_it : (plan : Plan) (slots id : ℕ) (me : M) → 0 < me.0.working → Allows (CountsClaims plan) slots id me 0 (λ n. (n + 1) % 2 ^ 64) (IsClaim (step slots 0 1 0 none) me)
+pub claims_it : (plan : JobPlan) (slots id : ℕ) (me : M) → 0 < me.0.working → Allows (CountsClaims plan) slots id me 0 (λ n. (n + 1) % 2 ^ 64) (IsClaim (step slots 0 1 0 none) me)
 claims_it plan slots id me working s r wide at _ =
     let v = me.0 in let n : ℕ = r.number in let found : ℕ = get_or s.words 0 0 in let fit = r.each id v at in
     let is : found ≡ n = ap (λ ws. get_or ws 0 0) r.word in
-    let pieces : v.plan.pieces ≡ plan.pieces = ap (λ (k : Plan). k.pieces) (fit.planned (omega arith)) in
+    let pieces : v.plan.pieces ≡ plan.pieces = ap (λ (k : JobPlan). k.pieces) (fit.planned (omega arith)) in
     let sums : sum_by workers_of s.views ≡ sum_by (λ u. u.working) s.views + sum_by (λ u. u.ended) s.views = total_sum (λ u. u.working) (λ u. u.ended) s.views in
     let mine = total_le (λ u. u.working) s.views id v at in
     let all : sum_by workers_of s.views ≡ plan.workers = r.workers in let ends : n ≤ plan.pieces + sum_by (λ u. u.ended) s.views = r.ends in let fits : plan.pieces + plan.workers < 2 ^ 64 = r.fits in
     let small : n + 1 < 2 ^ 64 = omega arith in
     let words = set s.words 0 ((found + 1) % 2 ^ 64) in
     let word : words ≡ (n + 1) ∷ [] = ap (λ ws. set ws 0 ((get_or ws 0 0 + 1) % 2 ^ 64)) r.word ∙ ap (λ (k : ℕ). k ∷ []) (mod-eq_of_lt small) in
-    let below : next_after v.claimed ≤ n = fit.below in
+    let below : least_above v.claimed ≤ n = fit.below in
     let F : Bool → Type 0 = λ b. nat_lt found v.plan.pieces ≡ b → CountsClaims plan record { words = words; homes = s.homes; views = set s.views id (cond b (after_claim v found) (after_end v)) } in
     let hit : F true = λ t. let lt : found < v.plan.pieces = grind (arith, nat_tests) in let w : Claims = after_claim v found in
     moved plan s r id v w words (n + 1) word (omega arith) at refl
@@ -134,7 +134,7 @@ claims_it plan slots id me working s r wide at _ =
     let e : sum_by f s.views ≡ once_below x n = r.once x ∙ ap (once_below x) low in
     let g : sum_by f (set s.views id w) ≡ once_below x (n + 1) = omega arith in g ∙ ap (once_below x) (sym high))
     record {
-      below = (let a = next_after-append v.claimed (found ∷ []) in let g : next_after (v.claimed ++ found ∷ []) ≤ n + 1 = omega arith in g);
+      below = (let a = least_above-append v.claimed (found ∷ []) in let g : least_above (v.claimed ++ found ∷ []) ≤ n + 1 = omega arith in g);
       past = λ e. let p : plan.pieces ≤ n = fit.past e in omega arith;
       nobody = λ e. let z : v.working + v.ended ≡ 0 = e in absurd (omega arith);
       planned = fit.planned;
@@ -158,7 +158,7 @@ claims_it plan slots id me working s r wide at _ =
       (refl, omega arith),
     )
 
-pub opens : (plan : Plan) → plan.pieces + plan.workers < 2 ^ 64 → CountsClaims plan (opening (0 ∷ []) [] (fresh_claims plan plan.workers))
+pub opens : (plan : JobPlan) → plan.pieces + plan.workers < 2 ^ 64 → CountsClaims plan (opening (0 ∷ []) [] (fresh_claims plan plan.workers))
 opens plan fits =
     let v : Claims = fresh_claims plan plan.workers in
     record {
@@ -172,9 +172,9 @@ opens plan fits =
           record { below = omega arith; past = λ e. absurd (omega arith); nobody = λ _. refl; planned = λ _. refl };
     }
 
-pub splits_it : (plan : Plan) (id : ℕ) (v : Claims) → 1 < v.working → Splits (CountsClaims plan) id v (after_split v) (split_off v)
+pub splits_it : (plan : JobPlan) (id : ℕ) (v : Claims) → 1 < v.working → Splits (CountsClaims plan) id v (claims_after_split v) (split_off v)
 splits_it plan id v two s r at =
-    let w : Claims = after_split v in let u : Claims = split_off v in let views = set s.views id w in let fit = r.each id v at in
+    let w : Claims = claims_after_split v in let u : Claims = split_off v in let views = set s.views id w in let fit = r.each id v at in
     let sum : (f : Claims → ℕ) → f w + f u ≡ f v → sum_by f (views ++ u ∷ []) ≡ sum_by f s.views = λ f e.
     let a = total_set f s.views id v w at in let b = sum_by_push f views u in omega arith in
     record {
@@ -190,9 +190,9 @@ splits_it plan id v two s r at =
           record { below = omega arith; past = λ e. absurd (omega arith); nobody = λ _. refl; planned = λ _. fit.planned (omega arith) };
     }
 
-pub joins_it : (plan : Plan) (id : ℕ) (v : Claims) (other : ℕ) (w : Claims) → 0 < workers_of v → Joins (CountsClaims plan) id v other w (after_join v w) spent_claims
+pub joins_it : (plan : JobPlan) (id : ℕ) (v : Claims) (other : ℕ) (w : Claims) → 0 < workers_of v → Joins (CountsClaims plan) id v other w (claims_after_join v w) spent_claims
 joins_it plan id v other w some_of s r at ne there =
-    let both : Claims = after_join v w in let mid = set s.views id both in let views = set mid other spent_claims in
+    let both : Claims = claims_after_join v w in let mid = set s.views id both in let views = set mid other spent_claims in
     let fit = r.each id v at in
     let fit' : ClaimsFit plan r.number w = r.each other w (sym (set_else s.views id other both ne) ∙ there) in
     let sum : (f : Claims → ℕ) → f spent_claims ≡ 0 → f both ≡ f v + f w → sum_by f views ≡ sum_by f s.views = λ f z b.
@@ -207,8 +207,8 @@ joins_it plan id v other w some_of s r at ne there =
       each = each_set (ClaimsFit plan r.number) mid other spent_claims
           (λ j u _ e. each_set (ClaimsFit plan r.number) s.views id both (λ k x _ h. r.each k x h)
           record {
-            below = (let a = next_after-append v.claimed w.claimed in let b : next_after v.claimed ≤ r.number = fit.below in let c : next_after w.claimed ≤ r.number = fit'.below in
-                let g : next_after (v.claimed ++ w.claimed) ≤ r.number = omega arith in g);
+            below = (let a = least_above-append v.claimed w.claimed in let b : least_above v.claimed ≤ r.number = fit.below in let c : least_above w.claimed ≤ r.number = fit'.below in
+                let g : least_above (v.claimed ++ w.claimed) ≤ r.number = omega arith in g);
             past = λ e. ⊎_elim (λ t. fit.past t) (λ t. fit'.past t) (either_ended v.ended w.ended e);
             nobody = λ e. (let z : (v.working + w.working) + (v.ended + w.ended) ≡ 0 = e in absurd (omega arith));
             planned = λ _. fit.planned some_of;
@@ -217,7 +217,7 @@ joins_it plan id v other w some_of s r at ne there =
           (fit_spent plan r.number);
     }
 
-pub closes : (plan : Plan) (s : St) (id : ℕ) (v : Claims) → Seen (CountsClaims plan) id v s → 0 < plan.workers → v.working ≡ 0 → v.ended ≡ plan.workers
+pub closes : (plan : JobPlan) (s : St) (id : ℕ) (v : Claims) → Seen (CountsClaims plan) id v s → 0 < plan.workers → v.working ≡ 0 → v.ended ≡ plan.workers
     → (x : ℕ) → times x v.claimed ≡ once_below x plan.pieces
 closes plan s id v seen some_worker none_works all_ended x =
     let r = seen.0 in let at = seen.1 in let n : ℕ = r.number in

@@ -10,18 +10,18 @@ use Rattle.std.specs.Prelude.{◌≡◌, ℕ, ◌+◌, ◌^◌, ◌<◌, ◌≤�
 use mathlib.Core.Option.{some}
 use lib.ListN.{get_elem?}
 use Rattle.atomic_table.specs.Table.{State, Me, Step}
-use Rattle.jc_pool.specs.declared.view.Plan.{Plan}
+use Rattle.jc_pool.specs.declared.view.JobPlan.{JobPlan}
 use Rattle.jc_pool.specs.declared.view.Claims.{Claims}
 use Rattle.jc_pool.specs.Shares.{times, once_below}
-use Rattle.jc_pool.specs.Views.{workers_of, next_after, after_claim, after_end}
+use Rattle.jc_pool.specs.Views.{workers_of, least_above, after_claim, after_end}
 
-pub record ClaimsFit (plan : Plan) (number : ℕ) (v : Claims) : Type 0 where
-  pub below : next_after v.claimed ≤ number
+pub record ClaimsFit (plan : JobPlan) (number : ℕ) (v : Claims) : Type 0 where
+  pub below : least_above v.claimed ≤ number
   pub past : 0 < v.ended → plan.pieces ≤ number
   pub nobody : workers_of v ≡ 0 → v.claimed ≡ []
   pub planned : 0 < workers_of v → v.plan ≡ plan
 
-pub record CountsClaims (plan : Plan) (table : State (Unit {0}) Claims) : Type 0 where
+pub record CountsClaims (plan : JobPlan) (table : State (Unit {0}) Claims) : Type 0 where
   pub number : ℕ
   pub word : table.words ≡ number ∷ []
   pub fits : plan.pieces + plan.workers < 2 ^ 64
@@ -33,4 +33,4 @@ pub record CountsClaims (plan : Plan) (table : State (Unit {0}) Claims) : Type 0
 abbrev pub IsClaim : Step (Unit {0}) → Me (Unit {0}) Claims → ℕ → Me (Unit {0}) Claims → Type 0
 IsClaim step me found me' =
     (me' ≡ (cond (nat_lt found me.0.plan.pieces) (after_claim me.0 found) (after_end me.0), me.1))
-    × (next_after me.0.claimed ≤ found)
+    × (least_above me.0.claimed ≤ found)

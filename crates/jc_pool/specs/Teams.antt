@@ -7,19 +7,19 @@
 use Rattle.std.specs.Prelude.{◌≡◌, ℕ, ◌<◌, ◌+◌, ◌/◌, ◌++◌, List, All, length}
 use Rattle.std.specs.List.{concat, zip}
 use Rattle.atomic_table.specs.Seated.{TableId}
-use Rattle.jc_pool.specs.declared.view.Plan.{Plan}
+use Rattle.jc_pool.specs.declared.view.JobPlan.{JobPlan}
 use Rattle.jc_pool.specs.declared.view.Claims.{Claims}
 use Rattle.jc_pool.specs.Shares.{CanDoAll, DoesShare, DoShares}
 use Rattle.jc_pool.specs.Views.{fresh_claims, ended_claims}
 
-pub record CanBegin {W T : Type 0} (can_do : W × T → ℕ → Type 0) (counter : TableId × Plan) (claimer : TableId × Claims) (workers : List W) (tools : List T) : Type 0 where
+pub record CanBegin {W T : Type 0} (can_do : W × T → ℕ → Type 0) (counter : TableId × JobPlan) (claimer : TableId × Claims) (workers : List W) (tools : List T) : Type 0 where
   pub counter_is : claimer.0 ≡ counter.0
   pub claims : claimer.1 ≡ fresh_claims counter.1 (length workers)
   pub some : 0 < length workers
   pub tool_each : length tools ≡ length workers
   pub able : All (CanDoAll can_do counter.1.pieces) (zip workers tools)
 
-pub record CanBeginHalves {W T : Type 0} (can_do : W × T → ℕ → Type 0) (counter : TableId × Plan) (claimer : TableId × Claims) (first : List W) (first_tools : List T) (rest : List W) (rest_tools : List T) : Type 0 where
+pub record CanBeginHalves {W T : Type 0} (can_do : W × T → ℕ → Type 0) (counter : TableId × JobPlan) (claimer : TableId × Claims) (first : List W) (first_tools : List T) (rest : List W) (rest_tools : List T) : Type 0 where
   pub can : CanBegin can_do counter claimer (first ++ rest) (first_tools ++ rest_tools)
   pub some : 0 < length first
   pub others : 0 < length rest
@@ -27,7 +27,7 @@ pub record CanBeginHalves {W T : Type 0} (can_do : W × T → ℕ → Type 0) (c
   pub tool_each : length first_tools ≡ length first
 
 module _ {W T J : Type 0} (did : W × T → List ℕ) (job : W × T → J) (can_do : W × T → ℕ → Type 0) (does : W × T → ℕ → W × T → Type 0)
-    (counter : TableId × Plan) (claimer : TableId × Claims) where
+    (counter : TableId × JobPlan) (claimer : TableId × Claims) where
   pub record HasEnded (old new : W × T) : Type 0 where
     pub counter_is : claimer.0 ≡ counter.0
     pub claims : claimer.1 ≡ ended_claims counter.1 1 claimer.1.claimed

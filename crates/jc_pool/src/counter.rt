@@ -1,10 +1,10 @@
 //! The counter that pieces are claimed from.
 ghost use Rattle.std.specs.Prelude.{◌≡◌, ℕ, ◌+◌, ◌-◌, ◌/◌, ◌^◌, ◌<◌, ◌≤◌, IfOk, IfSome, IfNone};
 ghost use Rattle.jc_pool.specs.Shares.{times, once_below};
-ghost use Rattle.jc_pool.specs.Views.{fresh_claims, ended_claims, next_after, after_claim, after_end, after_split, split_off, after_join, IsOf};
+ghost use Rattle.jc_pool.specs.Views.{fresh_claims, ended_claims, least_above, after_claim, after_end, claims_after_split, split_off, claims_after_join, IsClaimerOf};
 
-use crate::rule::{Claim, Half, Rule};
-use crate::view::{Claims, Plan};
+use crate::rule::{Claim, CounterRule, Half};
+use crate::view::{Claims, JobPlan};
 use atomic_table::Table;
 use std::alloc::{AllocError, Global};
 use std::marker::Model;
@@ -12,16 +12,16 @@ use std::marker::Model;
 /// The number of the next piece, which threads share by `&Counter`. Contracts see which counter it is, and its plan.
 #[derive(Drop)]
 pub(crate) struct Counter {
-    table: Table<(), Claims, Plan, Rule, Global>,
+    table: Table<(), Claims, JobPlan, CounterRule, Global>,
     pieces: usize,
 }
 
 impl Model for Counter {
     ghost use Rattle.std.specs.Prelude.{◌≡◌};
     ghost use Rattle.atomic_table.specs.Seated.{TableId};
-    ghost use Rattle.jc_pool.specs.declared.view.Plan.{Plan};
+    ghost use Rattle.jc_pool.specs.declared.view.JobPlan.{JobPlan};
 
-    ghost Value = { TableId × Plan };
+    ghost Value = { TableId × JobPlan };
 
     ghost view = { λ c. (c.table.shared.table_id, c.table.shared.key) };
 
@@ -54,7 +54,7 @@ impl Counter {
     /// It allocates one word.
     ///
     /// Condition: pieces and workers together are at most `usize::MAX`.
-    pub(crate) fn new(alloc: Global, plan: &Plan) -> Result<(Counter, Claimer), AllocError>
+    pub(crate) fn new(alloc: Global, plan: &JobPlan) -> Result<(Counter, Claimer), AllocError>
         requires { plan.now.pieces + plan.now.workers < 2 ^ 64 }
         ensures counter { IfOk result (λ r. r.0.1 ≡ plan.now) }
         ensures claimer { IfOk result (λ r. (r.1.0 ≡ r.0.0) × (r.1.1 ≡ fresh_claims plan.now plan.now.workers)) }
@@ -71,11 +71,11 @@ impl Counter {
     ///
     /// Conditions: the claimer is of this counter, and one of its workers has not ended.
     pub(crate) fn claim(&self, claimer: &mut Claimer) -> Option<usize>
-        requires counter { IsOf self.now claimer.old }
+        requires counter { IsClaimerOf self.now claimer.old }
         requires working { 0 < claimer.old.1.working }
-        ensures counter { IsOf self.now claimer.new }
+        ensures counter { IsClaimerOf self.now claimer.new }
         ensures piece { IfSome result (λ piece. (claimer.new.1 ≡ after_claim claimer.old.1 piece) × (piece < self.now.1.pieces)) }
-        ensures later { IfSome result (λ piece. next_after claimer.old.1.claimed ≤ piece) }
+        ensures later { IfSome result (λ piece. least_above claimer.old.1.claimed ≤ piece) }
         ensures none { IfNone result (claimer.new.1 ≡ after_end claimer.old.1) }
     {
         let found = self
@@ -94,10 +94,10 @@ impl Counter {
     ///
     /// Conditions: the claimer is of this counter, and is for at least two workers that haven't ended.
     pub(crate) fn split(&self, claimer: &mut Claimer) -> Claimer
-        requires counter { IsOf self.now claimer.old }
+        requires counter { IsClaimerOf self.now claimer.old }
         requires two { 1 < claimer.old.1.working }
-        ensures counter { IsOf self.now claimer.new × IsOf self.now result }
-        ensures claims { (claimer.new.1 ≡ after_split claimer.old.1) × (result.1 ≡ split_off claimer.old.1) }
+        ensures counter { IsClaimerOf self.now claimer.new × IsClaimerOf self.now result }
+        ensures claims { (claimer.new.1 ≡ claims_after_split claimer.old.1) × (result.1 ≡ split_off claimer.old.1) }
     {
         let token = self.table.shared.split_seat::<Half>(&mut claimer.token);
         Claimer { token }
@@ -107,10 +107,10 @@ impl Counter {
     ///
     /// Conditions: both are of this counter, and `claimer` is for at least one worker.
     pub(crate) fn join(&self, claimer: &mut Claimer, other: Claimer)
-        requires counter { IsOf self.now claimer.old × IsOf self.now other }
+        requires counter { IsClaimerOf self.now claimer.old × IsClaimerOf self.now other }
         requires some { 0 < claimer.old.1.working + claimer.old.1.ended }
-        ensures counter { IsOf self.now claimer.new }
-        ensures claims { claimer.new.1 ≡ after_join claimer.old.1 other.1 }
+        ensures counter { IsClaimerOf self.now claimer.new }
+        ensures claims { claimer.new.1 ≡ claims_after_join claimer.old.1 other.1 }
     {
         let Claimer { token } = other;
         self.table
@@ -122,7 +122,7 @@ impl Counter {
     ///
     /// Conditions: the claimer is of this counter and for all workers, of whom there is at least one, and all have ended.
     pub(crate) fn close(self, claimer: Claimer)
-        requires counter { IsOf self claimer }
+        requires counter { IsClaimerOf self claimer }
         requires all { (0 < self.1.workers) × (claimer.1.working ≡ 0) × (claimer.1.ended ≡ self.1.workers) }
         ensures { (x : ℕ) → times x claimer.1.claimed ≡ once_below x self.1.pieces }
     {

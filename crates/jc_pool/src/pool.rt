@@ -7,7 +7,7 @@ ghost use Rattle.jc_pool.specs.Views.{fresh_claims};
 ghost use Rattle.jc_pool.specs.Teams.{CanBegin, CanBeginHalves, HasEnded, HaveEnded};
 
 use crate::counter::{Claimer, Counter};
-use crate::view::Plan;
+use crate::view::JobPlan;
 use crate::work::{Work, WorkWith};
 use std::alloc::{AllocError, Global};
 use std::thread::{Threads, join_mut};
@@ -60,7 +60,7 @@ pub fn run_pieces_with<T: Send, W: WorkWith<T> + Send, R: Threads + Sync>(
     ensures len { (length workers.new ≡ length workers.old) × (length tools.new ≡ length tools.old) }
     ensures err { OnErr result ((workers.new ≡ workers.old) × (tools.new ≡ tools.old)) }
 {
-    let plan = Plan {
+    let plan = JobPlan {
         pieces,
         workers: workers.len(),
     };
@@ -93,12 +93,12 @@ fn work_side_by_side<T: Send, W: WorkWith<T> + Send, R: Threads + Sync>(
     let half = workers.len() / 2;
     let (first, rest) = workers.split_at_mut(workers.len() - half);
     let (first_tools, rest_tools) = tools.split_at_mut(tools.len() - half);
-    let desk = Desk { rt, counter };
-    work_in_halves(desk, claimer, first, first_tools, rest, rest_tools);
+    let context = WorkerContext { rt, counter };
+    work_in_halves(context, claimer, first, first_tools, rest, rest_tools);
 }
 
 /// The data that all workers share.
-struct Desk<'a, R> {
+struct WorkerContext<'a, R> {
     /// The runtime, which starts threads.
     rt: &'a R,
     /// The counter that they claim from.
@@ -111,18 +111,18 @@ struct Desk<'a, R> {
 /// Conditions: as for all of them together; the second half is half of them, rounded down, and there are as many tools for each.
 #[cycle(halves)]
 fn work_in_halves<T: Send, W: WorkWith<T> + Send, R: Threads + Sync>(
-    desk: Desk<'_, R>,
+    context: WorkerContext<'_, R>,
     claimer: &mut Claimer,
     first: &mut [W],
     first_tools: &mut [T],
     rest: &mut [W],
     rest_tools: &mut [T],
 )
-    requires { CanBeginHalves W.can_do desk.counter.now claimer.old first.old first_tools.old rest.old rest_tools.old }
-    ensures { HaveEnded W.did W.job W.can_do W.does desk.entry.counter.now claimer.new
+    requires { CanBeginHalves W.can_do context.counter.now claimer.old first.old first_tools.old rest.old rest_tools.old }
+    ensures { HaveEnded W.did W.job W.can_do W.does context.entry.counter.now claimer.new
         (first.old ++ rest.old) (first_tools.old ++ rest_tools.old) (first.new ++ rest.new) (first_tools.new ++ rest_tools.new) }
 {
-    let Desk { rt, counter } = desk;
+    let WorkerContext { rt, counter } = context;
     let mut other = counter.split(claimer);
     let mut here = ||
         requires { IsSync R.row × IsSend W.row × IsSend T.row × CanBegin W.can_do counter.now claimer.now first.now first_tools.now }

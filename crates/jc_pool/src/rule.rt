@@ -1,11 +1,11 @@
 //! The rule of a counter's table, and its steps. The types are for the proofs alone.
-use crate::view::{Claims, Plan};
+use crate::view::{Claims, JobPlan};
 use atomic_table::{Join, Play, Split, TableRule};
 
 /// The rule.
-pub(crate) struct Rule;
+pub(crate) struct CounterRule;
 
-impl TableRule<(), Claims, Plan> for Rule {
+impl TableRule<(), Claims, JobPlan> for CounterRule {
     ghost use Rattle.jc_pool.specs.Rule.{CountsClaims};
     ghost use Rattle.jc_pool.specs.Views.{fresh_claims};
 
@@ -27,17 +27,17 @@ impl Play<(), Claims> for Claim {
 pub(crate) struct Half;
 
 impl Split<Claims> for Half {
-    ghost use Rattle.jc_pool.specs.Views.{after_split, split_off};
+    ghost use Rattle.jc_pool.specs.Views.{claims_after_split, split_off};
 
-    ghost left = { after_split };
+    ghost left = { claims_after_split };
 
     ghost right = { split_off };
 }
 
 impl Join<Claims> for Half {
-    ghost use Rattle.jc_pool.specs.Views.{after_join, spent_claims};
+    ghost use Rattle.jc_pool.specs.Views.{claims_after_join, spent_claims};
 
-    ghost both = { after_join };
+    ghost both = { claims_after_join };
 
     ghost spent = { spent_claims };
 }

@@ -3,7 +3,7 @@ use std::collections::LinkedList;
 
 /// The numbers of pieces and of workers of one job.
 #[derive(Drop)]
-pub(crate) struct Plan {
+pub(crate) struct JobPlan {
     /// The number of pieces.
     pub pieces: usize,
     /// The number of workers.
@@ -13,7 +13,7 @@ pub(crate) struct Plan {
 /// The knowledge of a claimer about the pieces. It is data of contracts: no value of it is ever made.
 pub(crate) struct Claims {
     /// The plan of its counter.
-    pub plan: Plan,
+    pub plan: JobPlan,
     /// The pieces that it claimed, in the order of claiming.
     pub claimed: LinkedList<usize>,
     /// The number of its workers that haven't ended.

@@ -17,8 +17,8 @@ use Rattle.jc_mutentry.specs.Done.{ProcessResult}
 use Rattle.jc_stripe.specs.Effects.{HasReport, change_due, process_out}
 use Rattle.jc_stripe.specs.Tickets.{Claim, asks_loader, asks_processor, asks_writer, claim_of, entry_seen, is_loadable}
 use Rattle.jc_stripe.specs.declared.ticket.Reservation.{Reservation}
-use Rattle.jc_rounds.specs.declared.answers.Answers.TheVariants as answers
-use Rattle.jc_rounds.specs.Answers.{AreAnswers, IsReportedOn, IsToBeAnswered, RunState, TakesReport, done_of, key_of, key_run, reports, reservations_of}
+use Rattle.jc_rounds.specs.declared.answers.RoundAnswers.TheVariants as answers
+use Rattle.jc_rounds.specs.Answers.{AreAnswers, IsReportedOn, IsToBeAnswered, RunState, TakesReport, asked_key, done_of, key_run, reports, reservations_of}
 use Rattle.jc_rounds.specs.Rounds.{IsAnswer, LoadAll, ProcessAll, ProcessRound, Round, WriteAll}
 use Rattle.jc_rounds.proofs.Underway.{last_first}
 
@@ -27,9 +27,9 @@ use Rattle.jc_rounds.proofs.Underway.{last_first}
 pub loads_next : (config : Config) (round : Round) (before after : Vec (LoadResult Claim)) (d : LoadResult Claim) (r : Reservation) (rest : List Reservation) → before.items ≡ after.items ++ d ∷ [] → AreAnswers config round (answers.Loads before) (r ∷ rest)
     → ((asks_loader r.first ≡ true) × (d.ask ≡ claim_of r) × (d.origin ≡ Live)) × AreAnswers config round (answers.Loads after) rest × IsAnswer config round r.key r.first (load_only d.answer)
 loads_next config (LoadAll q) before after d r rest is are =
-    let all : d ∷ reverse after.items ≡ record { ask = claim_of r; origin = Live; answer = q.said r.key } ∷ loads_done key_of q.said (map claim_of rest) = sym (last_first before.items after.items d is) ∙ are.0 in
+    let all : d ∷ reverse after.items ≡ record { ask = claim_of r; origin = Live; answer = q.said r.key } ∷ loads_done asked_key q.said (map claim_of rest) = sym (last_first before.items after.items d is) ∙ are.0 in
     let here : d ≡ record { ask = claim_of r; origin = Live; answer = q.said r.key } = cc in
-    let later : reverse after.items ≡ loads_done key_of q.said (map claim_of rest) = cc in (
+    let later : reverse after.items ≡ loads_done asked_key q.said (map claim_of rest) = cc in (
       (are.1.0.0, ap (λ (x : LoadResult Claim). x.ask) here, ap (λ (x : LoadResult Claim). x.origin) here),
       (later, are.1.1),
       (are.1.0.0, ap (λ (x : LoadResult Claim). load_only x.answer) here),
@@ -40,9 +40,9 @@ loads_next config (ProcessAll q) before after d r rest is are = absurd are
 pub writes_next : (config : Config) (round : Round) (before after : Vec (WriteResult Claim)) (d : WriteResult Claim) (r : Reservation) (rest : List Reservation) → before.items ≡ after.items ++ d ∷ [] → AreAnswers config round (answers.Writes before) (r ∷ rest)
     → ((asks_writer r.first ≡ true) × (d.ask ≡ claim_of r) × (d.origin ≡ Live)) × AreAnswers config round (answers.Writes after) rest × IsAnswer config round r.key r.first (write_only d.answer)
 writes_next config (WriteAll q) before after d r rest is are =
-    let all : d ∷ reverse after.items ≡ record { ask = claim_of r; origin = Live; answer = q.said r.key } ∷ writes_done key_of q.said (map claim_of rest) = sym (last_first before.items after.items d is) ∙ are.0 in
+    let all : d ∷ reverse after.items ≡ record { ask = claim_of r; origin = Live; answer = q.said r.key } ∷ writes_done asked_key q.said (map claim_of rest) = sym (last_first before.items after.items d is) ∙ are.0 in
     let here : d ≡ record { ask = claim_of r; origin = Live; answer = q.said r.key } = cc in
-    let later : reverse after.items ≡ writes_done key_of q.said (map claim_of rest) = cc in (
+    let later : reverse after.items ≡ writes_done asked_key q.said (map claim_of rest) = cc in (
       (are.1.0.0, ap (λ (x : WriteResult Claim). x.ask) here, ap (λ (x : WriteResult Claim). x.origin) here),
       (later, are.1.1),
       (are.1.0.0, ap (λ (x : WriteResult Claim). write_only x.answer) here),

@@ -30,15 +30,15 @@ use Rattle.jc_session.specs.declared.agent.Agent.{Agent}
 use Rattle.jc_engine.specs.Asking.{KeepsTypes}
 use Rattle.jc_cache.specs.Caches.{CacheState}
 use Rattle.jc_session.specs.declared.session.Session.{Session}
-use Rattle.jc_rounds.specs.declared.progress.Progress.{Progress}
-use Rattle.jc_rounds.specs.declared.progress.Progress.TheVariants.{Ended}
+use Rattle.jc_rounds.specs.declared.progress.KeyProgress.{KeyProgress}
+use Rattle.jc_rounds.specs.declared.progress.KeyProgress.TheVariants.{Ended}
 use Rattle.jc_rounds.specs.Keys.{IsTicketFor}
 use Rattle.jc_rounds.proofs.SeatPhases.{Seated}
 use Rattle.jc_rounds.proofs.SoFar.{or_parts}
 use Rattle.jc_outside.proofs.CallerLemmas.{at_place}
-use Rattle.jc_rounds.specs.declared.progress.Progress.TheVariants.{Waiting, Reserved, Joined}
-use Rattle.jc_rounds.specs.Asking.{AsksFor, HasAsked, IsInOrder, reserved_keys}
-use Rattle.jc_rounds.specs.KeyProgress.{is_held_back, is_reserved}
+use Rattle.jc_rounds.specs.declared.progress.KeyProgress.TheVariants.{Waiting, Reserved, Joined}
+use Rattle.jc_rounds.specs.Asking.{AsksFor, HasAskedSoFar, IsInOrder, reserved_keys}
+use Rattle.jc_rounds.specs.KeyProgress.{holds_reservation, is_held_back}
 use Rattle.jc_rounds.specs.Rounds.{Round, asked_in, keys_asked}
 use Rattle.jc_rounds.specs.SoFar.{AreIn, IsSoFar, IsUnderway}
 use Rattle.jc_rounds.proofs.Out.{is_no}
@@ -65,7 +65,7 @@ pub all_mapped : {X Y : Type 0} (f : X → Y) (P : Y → Type 0) (xs : List X) �
 all_mapped f P [] all = All-nil P
 all_mapped f P (x ∷ xs) all = All-cons P (f x) (map f xs) all.0 (all_mapped f P xs all.1)
 
-pub some_there : (ts : List (Bytes × Op)) (ps : List Progress) (place : ℕ) (t : Bytes × Op) → length ps ≡ length ts → slice_get ts place ≡ Some t → (p : Progress) × (slice_get ps place ≡ Some p)
+pub some_there : (ts : List (Bytes × Op)) (ps : List KeyProgress) (place : ℕ) (t : Bytes × Op) → length ps ≡ length ts → slice_get ts place ≡ Some t → (p : KeyProgress) × (slice_get ps place ≡ Some p)
 some_there [] ps place t many at = cc
 some_there (u ∷ ts) [] place t many at = absurd (omega arith)
 some_there (u ∷ ts) (p ∷ ps) zero t many at = (p, refl)
@@ -108,7 +108,7 @@ apart_all key (y ∷ ys) none = let parts = or_parts (pointwise ◌==◌ key y) 
 
 -- 3. The keys that are reserved.
 
-pub in_head : {X : Type 0} (has : Progress → Bool) (fits : Bytes → Op → X → Type 0) (ts : List (Bytes × Op)) (ps : List Progress) (x : X) (xs : List X) → AreIn has fits ts ps (x ∷ xs)
+pub in_head : {X : Type 0} (has : KeyProgress → Bool) (fits : Bytes → Op → X → Type 0) (ts : List (Bytes × Op)) (ps : List KeyProgress) (x : X) (xs : List X) → AreIn has fits ts ps (x ∷ xs)
     → (place : ℕ) × (key : Bytes) × (op : Op) × (slice_get ts place ≡ Some (key, op)) × fits key op x
 in_head has fits [] ps x xs are = cc
 in_head has fits (t ∷ ts) [] x xs are = cc
@@ -119,52 +119,52 @@ in_head {X} has fits (t ∷ ts) (p ∷ ps) x xs are = by (has p) are (λ later. 
     by true here rest = (zero, t.0, t.1, refl, here.0)
     by false later rest = let found = rest later in (suc found.0, found.1, found.2, found.3, found.4)
 
-pub none_of : (caller : Caller) (config : Config) (key : Bytes) (ts : List (Bytes × Op)) (ps : List Progress) (xs : List Reservation) → AllByRecursion (λ k. pointwise ◌==◌ key k ≡ false) (keys_of ts) → AreIn is_reserved (IsTicketFor caller config) ts ps xs
+pub none_of : (caller : Caller) (config : Config) (key : Bytes) (ts : List (Bytes × Op)) (ps : List KeyProgress) (xs : List Reservation) → AllByRecursion (λ k. pointwise ◌==◌ key k ≡ false) (keys_of ts) → AreIn holds_reservation (IsTicketFor caller config) ts ps xs
     → is_among (reserved_keys xs) key ≡ false
 none_of caller config key [] ps xs apart are = ap (λ ys. is_among (reserved_keys ys) key) are
 none_of caller config key (t ∷ ts) [] xs apart are = ap (λ ys. is_among (reserved_keys ys) key) are
 none_of caller config key (t ∷ ts) (p ∷ ps) [] apart are = refl
-none_of caller config key (t ∷ ts) (p ∷ ps) (x ∷ xs) apart are = by (is_reserved p) are (λ rest. none_of caller config key ts ps xs apart.1 rest) (λ rest. none_of caller config key ts ps (x ∷ xs) apart.1 rest)
+none_of caller config key (t ∷ ts) (p ∷ ps) (x ∷ xs) apart are = by (holds_reservation p) are (λ rest. none_of caller config key ts ps xs apart.1 rest) (λ rest. none_of caller config key ts ps (x ∷ xs) apart.1 rest)
   where
-    by : (b : Bool) → MatchBool b (IsTicketFor caller config t.0 t.1 x × AreIn is_reserved (IsTicketFor caller config) ts ps xs) (AreIn is_reserved (IsTicketFor caller config) ts ps (x ∷ xs))
-        → (AreIn is_reserved (IsTicketFor caller config) ts ps xs → is_among (reserved_keys xs) key ≡ false) → (AreIn is_reserved (IsTicketFor caller config) ts ps (x ∷ xs) → is_among (reserved_keys (x ∷ xs)) key ≡ false)
+    by : (b : Bool) → MatchBool b (IsTicketFor caller config t.0 t.1 x × AreIn holds_reservation (IsTicketFor caller config) ts ps xs) (AreIn holds_reservation (IsTicketFor caller config) ts ps (x ∷ xs))
+        → (AreIn holds_reservation (IsTicketFor caller config) ts ps xs → is_among (reserved_keys xs) key ≡ false) → (AreIn holds_reservation (IsTicketFor caller config) ts ps (x ∷ xs) → is_among (reserved_keys (x ∷ xs)) key ≡ false)
         → is_among (reserved_keys (x ∷ xs)) key ≡ false
     by true here f h = (λ i. (ap (pointwise ◌==◌ key) here.0.key_is ∙ apart.0) i || f here.1 i)
     by false later f h = h later
 
-pub new_key : (caller : Caller) (config : Config) (ts : List (Bytes × Op)) (ps : List Progress) (xs : List Reservation) (place : ℕ) (key : Bytes) (op : Op) (q : Progress) → IsDistinct (pointwise ◌==◌) (keys_of ts) → slice_get ts place ≡ Some (key, op) → slice_get ps place ≡ Some q → is_reserved q ≡ false
-    → AreIn is_reserved (IsTicketFor caller config) ts ps xs → is_among (reserved_keys xs) key ≡ false
+pub new_key : (caller : Caller) (config : Config) (ts : List (Bytes × Op)) (ps : List KeyProgress) (xs : List Reservation) (place : ℕ) (key : Bytes) (op : Op) (q : KeyProgress) → IsDistinct (pointwise ◌==◌) (keys_of ts) → slice_get ts place ≡ Some (key, op) → slice_get ps place ≡ Some q → holds_reservation q ≡ false
+    → AreIn holds_reservation (IsTicketFor caller config) ts ps xs → is_among (reserved_keys xs) key ≡ false
 new_key caller config [] ps xs place key op q d at there isnt are = cc
 new_key caller config (t ∷ ts) [] xs place key op q d at there isnt are = cc
 new_key caller config (t ∷ ts) (p ∷ ps) [] place key op q d at there isnt are = refl
 new_key caller config (t ∷ ts) (p ∷ ps) (x ∷ xs) zero key op q d at there isnt are =
-    let later = is_no (is_reserved p) _ _ (ap is_reserved (same_Some p q there) ∙ isnt) are in
+    let later = is_no (holds_reservation p) _ _ (ap holds_reservation (same_Some p q there) ∙ isnt) are in
     let apart = IsDistinct-head (pointwise ◌==◌) t.0 (keys_of ts) d in
     subst (λ k. is_among (reserved_keys (x ∷ xs)) k ≡ false) (ap (λ (u : Bytes × Op). u.0) (same_Some t (key, op) at)) (none_of caller config t.0 ts ps (x ∷ xs) apart later)
 new_key caller config (t ∷ ts) (p ∷ ps) (x ∷ xs) (suc place) key op q d at there isnt are =
-    by (is_reserved p) are (λ rest. new_key caller config ts ps xs place key op q (IsDistinct-tail (pointwise ◌==◌) t.0 (keys_of ts) d) at there isnt rest)
+    by (holds_reservation p) are (λ rest. new_key caller config ts ps xs place key op q (IsDistinct-tail (pointwise ◌==◌) t.0 (keys_of ts) d) at there isnt rest)
     (λ rest. new_key caller config ts ps (x ∷ xs) place key op q (IsDistinct-tail (pointwise ◌==◌) t.0 (keys_of ts) d) at there isnt rest)
   where
     apart : pointwise ◌==◌ t.0 key ≡ false
     apart = at_place (λ k. pointwise ◌==◌ t.0 k ≡ false) (keys_of ts) place key (IsDistinct-head (pointwise ◌==◌) t.0 (keys_of ts) d) (key_at ts place key op at)
 
-    by : (b : Bool) → MatchBool b (IsTicketFor caller config t.0 t.1 x × AreIn is_reserved (IsTicketFor caller config) ts ps xs) (AreIn is_reserved (IsTicketFor caller config) ts ps (x ∷ xs))
-        → (AreIn is_reserved (IsTicketFor caller config) ts ps xs → is_among (reserved_keys xs) key ≡ false) → (AreIn is_reserved (IsTicketFor caller config) ts ps (x ∷ xs) → is_among (reserved_keys (x ∷ xs)) key ≡ false)
+    by : (b : Bool) → MatchBool b (IsTicketFor caller config t.0 t.1 x × AreIn holds_reservation (IsTicketFor caller config) ts ps xs) (AreIn holds_reservation (IsTicketFor caller config) ts ps (x ∷ xs))
+        → (AreIn holds_reservation (IsTicketFor caller config) ts ps xs → is_among (reserved_keys xs) key ≡ false) → (AreIn holds_reservation (IsTicketFor caller config) ts ps (x ∷ xs) → is_among (reserved_keys (x ∷ xs)) key ≡ false)
         → is_among (reserved_keys (x ∷ xs)) key ≡ false
     by true here f h = (λ i. (ap (pointwise ◌==◌ key) here.0.key_is ∙ nat_list_eq_equiv.symm key t.0 ∙ apart) i || f here.1 i)
     by false later f h = h later
 
-pub distinct_reserved : (caller : Caller) (config : Config) (ts : List (Bytes × Op)) (ps : List Progress) (xs : List Reservation) → IsDistinct (pointwise ◌==◌) (keys_of ts) → AreIn is_reserved (IsTicketFor caller config) ts ps xs
+pub distinct_reserved : (caller : Caller) (config : Config) (ts : List (Bytes × Op)) (ps : List KeyProgress) (xs : List Reservation) → IsDistinct (pointwise ◌==◌) (keys_of ts) → AreIn holds_reservation (IsTicketFor caller config) ts ps xs
     → IsDistinct (pointwise ◌==◌) (reserved_keys xs)
 distinct_reserved caller config [] ps xs d are = subst (λ ys. IsDistinct (pointwise ◌==◌) (reserved_keys ys)) (sym are) none_twice
 distinct_reserved caller config (t ∷ ts) [] xs d are = subst (λ ys. IsDistinct (pointwise ◌==◌) (reserved_keys ys)) (sym are) none_twice
 distinct_reserved caller config (t ∷ ts) (p ∷ ps) [] d are = none_twice
 distinct_reserved caller config (t ∷ ts) (p ∷ ps) (x ∷ xs) d are =
-    by (is_reserved p) are (λ rest. distinct_reserved caller config ts ps xs (IsDistinct-tail (pointwise ◌==◌) t.0 (keys_of ts) d) rest)
+    by (holds_reservation p) are (λ rest. distinct_reserved caller config ts ps xs (IsDistinct-tail (pointwise ◌==◌) t.0 (keys_of ts) d) rest)
     (λ rest. distinct_reserved caller config ts ps (x ∷ xs) (IsDistinct-tail (pointwise ◌==◌) t.0 (keys_of ts) d) rest)
   where
-    by : (b : Bool) → MatchBool b (IsTicketFor caller config t.0 t.1 x × AreIn is_reserved (IsTicketFor caller config) ts ps xs) (AreIn is_reserved (IsTicketFor caller config) ts ps (x ∷ xs))
-        → (AreIn is_reserved (IsTicketFor caller config) ts ps xs → IsDistinct (pointwise ◌==◌) (reserved_keys xs)) → (AreIn is_reserved (IsTicketFor caller config) ts ps (x ∷ xs) → IsDistinct (pointwise ◌==◌) (reserved_keys (x ∷ xs)))
+    by : (b : Bool) → MatchBool b (IsTicketFor caller config t.0 t.1 x × AreIn holds_reservation (IsTicketFor caller config) ts ps xs) (AreIn holds_reservation (IsTicketFor caller config) ts ps (x ∷ xs))
+        → (AreIn holds_reservation (IsTicketFor caller config) ts ps xs → IsDistinct (pointwise ◌==◌) (reserved_keys xs)) → (AreIn holds_reservation (IsTicketFor caller config) ts ps (x ∷ xs) → IsDistinct (pointwise ◌==◌) (reserved_keys (x ∷ xs)))
         → IsDistinct (pointwise ◌==◌) (reserved_keys (x ∷ xs))
     by true here f h =
         IsDistinct-cons (pointwise ◌==◌) x.key (reserved_keys xs)
@@ -172,10 +172,10 @@ distinct_reserved caller config (t ∷ ts) (p ∷ ps) (x ∷ xs) d are =
         (f here.1)
     by false later f h = h later
 
-abbrev pub IsOutAt : {X : Type 0} → (Progress → Bool) → (Bytes → Op → X → Type 0) → List (Bytes × Op) → List Progress → X → Type 0
-IsOutAt has fits ts ps x = (place : ℕ) × (key : Bytes) × (op : Op) × (p : Progress) × (slice_get ts place ≡ Some (key, op)) × (slice_get ps place ≡ Some p) × (has p ≡ true) × fits key op x
+abbrev pub IsOutAt : {X : Type 0} → (KeyProgress → Bool) → (Bytes → Op → X → Type 0) → List (Bytes × Op) → List KeyProgress → X → Type 0
+IsOutAt has fits ts ps x = (place : ℕ) × (key : Bytes) × (op : Op) × (p : KeyProgress) × (slice_get ts place ≡ Some (key, op)) × (slice_get ps place ≡ Some p) × (has p ≡ true) × fits key op x
 
-pub all_out : {X : Type 0} (has : Progress → Bool) (fits : Bytes → Op → X → Type 0) (ts : List (Bytes × Op)) (ps : List Progress) (xs : List X) → AreIn has fits ts ps xs → AllByRecursion (IsOutAt has fits ts ps) xs
+pub all_out : {X : Type 0} (has : KeyProgress → Bool) (fits : Bytes → Op → X → Type 0) (ts : List (Bytes × Op)) (ps : List KeyProgress) (xs : List X) → AreIn has fits ts ps xs → AllByRecursion (IsOutAt has fits ts ps) xs
 all_out has fits [] ps xs are = subst (AllByRecursion (IsOutAt has fits [] ps)) (sym are) tt
 all_out has fits (t ∷ ts) [] xs are = subst (AllByRecursion (IsOutAt has fits (t ∷ ts) [])) (sym are) tt
 all_out has fits (t ∷ ts) (p ∷ ps) [] are = tt
@@ -202,13 +202,13 @@ none_in_order : (ts : List Bytes) → [] ≡ filter (is_among []) ts
 none_in_order [] = refl
 none_in_order (t ∷ ts) = none_in_order ts
 
-pub in_order : (caller : Caller) (config : Config) (ts : List (Bytes × Op)) (ps : List Progress) (xs : List Reservation) → IsDistinct (pointwise ◌==◌) (keys_of ts) → AreIn is_reserved (IsTicketFor caller config) ts ps xs
+pub in_order : (caller : Caller) (config : Config) (ts : List (Bytes × Op)) (ps : List KeyProgress) (xs : List Reservation) → IsDistinct (pointwise ◌==◌) (keys_of ts) → AreIn holds_reservation (IsTicketFor caller config) ts ps xs
     → reserved_keys xs ≡ filter (is_among (reserved_keys xs)) (keys_of ts)
 in_order caller config [] ps xs d are = ap reserved_keys are
 in_order caller config (t ∷ ts) [] xs d are = subst (λ ys. reserved_keys ys ≡ filter (is_among (reserved_keys ys)) (keys_of (t ∷ ts))) (sym are) (none_in_order (keys_of (t ∷ ts)))
 in_order caller config (t ∷ ts) (p ∷ ps) [] d are = none_in_order (keys_of (t ∷ ts))
 in_order caller config (t ∷ ts) (p ∷ ps) (x ∷ xs) d are =
-    by (is_reserved p) are (λ rest. in_order caller config ts ps xs (IsDistinct-tail (pointwise ◌==◌) t.0 (keys_of ts) d) rest)
+    by (holds_reservation p) are (λ rest. in_order caller config ts ps xs (IsDistinct-tail (pointwise ◌==◌) t.0 (keys_of ts) d) rest)
     (λ rest. in_order caller config ts ps (x ∷ xs) (IsDistinct-tail (pointwise ◌==◌) t.0 (keys_of ts) d) rest)
   where
     apart : AllByRecursion (λ k. pointwise ◌==◌ t.0 k ≡ false) (keys_of ts)
@@ -219,9 +219,9 @@ in_order caller config (t ∷ ts) (p ∷ ps) (x ∷ xs) d are =
         ap (λ zs. t.0 ∷ zs) (is ∙ sym (skip_key t.0 ks (keys_of ts) apart))
         ∙ sym (λ i. cond (nat_list_eq_equiv.refl t.0 i || is_among ks t.0) (t.0 ∷ filter (is_among (t.0 ∷ ks)) (keys_of ts)) (filter (is_among (t.0 ∷ ks)) (keys_of ts)))
 
-    by : (b : Bool) → MatchBool b (IsTicketFor caller config t.0 t.1 x × AreIn is_reserved (IsTicketFor caller config) ts ps xs) (AreIn is_reserved (IsTicketFor caller config) ts ps (x ∷ xs))
-        → (AreIn is_reserved (IsTicketFor caller config) ts ps xs → reserved_keys xs ≡ filter (is_among (reserved_keys xs)) (keys_of ts))
-        → (AreIn is_reserved (IsTicketFor caller config) ts ps (x ∷ xs) → reserved_keys (x ∷ xs) ≡ filter (is_among (reserved_keys (x ∷ xs))) (keys_of ts))
+    by : (b : Bool) → MatchBool b (IsTicketFor caller config t.0 t.1 x × AreIn holds_reservation (IsTicketFor caller config) ts ps xs) (AreIn holds_reservation (IsTicketFor caller config) ts ps (x ∷ xs))
+        → (AreIn holds_reservation (IsTicketFor caller config) ts ps xs → reserved_keys xs ≡ filter (is_among (reserved_keys xs)) (keys_of ts))
+        → (AreIn holds_reservation (IsTicketFor caller config) ts ps (x ∷ xs) → reserved_keys (x ∷ xs) ≡ filter (is_among (reserved_keys (x ∷ xs))) (keys_of ts))
         → reserved_keys (x ∷ xs) ≡ filter (is_among (reserved_keys (x ∷ xs))) (keys_of (t ∷ ts))
     by true here f h = subst (λ k. k ∷ reserved_keys xs ≡ filter (is_among (k ∷ reserved_keys xs)) (keys_of (t ∷ ts))) (sym here.0.key_is) (here_first (reserved_keys xs) (f here.1))
     by false later f h =
@@ -230,20 +230,20 @@ in_order caller config (t ∷ ts) (p ∷ ps) (x ∷ xs) d are =
 
 -- 4. What was asked for.
 
-pub none_asked : (config : Config) (targets : List (Bytes × Op)) (ps : List Progress) → HasAsked config targets [] ps
+pub none_asked : (config : Config) (targets : List (Bytes × Op)) (ps : List KeyProgress) → HasAskedSoFar config targets [] ps
 none_asked config targets ps = record {
   asked = record { each = All-nil (AsksFor config targets); some = All-nil (λ (r : Round). keys_asked r ≡ [] → ⊥); once = none_twice; ordered = All-nil (IsInOrder targets) };
   over = λ place key op at among. absurd (true≢false (sym among));
 }
 
-set_other : (ps : List Progress) (i j : ℕ) (p r : Progress) → (j ≡ i → ⊥) → slice_get ps j ≡ Some r → slice_get (set ps i p) j ≡ Some r
+set_other : (ps : List KeyProgress) (i j : ℕ) (p r : KeyProgress) → (j ≡ i → ⊥) → slice_get ps j ≡ Some r → slice_get (set ps i p) j ≡ Some r
 set_other [] i j p r other at = at
 set_other (x ∷ ps) zero zero p r other at = absurd (other refl)
 set_other (x ∷ ps) zero (suc j) p r other at = at
 set_other (x ∷ ps) (suc i) zero p r other at = at
 set_other (x ∷ ps) (suc i) (suc j) p r other at = set_other ps i j p r (λ is. other (ap suc is)) at
 
-set_here : (ps : List Progress) (i : ℕ) (p q : Progress) → slice_get ps i ≡ Some q → slice_get (set ps i p) i ≡ Some p
+set_here : (ps : List KeyProgress) (i : ℕ) (p q : KeyProgress) → slice_get ps i ≡ Some q → slice_get (set ps i p) i ≡ Some p
 set_here [] i p q at = cc
 set_here (x ∷ ps) zero p q at = refl
 set_here (x ∷ ps) (suc i) p q at = set_here ps i p q at
@@ -255,21 +255,21 @@ same_or (suc i) zero = inr (λ is. cc)
 same_or (suc i) (suc j) = ⊎_elim (λ is. inl (ap suc is)) (λ isnt. inr (λ is. isnt (omega arith))) (same_or i j)
 
 -- a key that was held back, or for which nobody was asked
-pub unasked_at : (config : Config) (targets : List (Bytes × Op)) (rounds : List Round) (ps : List Progress) (place : ℕ) (key : Bytes) (op : Op) (q : Progress) → slice_get targets place ≡ Some (key, op) → slice_get ps place ≡ Some q → is_held_back q ≡ true
-    → HasAsked config targets rounds ps → is_among (asked_in rounds) key ≡ false
+pub unasked_at : (config : Config) (targets : List (Bytes × Op)) (rounds : List Round) (ps : List KeyProgress) (place : ℕ) (key : Bytes) (op : Op) (q : KeyProgress) → slice_get targets place ≡ Some (key, op) → slice_get ps place ≡ Some q → is_held_back q ≡ true
+    → HasAskedSoFar config targets rounds ps → is_among (asked_in rounds) key ≡ false
 unasked_at config targets rounds ps place key op q at there held a =
     ⊎_elim (λ is. absurd (let p = a.over place key op at is in true≢false (sym held ∙ ap is_held_back (same_Some q p.0 (sym there ∙ p.1)) ∙ p.2))) (λ isnt. isnt) (by_cases (is_among (asked_in rounds) key))
 
 -- the key at a place goes on
-pub asked_set : (config : Config) (targets : List (Bytes × Op)) (rounds : List Round) (ps : List Progress) (place : ℕ) (key : Bytes) (op : Op) (q p : Progress) → slice_get targets place ≡ Some (key, op) → slice_get ps place ≡ Some q
-    → (is_among (asked_in rounds) key ≡ false) ⊎ (is_held_back p ≡ false) → HasAsked config targets rounds ps → HasAsked config targets rounds (set ps place p)
+pub asked_set : (config : Config) (targets : List (Bytes × Op)) (rounds : List Round) (ps : List KeyProgress) (place : ℕ) (key : Bytes) (op : Op) (q p : KeyProgress) → slice_get targets place ≡ Some (key, op) → slice_get ps place ≡ Some q
+    → (is_among (asked_in rounds) key ≡ false) ⊎ (is_held_back p ≡ false) → HasAskedSoFar config targets rounds ps → HasAskedSoFar config targets rounds (set ps place p)
 asked_set config targets rounds ps place key op q p at there either a = record {
   asked = a.asked;
   over = λ j k o is among. by j k o is among (same_or place j) either;
 }
   where
     by : (j : ℕ) (k : Bytes) (o : Op) → slice_get targets j ≡ Some (k, o) → is_among (asked_in rounds) k ≡ true → (j ≡ place) ⊎ (j ≡ place → ⊥) → (is_among (asked_in rounds) key ≡ false) ⊎ (is_held_back p ≡ false)
-        → (r : Progress) × (slice_get (set ps place p) j ≡ Some r) × (is_held_back r ≡ false)
+        → (r : KeyProgress) × (slice_get (set ps place p) j ≡ Some r) × (is_held_back r ≡ false)
     by j k o is among (inl same) (inl none) =
         let key_is : k ≡ key = ap (λ (t : Bytes × Op). t.0) (same_Some (k, o) (key, op) (sym is ∙ ap (slice_get targets) same ∙ at)) in
         absurd (true≢false (sym among ∙ ap (is_among (asked_in rounds)) key_is ∙ none))
@@ -277,15 +277,15 @@ asked_set config targets rounds ps place key op q p at there either a = record {
     by j k o is among (inr other) either = let r = a.over j k o is among in (r.0, set_other ps place j p r.0 other r.1, r.2)
 
 -- one round more
-reserved_here : (q : Progress) → is_reserved q ≡ true → is_held_back q ≡ false
+reserved_here : (q : KeyProgress) → holds_reservation q ≡ true → is_held_back q ≡ false
 reserved_here Waiting is = cc
 reserved_here Reserved is = refl
 reserved_here Joined is = cc
 reserved_here (Ended e) is = cc
 
-pub asked_more : (caller : Caller) (config : Config) (targets : List (Bytes × Op)) (rounds : List Round) (round : Round) (ps : List Progress) (calls : List Reservation) → IsDistinct (pointwise ◌==◌) (keys_of targets) → length ps ≡ length targets
-    → AreIn is_reserved (IsTicketFor caller config) targets ps calls → (calls ≡ [] → ⊥) → AllByRecursion (λ (r : Reservation). is_among (asked_in rounds) r.key ≡ false) calls → keys_asked round ≡ reserved_keys calls → AsksFor config targets round
-    → HasAsked config targets rounds ps → HasAsked config targets (rounds ++ round ∷ []) ps
+pub asked_more : (caller : Caller) (config : Config) (targets : List (Bytes × Op)) (rounds : List Round) (round : Round) (ps : List KeyProgress) (calls : List Reservation) → IsDistinct (pointwise ◌==◌) (keys_of targets) → length ps ≡ length targets
+    → AreIn holds_reservation (IsTicketFor caller config) targets ps calls → (calls ≡ [] → ⊥) → AllByRecursion (λ (r : Reservation). is_among (asked_in rounds) r.key ≡ false) calls → keys_asked round ≡ reserved_keys calls → AsksFor config targets round
+    → HasAskedSoFar config targets rounds ps → HasAskedSoFar config targets (rounds ++ round ∷ []) ps
 asked_more caller config targets rounds round ps calls d many are some new keys for a = record {
   asked = record {
     each = All-append (AsksFor config targets) rounds (round ∷ []) a.asked.each (All-cons (AsksFor config targets) round [] for (All-nil (AsksFor config targets)));
@@ -298,7 +298,7 @@ asked_more caller config targets rounds round ps calls d many are some new keys 
   };
   over = λ place key op at among.
       let p = some_there targets ps place (key, op) many at in
-      by place key op at p.0 p.1 (or_other (is_among (asked_in rounds) key) (is_among (reserved_keys calls) key) (sym (split key) ∙ among)) (by_cases (is_reserved p.0));
+      by place key op at p.0 p.1 (or_other (is_among (asked_in rounds) key) (is_among (reserved_keys calls) key) (sym (split key) ∙ among)) (by_cases (holds_reservation p.0));
 }
   where
     all_keys : asked_in (rounds ++ round ∷ []) ≡ asked_in rounds ++ reserved_keys calls
@@ -307,14 +307,14 @@ asked_more caller config targets rounds round ps calls d many are some new keys 
     split : (key : Bytes) → is_among (asked_in (rounds ++ round ∷ [])) key ≡ (is_among (asked_in rounds) key || is_among (reserved_keys calls) key)
     split key = ap (λ ks. is_among ks key) all_keys ∙ list_any-append (pointwise ◌==◌ key) (asked_in rounds) (reserved_keys calls)
 
-    by : (place : ℕ) (key : Bytes) (op : Op) → slice_get targets place ≡ Some (key, op) → (p : Progress) → slice_get ps place ≡ Some p → (is_among (asked_in rounds) key ≡ true) ⊎ (is_among (reserved_keys calls) key ≡ true) → (is_reserved p ≡ true) ⊎ (is_reserved p ≡ false)
-        → (r : Progress) × (slice_get ps place ≡ Some r) × (is_held_back r ≡ false)
+    by : (place : ℕ) (key : Bytes) (op : Op) → slice_get targets place ≡ Some (key, op) → (p : KeyProgress) → slice_get ps place ≡ Some p → (is_among (asked_in rounds) key ≡ true) ⊎ (is_among (reserved_keys calls) key ≡ true) → (holds_reservation p ≡ true) ⊎ (holds_reservation p ≡ false)
+        → (r : KeyProgress) × (slice_get ps place ≡ Some r) × (is_held_back r ≡ false)
     by place key op at p there (inl before) either = a.over place key op at before
     by place key op at p there (inr reserved) (inl is) = (p, there, reserved_here p is)
     by place key op at p there (inr reserved) (inr isnt) = absurd (true≢false (sym reserved ∙ new_key caller config targets ps calls place key op p d at there isnt are))
 
 module _ {I J : Type 0} {D : I → Type 0} {E : J → Type 0} where
-  pub asked_on : (cache : CacheState) (caller : Caller) (targets : List (Bytes × Op)) (rounds : List Round) (round : Round) (first : List Seated) (old new : Session I J D E) (ps : List Progress) (calls : List Reservation) (joins : List JoinClaim)
+  pub asked_on : (cache : CacheState) (caller : Caller) (targets : List (Bytes × Op)) (rounds : List Round) (round : Round) (first : List Seated) (old new : Session I J D E) (ps : List KeyProgress) (calls : List Reservation) (joins : List JoinClaim)
       → IsDistinct (pointwise ◌==◌) (keys_of targets) → keys_asked round ≡ reserved_keys calls
       → IsOf cache new → new ≡ record old { agent = record old.agent { hands = new.agent.hands } } → IsUnderway cache caller targets rounds first old ps calls joins → IsUnderway cache caller targets (rounds ++ round ∷ []) first new ps calls joins
   asked_on cache caller targets rounds round first old new ps calls joins d keys own rest u = record {

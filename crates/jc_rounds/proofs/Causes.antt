@@ -13,15 +13,15 @@ use Rattle.jc_model.specs.declared.event.Op.{Op}
 use Rattle.jc_model.specs.declared.event.Out.{Out}
 use Rattle.jc_model.specs.declared.event.Reply.{Reply}
 use Rattle.jc_model.specs.declared.event.Reply.TheVariants as reply
-use Rattle.jc_rounds.specs.declared.progress.Progress.{Progress}
-use Rattle.jc_rounds.specs.declared.progress.Progress.TheVariants.{Waiting, Reserved, Joined, Ended}
+use Rattle.jc_rounds.specs.declared.progress.KeyProgress.{KeyProgress}
+use Rattle.jc_rounds.specs.declared.progress.KeyProgress.TheVariants.{Waiting, Reserved, Joined, Ended}
 use Rattle.jc_rounds.specs.Causes.{HasFailed, HasMet, HasRefused, IsFirst}
 use Rattle.jc_rounds.specs.KeyProgress.{IsCauseIn, KeepsCause, failures, refusal_in}
-use Rattle.jc_rounds.specs.Keys.{HasEnded, IsAt}
+use Rattle.jc_rounds.specs.Keys.{EndsKey, IsAt}
 use Rattle.jc_rounds.specs.Rounds.{Round, faults_in}
 use Rattle.jc_rounds.specs.Seats.{view_of}
 use Rattle.jc_rounds.specs.SoFar.{IsSoFar}
-use Rattle.jc_rounds.specs.Starting.{RoundEnd, calls_of}
+use Rattle.jc_rounds.specs.Starting.{RoundEnd, rounds_asked}
 use Rattle.jc_rounds.proofs.Asked.{among_there, place_among, some_there}
 use Rattle.jc_rounds.proofs.Failures.{among_after, among_either, ended_there, failed_there}
 use Rattle.jc_rounds.proofs.SeatPhases.{Seated}
@@ -30,7 +30,7 @@ use Rattle.jc_rounds.proofs.SoFar.{among_more}
 same_reply : (caller : Caller) (op op' : Op) (key : Bytes) (out out' : Out) (shared shared' : Option ℕ) (r r' : Reply) → Step caller op key out shared r ∷ [] ≡ Step caller op' key out' shared' r' ∷ [] → r ≡ r'
 same_reply caller op op' key out out' shared shared' r r' is = cc
 
-target_there : (ps : List Progress) (targets : List (Bytes × Op)) (place : ℕ) (p : Progress) → length targets ≡ length ps → slice_get ps place ≡ Some p → (t : Bytes × Op) × (slice_get targets place ≡ Some t)
+target_there : (ps : List KeyProgress) (targets : List (Bytes × Op)) (place : ℕ) (p : KeyProgress) → length targets ≡ length ps → slice_get ps place ≡ Some p → (t : Bytes × Op) × (slice_get targets place ≡ Some t)
 target_there [] targets place p many there = cc
 target_there (q ∷ ps) [] place p many there = cc
 target_there (q ∷ ps) (t ∷ targets) zero p many there = (t, refl)
@@ -38,13 +38,13 @@ target_there (q ∷ ps) (t ∷ targets) (suc place) p many there = target_there 
 
 module _ (config : Config) (caller : Caller) (targets : List (Bytes × Op)) where
   -- a key's fault that the session has seen is a failure
-  failed_so : (rounds : List Round) (first now : List Seated) (ps : List Progress) (fault : Refusal) → IsSoFar config caller config.stripes targets rounds first now ps → HasFailed config caller targets now fault → IsAmong (failures ps) fault
+  failed_so : (rounds : List Round) (first now : List Seated) (ps : List KeyProgress) (fault : Refusal) → IsSoFar config caller config.stripes targets rounds first now ps → HasFailed config caller targets now fault → IsAmong (failures ps) fault
   failed_so rounds first now ps fault so (key, op, out, shared, among, one) =
       let at = place_among targets (key, op) among in
       let p = some_there targets ps at.0 (key, op) so.many at.2 in
       by at.0 p.0 p.1 (so.each at.0 key op p.0 at.2 p.1)
     where
-      by : (place : ℕ) (p : Progress) → slice_get ps place ≡ Some p → IsAt config caller rounds (view_of config.stripes first key) (view_of config.stripes now key) key op p → IsAmong (failures ps) fault
+      by : (place : ℕ) (p : KeyProgress) → slice_get ps place ≡ Some p → IsAt config caller rounds (view_of config.stripes first key) (view_of config.stripes now key) key op p → IsAmong (failures ps) fault
       by place Waiting there none = (let bad = sym one ∙ none in cc)
       by place Reserved there none = (let bad = sym one ∙ none in cc)
       by place Joined there none = (let bad = sym one ∙ none in cc)
@@ -54,7 +54,7 @@ module _ (config : Config) (caller : Caller) (targets : List (Bytes × Op)) wher
           failed_there ps place (Ok r) fault there (ap (λ (x : Reply). refusal_in (Ok x)) same)
 
   -- a failure is a key's fault that the session has seen, or a refusal in which the key has ended
-  so_failed : (rounds : List Round) (first now : List Seated) (ps : List Progress) (fault : Refusal) → IsSoFar config caller config.stripes targets rounds first now ps → IsAmong (failures ps) fault → HasRefused config caller targets first rounds now fault ⊎ HasFailed config caller targets now fault
+  so_failed : (rounds : List Round) (first now : List Seated) (ps : List KeyProgress) (fault : Refusal) → IsSoFar config caller config.stripes targets rounds first now ps → IsAmong (failures ps) fault → HasRefused config caller targets first rounds now fault ⊎ HasFailed config caller targets now fault
   so_failed rounds first now ps fault so among =
       let e = ended_there ps fault among in
       let t = target_at e.0 e.1 e.2 in
@@ -63,11 +63,11 @@ module _ (config : Config) (caller : Caller) (targets : List (Bytes × Op)) wher
       target_at : (place : ℕ) (e : Result Reply Refusal) → slice_get ps place ≡ Some (Ended e) → (key : Bytes) × (op : Op) × (slice_get targets place ≡ Some (key, op))
       target_at place e there = let t = target_there ps targets place (Ended e) (sym so.many) there in (t.0.0, t.0.1, t.1)
 
-      by : (key : Bytes) (op : Op) (e : Result Reply Refusal) → IsAmong targets (key, op) → refusal_in e ≡ Some fault → HasEnded config caller rounds (view_of config.stripes first key) (view_of config.stripes now key) key op e
+      by : (key : Bytes) (op : Op) (e : Result Reply Refusal) → IsAmong targets (key, op) → refusal_in e ≡ Some fault → EndsKey config caller rounds (view_of config.stripes first key) (view_of config.stripes now key) key op e
           → HasRefused config caller targets first rounds now fault ⊎ HasFailed config caller targets now fault
       by key op (Err refusal) there is ended =
           let same : refusal ≡ fault = same_Some refusal fault is in
-          inl (key, op, there, subst (λ r. HasEnded config caller rounds (view_of config.stripes first key) (view_of config.stripes now key) key op (Err r)) same ended)
+          inl (key, op, there, subst (λ r. EndsKey config caller rounds (view_of config.stripes first key) (view_of config.stripes now key) key op (Err r)) same ended)
       by key op (Ok (reply.Fault f)) there is ended =
           let same : f ≡ fault = same_Some f fault is in
           inr (key, op, ended.out, ended.shared_with, there, ended.one ∙ ap (λ x. Step caller op key ended.out ended.shared_with (reply.Fault x) ∷ []) same)
@@ -76,7 +76,7 @@ module _ (config : Config) (caller : Caller) (targets : List (Bytes × Op)) wher
       by key op (Ok reply.Unit) there is ended = cc
 
   -- between two rounds
-  told_now : (rounds : List Round) (first now : List Seated) (ps : List Progress) (cause : Option Refusal) → IsSoFar config caller config.stripes targets rounds first now ps → IsCauseIn cause (failures ps ++ faults_in rounds)
+  told_now : (rounds : List Round) (first now : List Seated) (ps : List KeyProgress) (cause : Option Refusal) → IsSoFar config caller config.stripes targets rounds first now ps → IsCauseIn cause (failures ps ++ faults_in rounds)
       → (fault : Refusal) → HasMet config caller targets rounds now fault → (f : Refusal) × (cause ≡ Some f) × (HasRefused config caller targets first rounds now f ⊎ HasMet config caller targets rounds now f)
   told_now rounds first now ps cause so noted fault met = by cause noted (among met)
     where
@@ -101,7 +101,7 @@ first_kept config caller targets first before (e ∷ es) cause later keeps is = 
     kept (Some c) keeps f is = keeps ∙ is
 
 module _ (config : Config) (caller : Caller) (targets : List (Bytes × Op)) where
-  pub first_more : (before : List Round) (es : List RoundEnd) (e : RoundEnd) (rounds : List Round) (first : List Seated) (ps : List Progress) (cause later : Option Refusal) → (before ++ calls_of es) ++ e.calls ≡ rounds → KeepsCause cause later
+  pub first_more : (before : List Round) (es : List RoundEnd) (e : RoundEnd) (rounds : List Round) (first : List Seated) (ps : List KeyProgress) (cause later : Option Refusal) → (before ++ rounds_asked es) ++ e.calls ≡ rounds → KeepsCause cause later
       → IsSoFar config caller config.stripes targets rounds first e.seats ps → IsCauseIn later (failures ps ++ faults_in rounds) → IsFirst config caller targets first before es cause → IsFirst config caller targets first before (es ++ e ∷ []) later
   first_more before [] e rounds first ps cause later is keeps so noted was = (
     λ fault met.
@@ -112,5 +112,5 @@ module _ (config : Config) (caller : Caller) (targets : List (Bytes × Op)) wher
   )
   first_more before (x ∷ es) e rounds first ps cause later is keeps so noted was = (
     (first_kept config caller targets first before (x ∷ es) cause later keeps was).0,
-    first_more (before ++ x.calls) es e rounds first ps cause later (ap (λ rs. rs ++ e.calls) (append_assoc before x.calls (calls_of es)) ∙ is) keeps so noted was.1,
+    first_more (before ++ x.calls) es e rounds first ps cause later (ap (λ rs. rs ++ e.calls) (append_assoc before x.calls (rounds_asked es)) ∙ is) keeps so noted was.1,
   )

@@ -14,8 +14,8 @@ use Rattle.std.specs.List.{IsAmong, cons_option}
 use Rattle.std.specs.Option.{option_or}
 use Rattle.jc_types.specs.declared.refusal.Refusal.{Refusal}
 use Rattle.jc_model.specs.declared.event.Reply.{Reply}
-use Rattle.jc_rounds.specs.declared.progress.Progress.{Progress}
-use Rattle.jc_rounds.specs.declared.progress.Progress.TheVariants as progress
+use Rattle.jc_rounds.specs.declared.progress.KeyProgress.{KeyProgress}
+use Rattle.jc_rounds.specs.declared.progress.KeyProgress.TheVariants as progress
 use Rattle.jc_rounds.specs.KeyProgress.{IsCauseIn, IsMet, IsNoted, KeepsCause, StayEnded, first_of, failures, failure_at, refusal_in}
 use Rattle.jc_rounds.proofs.SoFar.{among_more}
 
@@ -38,11 +38,11 @@ among_none r h = omega (arith, h.1.0)
 -- 2. What has failed stays so.
 
 -- the place of a key that has failed
-pub ended_there : (ps : List Progress) (r : Refusal) → IsAmong (failures ps) r → (place : ℕ) × (e : Result Reply Refusal) × (slice_get ps place ≡ Some (progress.Ended e)) × (refusal_in e ≡ Some r)
+pub ended_there : (ps : List KeyProgress) (r : Refusal) → IsAmong (failures ps) r → (place : ℕ) × (e : Result Reply Refusal) × (slice_get ps place ≡ Some (progress.Ended e)) × (refusal_in e ≡ Some r)
 ended_there [] r h = absurd (among_none r h)
 ended_there (p ∷ ps) r h = by p (among_cons (failure_at p) (failures ps) r h) (ended_there ps r)
   where
-    by : (p : Progress) → (failure_at p ≡ Some r) ⊎ IsAmong (failures ps) r → (IsAmong (failures ps) r → (place : ℕ) × (e : Result Reply Refusal) × (slice_get ps place ≡ Some (progress.Ended e)) × (refusal_in e ≡ Some r))
+    by : (p : KeyProgress) → (failure_at p ≡ Some r) ⊎ IsAmong (failures ps) r → (IsAmong (failures ps) r → (place : ℕ) × (e : Result Reply Refusal) × (slice_get ps place ≡ Some (progress.Ended e)) × (refusal_in e ≡ Some r))
         → (place : ℕ) × (e : Result Reply Refusal) × (slice_get (p ∷ ps) place ≡ Some (progress.Ended e)) × (refusal_in e ≡ Some r)
     by p (inr later) rest = let found = rest later in (suc found.0, found.1, found.2, found.3)
     by progress.Waiting (inl is) rest = let bad : None ≡ Some r = is in cc
@@ -50,19 +50,19 @@ ended_there (p ∷ ps) r h = by p (among_cons (failure_at p) (failures ps) r h) 
     by progress.Joined (inl is) rest = let bad : None ≡ Some r = is in cc
     by (progress.Ended e) (inl is) rest = (0, e, refl, is)
 
-pub failed_there : (ps : List Progress) (place : ℕ) (e : Result Reply Refusal) (r : Refusal) → slice_get ps place ≡ Some (progress.Ended e) → refusal_in e ≡ Some r → IsAmong (failures ps) r
+pub failed_there : (ps : List KeyProgress) (place : ℕ) (e : Result Reply Refusal) (r : Refusal) → slice_get ps place ≡ Some (progress.Ended e) → refusal_in e ≡ Some r → IsAmong (failures ps) r
 failed_there [] place e r at is = cc
 failed_there (p ∷ ps) zero e r at is = let same : p ≡ progress.Ended e = cc in cons_among (failure_at p) (failures ps) r (inl (ap failure_at same ∙ is))
 failed_there (p ∷ ps) (suc place) e r at is = cons_among (failure_at p) (failures ps) r (inr (failed_there ps place e r at is))
 
-pub failures_stay : (ps later : List Progress) (r : Refusal) → StayEnded ps later → IsAmong (failures ps) r → IsAmong (failures later) r
+pub failures_stay : (ps later : List KeyProgress) (r : Refusal) → StayEnded ps later → IsAmong (failures ps) r → IsAmong (failures later) r
 failures_stay ps later r stay h =
     let found = ended_there ps r h in
     failed_there later found.0 found.1 r (stay.ended found.0 found.1 found.2) found.3
 
 -- 3. The first one.
 
-pub first_there : (ps : List Progress) (i : ℕ) (d : Progress) (r : Refusal) → i < length ps → failure_at (get_or ps i d) ≡ Some r → failures (take i ps) ≡ [] → Some r ≡ first_of (failures ps)
+pub first_there : (ps : List KeyProgress) (i : ℕ) (d : KeyProgress) (r : Refusal) → i < length ps → failure_at (get_or ps i d) ≡ Some r → failures (take i ps) ≡ [] → Some r ≡ first_of (failures ps)
 first_there [] i d r near is none = absurd (omega (arith, near))
 first_there (e ∷ ps) zero d r near is none = ap (λ (o : Option Refusal). first_of (cons_option o (failures ps))) (sym is)
 first_there (e ∷ ps) (suc i) d r near is none = by (failure_at e) refl none (first_there ps i d r (omega (arith, near)) is)
@@ -71,7 +71,7 @@ first_there (e ∷ ps) (suc i) d r near is none = by (failure_at e) refl none (f
     by (Some x) it none later = cc
     by None it none later = later none ∙ ap (λ (o : Option Refusal). first_of (cons_option o (failures ps))) (sym it)
 
-pub none_failed : (ps : List Progress) (i : ℕ) (d : Progress) → i < length ps → failure_at (get_or ps i d) ≡ None → failures (take i ps) ≡ [] → failures (take (i + 1) ps) ≡ []
+pub none_failed : (ps : List KeyProgress) (i : ℕ) (d : KeyProgress) → i < length ps → failure_at (get_or ps i d) ≡ None → failures (take i ps) ≡ [] → failures (take (i + 1) ps) ≡ []
 none_failed ps i d near is none =
     ap failures (take_more ps i d near)
     ∙ filter_map-append failure_at (take i ps) (get_or ps i d ∷ [])
@@ -102,17 +102,17 @@ first_cause [] = refl
 first_cause (r ∷ rs) = (zero, (omega arith, refl))
 
 -- all that has failed is noted
-pub noted_all : (c d : Option Refusal) (ps : List Progress) (faults : List Refusal) → IsMet c ps faults → IsNoted c (failures ps) d → IsCauseIn d (failures ps ++ faults)
+pub noted_all : (c d : Option Refusal) (ps : List KeyProgress) (faults : List Refusal) → IsMet c ps faults → IsNoted c (failures ps) d → IsCauseIn d (failures ps ++ faults)
 noted_all None d ps faults met noted = subst (λ rs. IsCauseIn d (failures ps ++ rs)) (sym met) (subst (IsCauseIn d) (sym (append-nil (failures ps))) (subst (λ o. IsCauseIn o (failures ps)) (sym noted) (first_cause (failures ps))))
 noted_all (Some c) d ps faults met noted = subst (λ e. IsCauseIn e (failures ps ++ faults)) (sym noted) met
 
 -- and so is what was noted
-pub cause_met : (c : Option Refusal) (ps : List Progress) (faults : List Refusal) → IsCauseIn c (failures ps ++ faults) → IsMet c ps faults
+pub cause_met : (c : Option Refusal) (ps : List KeyProgress) (faults : List Refusal) → IsCauseIn c (failures ps ++ faults) → IsMet c ps faults
 cause_met None ps faults is = nothing_after (failures ps) faults is
 cause_met (Some c) ps faults is = is
 
 -- the writer's fault is noted
-pub met_fault : (c fault : Option Refusal) (ps : List Progress) (faults : List Refusal) → IsMet c ps faults → IsMet (option_or c fault) ps (faults ++ cons_option fault [])
+pub met_fault : (c fault : Option Refusal) (ps : List KeyProgress) (faults : List Refusal) → IsMet c ps faults → IsMet (option_or c fault) ps (faults ++ cons_option fault [])
 met_fault (Some c) fault ps faults met = by (among_either (failures ps) faults c met)
   where
     by : IsAmong (failures ps) c ⊎ IsAmong faults c → IsAmong (failures ps ++ (faults ++ cons_option fault [])) c

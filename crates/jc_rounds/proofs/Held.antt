@@ -33,15 +33,15 @@ use Rattle.jc_stripe.specs.declared.ticket.Reservation.{Reservation}
 use Rattle.jc_stripe.specs.Generations.{whole_history}
 use Rattle.jc_lock.specs.declared.view.View.{View}
 use Rattle.jc_lock.proofs.CallerLemmas.{prefix-trans, same_on}
-use Rattle.jc_rounds.specs.declared.progress.Progress.{Progress}
-use Rattle.jc_rounds.specs.declared.progress.Progress.TheVariants.{Waiting, Reserved, Joined, Ended}
-use Rattle.jc_rounds.specs.KeyProgress.{is_held_back, is_joined, is_settled, is_waiting}
+use Rattle.jc_rounds.specs.declared.progress.KeyProgress.{KeyProgress}
+use Rattle.jc_rounds.specs.declared.progress.KeyProgress.TheVariants.{Waiting, Reserved, Joined, Ended}
+use Rattle.jc_rounds.specs.KeyProgress.{is_held_back, is_settled, waits_for_joined_load, waits_for_round}
 use Rattle.jc_rounds.specs.Keys.{HasBegun, HasJoined, IsHeldBack, IsJoinFor}
 use Rattle.jc_rounds.specs.Seats.{HasGrown, view_at, view_of}
-use Rattle.jc_rounds.specs.SoFar.{AreHeldBack, AreIn, GoesOn, IsHeldAt, IsKept}
+use Rattle.jc_rounds.specs.SoFar.{AreHeldBack, AreIn, IsHeldAt, IsKept, KeysAdvance}
 use Rattle.jc_rounds.specs.Starting.{AreManyJoined, HaveJoined, IsFull, IsRoomFor}
 use Rattle.jc_rounds.specs.Keys.{IsTicketFor}
-use Rattle.jc_rounds.specs.KeyProgress.{is_reserved}
+use Rattle.jc_rounds.specs.KeyProgress.{holds_reservation}
 use Rattle.jc_types.specs.declared.limits.TheConstants.{JOINERS_MAX, RESERVATIONS_MAX}
 use Rattle.jc_stripe.specs.Tickets.{TicketClaim}
 use Rattle.jc_rounds.proofs.Asked.{among_there}
@@ -52,18 +52,18 @@ use Rattle.jc_rounds.proofs.Underway.{below_or, set_get, stay_itself, stay_on, s
 
 -- 1. All keys.
 
-pub goes_itself : (seats : List Seated) (ps : List Progress) → GoesOn seats seats ps ps
+pub goes_itself : (seats : List Seated) (ps : List KeyProgress) → KeysAdvance seats seats ps ps
 goes_itself seats ps = record { stay = stay_itself ps; grown = λ i. grown_itself (view_at seats i); held = λ place p at is. (p, at, is) }
 
-pub goes_both : (a b c : List Seated) (ps qs rs : List Progress) → GoesOn a b ps qs → GoesOn b c qs rs → GoesOn a c ps rs
+pub goes_both : (a b c : List Seated) (ps qs rs : List KeyProgress) → KeysAdvance a b ps qs → KeysAdvance b c qs rs → KeysAdvance a c ps rs
 goes_both a b c ps qs rs one two = record {
   stay = stay_on ps qs rs one.stay two.stay;
   grown = λ i. grown_on (view_at a i) (view_at b i) (view_at c i) (one.grown i) (two.grown i);
   held = λ place p at is. let q = two.held place p at is in one.held place q.0 q.1 q.2;
 }
 
-pub goes_set : (a b : List Seated) (ps : List Progress) (i : ℕ) (q p : Progress) → ((j : ℕ) → HasGrown (view_at a j) (view_at b j)) → slice_get ps i ≡ Some q → ((e : Result Reply Refusal) → q ≡ Ended e → ⊥)
-    → (is_held_back p ≡ true → is_held_back q ≡ true) → GoesOn a b ps (set ps i p)
+pub goes_set : (a b : List Seated) (ps : List KeyProgress) (i : ℕ) (q p : KeyProgress) → ((j : ℕ) → HasGrown (view_at a j) (view_at b j)) → slice_get ps i ≡ Some q → ((e : Result Reply Refusal) → q ≡ Ended e → ⊥)
+    → (is_held_back p ≡ true → is_held_back q ≡ true) → KeysAdvance a b ps (set ps i p)
 goes_set a b ps i q p grown at unended keeps = record {
   stay = stay_set ps i q p at unended;
   grown = grown;
@@ -106,18 +106,18 @@ pub held_since : (caller : Caller) (u v w : View) (key : Bytes) (op : Op) → Ha
 held_since caller u v w key op grown (inl was) = inl (was.0, was.1, refused_since caller u v w key op was.0 grown was.2)
 held_since caller u v w key op grown (inr was) = inr (joined_since caller u v w key op grown was)
 
-refused_held : (refusal : Refusal) (b : Bool) (p : Progress) → p ≡ (if b then Waiting else Ended (Err refusal)) → is_held_back p ≡ true → b ≡ true
+refused_held : (refusal : Refusal) (b : Bool) (p : KeyProgress) → p ≡ (if b then Waiting else Ended (Err refusal)) → is_held_back p ≡ true → b ≡ true
 refused_held refusal true p is held = refl
 refused_held refusal false p is held = absurd (true≢false (sym held ∙ ap is_held_back is))
 
-pub kept_held : (caller : Caller) (config : Config) (v w : View) (key : Bytes) (op : Op) (b : Begun) (p : Progress) (ts ts' : List TicketClaim) (joins joins' : List JoinClaim) → HasBegun caller config v w key op b → IsKept b p ts ts' joins joins'
+pub kept_held : (caller : Caller) (config : Config) (v w : View) (key : Bytes) (op : Op) (b : Begun) (p : KeyProgress) (ts ts' : List TicketClaim) (joins joins' : List JoinClaim) → HasBegun caller config v w key op b → IsKept b p ts ts' joins joins'
     → is_held_back p ≡ true → IsHeldBack caller v w key op
 kept_held caller config v w key op (begun.Done done) p ts ts' joins joins' has kept held = absurd (true≢false (sym held ∙ ap is_held_back kept.0))
 kept_held caller config v w key op (begun.Refused refusal) p ts ts' joins joins' has kept held = inl (refusal, refused_held refusal (is_put_off refusal) p kept.0 held, has.3)
 kept_held caller config v w key op (begun.Asks ticket) p ts ts' joins joins' has kept held = absurd (true≢false (sym held ∙ ap is_held_back kept.0))
 kept_held caller config v w key op (begun.Joined join) p ts ts' joins joins' has kept held = inr has.2
 
-pub not_held : (p : Progress) → is_waiting p ≡ false → is_settled p ≡ true → is_held_back p ≡ true → ⊥
+pub not_held : (p : KeyProgress) → waits_for_round p ≡ false → is_settled p ≡ true → is_held_back p ≡ true → ⊥
 not_held Waiting w s h = cc
 not_held Reserved w s h = cc
 not_held Joined w s h = cc
@@ -125,19 +125,19 @@ not_held (Ended e) w s h = cc
 
 -- 3. Keys one after the other.
 
-pub set_there : (ps : List Progress) (place : ℕ) (p : Progress) → place < length ps → slice_get (set ps place p) place ≡ Some p
+pub set_there : (ps : List KeyProgress) (place : ℕ) (p : KeyProgress) → place < length ps → slice_get (set ps place p) place ≡ Some p
 set_there [] place p near = absurd (omega arith)
 set_there (q ∷ ps) zero p near = refl
 set_there (q ∷ ps) (suc place) p near = set_there ps place p (omega arith)
 
 -- what a first phase says of the key at its place
-pub held_at : (caller : Caller) (stripes : ℕ) (targets : List (Bytes × Op)) (a b : List Seated) (ps : List Progress) (place : ℕ) (target : Bytes × Op) (q : Progress) → slice_get targets place ≡ Some target → slice_get ps place ≡ Some q
+pub held_at : (caller : Caller) (stripes : ℕ) (targets : List (Bytes × Op)) (a b : List Seated) (ps : List KeyProgress) (place : ℕ) (target : Bytes × Op) (q : KeyProgress) → slice_get targets place ≡ Some target → slice_get ps place ≡ Some q
     → (is_held_back q ≡ true → IsHeldBack caller (view_of stripes a target.0) (view_of stripes b target.0) target.0 target.1) → IsHeldAt ⊥ place caller stripes targets a b ps
 held_at caller stripes targets a b ps place target q there at held key op p is here back =
     let same : target ≡ (key, op) = same_Some target (key, op) (sym there ∙ is) in
     inr (subst (λ (u : Bytes × Op). IsHeldBack caller (view_of stripes a u.0) (view_of stripes b u.0) u.0 u.1) same (held (ap is_held_back (same_Some q p (sym at ∙ here)) ∙ back)))
 
-pub held_next : (full full' : Type 0) (end : ℕ) (caller : Caller) (stripes : ℕ) (targets : List (Bytes × Op)) (a b c : List Seated) (os ps qs : List Progress) → (full → full') → GoesOn a b os ps → GoesOn b c ps qs
+pub held_next : (full full' : Type 0) (end : ℕ) (caller : Caller) (stripes : ℕ) (targets : List (Bytes × Op)) (a b c : List Seated) (os ps qs : List KeyProgress) → (full → full') → KeysAdvance a b os ps → KeysAdvance b c ps qs
     → AreHeldBack full end caller stripes targets a b ps → IsHeldAt full' end caller stripes targets b c qs → AreHeldBack full' (end + 1) caller stripes targets a c qs
 held_next full full' end caller stripes targets a b c os ps qs fuller one two held here place less key op p there at is = by (below_or place end less)
   where
@@ -153,7 +153,7 @@ held_next full full' end caller stripes targets a b c os ps qs fuller one two he
         ⊎_elim (λ f. inl (fuller f)) (λ back. inr (held_later caller (view_of stripes a key) (view_of stripes b key) (view_of stripes c key) key op (two.grown (stripe_of key stripes)) back))
         (held place below key op q.0 there q.1 q.2)
 
-pub held_after : (full full' : Type 0) (end : ℕ) (caller : Caller) (stripes : ℕ) (targets : List (Bytes × Op)) (a b c : List Seated) (ps qs : List Progress) → (full → full') → GoesOn b c ps qs
+pub held_after : (full full' : Type 0) (end : ℕ) (caller : Caller) (stripes : ℕ) (targets : List (Bytes × Op)) (a b c : List Seated) (ps qs : List KeyProgress) → (full → full') → KeysAdvance b c ps qs
     → AreHeldBack full end caller stripes targets a b ps → AreHeldBack full' end caller stripes targets a c qs
 held_after full full' end caller stripes targets a b c ps qs fuller goes held place less key op p there at is =
     let q = goes.held place p at is in
@@ -162,8 +162,8 @@ held_after full full' end caller stripes targets a b c ps qs fuller goes held pl
 
 -- 4. Room.
 
-module _ {X : Type 0} (has : Progress → Bool) (fits : Bytes → Op → X → Type 0) where
-  at_most : (ts : List (Bytes × Op)) (ps : List Progress) (xs : List X) → AreIn has fits ts ps xs → length xs ≤ length ts
+module _ {X : Type 0} (has : KeyProgress → Bool) (fits : Bytes → Op → X → Type 0) where
+  at_most : (ts : List (Bytes × Op)) (ps : List KeyProgress) (xs : List X) → AreIn has fits ts ps xs → length xs ≤ length ts
   at_most [] ps xs are = let n = ap length are in omega arith
   at_most (t ∷ ts) [] xs are = let n = ap length are in omega arith
   at_most (t ∷ ts) (p ∷ ps) [] are = omega arith
@@ -174,7 +174,7 @@ module _ {X : Type 0} (has : Progress → Bool) (fits : Bytes → Op → X → T
       by true here f h = let n = f here.1 in omega arith
       by false rest f h = let n = h rest in omega arith
 
-  pub fewer_out : (ts : List (Bytes × Op)) (ps : List Progress) (xs : List X) (i : ℕ) (p : Progress) → length ps ≡ length ts → slice_get ps i ≡ Some p → has p ≡ false → AreIn has fits ts ps xs → length xs < length ts
+  pub fewer_out : (ts : List (Bytes × Op)) (ps : List KeyProgress) (xs : List X) (i : ℕ) (p : KeyProgress) → length ps ≡ length ts → slice_get ps i ≡ Some p → has p ≡ false → AreIn has fits ts ps xs → length xs < length ts
   fewer_out [] [] xs i p many at isnt are = cc
   fewer_out [] (q ∷ ps) xs i p many at isnt are = absurd (omega arith)
   fewer_out (t ∷ ts) [] xs i p many at isnt are = cc
@@ -189,7 +189,7 @@ module _ {X : Type 0} (has : Progress → Bool) (fits : Bytes → Op → X → T
       by false rest f h = let n = h rest in omega arith
 
 -- the keys that have joined loads
-abbrev joined_keys : List (Bytes × Op) → List Progress → List Bytes
+abbrev joined_keys : List (Bytes × Op) → List KeyProgress → List Bytes
 joined_keys [] ps = []
 joined_keys (t ∷ ts) [] = []
 joined_keys (t ∷ ts) (Waiting ∷ ps) = joined_keys ts ps
@@ -197,7 +197,7 @@ joined_keys (t ∷ ts) (Reserved ∷ ps) = joined_keys ts ps
 joined_keys (t ∷ ts) (Joined ∷ ps) = t.0 ∷ joined_keys ts ps
 joined_keys (t ∷ ts) (Ended e ∷ ps) = joined_keys ts ps
 
-many_keys : {X : Type 0} (fits : Bytes → Op → X → Type 0) (ts : List (Bytes × Op)) (ps : List Progress) (xs : List X) → AreIn is_joined fits ts ps xs → length xs ≤ length (joined_keys ts ps)
+many_keys : {X : Type 0} (fits : Bytes → Op → X → Type 0) (ts : List (Bytes × Op)) (ps : List KeyProgress) (xs : List X) → AreIn waits_for_joined_load fits ts ps xs → length xs ≤ length (joined_keys ts ps)
 many_keys fits [] ps xs are = let n = ap length are in omega arith
 many_keys fits (t ∷ ts) [] xs are = let n = ap length are in omega arith
 many_keys fits (t ∷ ts) (Waiting ∷ ps) [] are = omega arith
@@ -209,7 +209,7 @@ many_keys fits (t ∷ ts) (Reserved ∷ ps) (x ∷ xs) are = many_keys fits ts p
 many_keys fits (t ∷ ts) (Joined ∷ ps) (x ∷ xs) are = let n = many_keys fits ts ps xs are.1 in omega (arith, n)
 many_keys fits (t ∷ ts) (Ended e ∷ ps) (x ∷ xs) are = many_keys fits ts ps (x ∷ xs) are
 
-apart_joined : (key : Bytes) (ts : List (Bytes × Op)) (ps : List Progress) → AllByRecursion (λ k. pointwise ◌==◌ key k ≡ false) (keys_of ts) → AllByRecursion (λ k. pointwise ◌==◌ key k ≡ false) (joined_keys ts ps)
+apart_joined : (key : Bytes) (ts : List (Bytes × Op)) (ps : List KeyProgress) → AllByRecursion (λ k. pointwise ◌==◌ key k ≡ false) (keys_of ts) → AllByRecursion (λ k. pointwise ◌==◌ key k ≡ false) (joined_keys ts ps)
 apart_joined key [] ps apart = tt
 apart_joined key (t ∷ ts) [] apart = tt
 apart_joined key (t ∷ ts) (Waiting ∷ ps) apart = apart_joined key ts ps apart.1
@@ -217,7 +217,7 @@ apart_joined key (t ∷ ts) (Reserved ∷ ps) apart = apart_joined key ts ps apa
 apart_joined key (t ∷ ts) (Joined ∷ ps) apart = (apart.0, apart_joined key ts ps apart.1)
 apart_joined key (t ∷ ts) (Ended e ∷ ps) apart = apart_joined key ts ps apart.1
 
-distinct_joined : (ts : List (Bytes × Op)) (ps : List Progress) → IsDistinct (pointwise ◌==◌) (keys_of ts) → IsDistinct (pointwise ◌==◌) (joined_keys ts ps)
+distinct_joined : (ts : List (Bytes × Op)) (ps : List KeyProgress) → IsDistinct (pointwise ◌==◌) (keys_of ts) → IsDistinct (pointwise ◌==◌) (joined_keys ts ps)
 distinct_joined [] ps d = none_twice
 distinct_joined (t ∷ ts) [] d = none_twice
 distinct_joined (t ∷ ts) (Waiting ∷ ps) d = distinct_joined ts ps (IsDistinct-tail (pointwise ◌==◌) t.0 (keys_of ts) d)
@@ -226,7 +226,7 @@ distinct_joined (t ∷ ts) (Joined ∷ ps) d =
     IsDistinct-cons (pointwise ◌==◌) t.0 (joined_keys ts ps) (apart_joined t.0 ts ps (IsDistinct-head (pointwise ◌==◌) t.0 (keys_of ts) d)) (distinct_joined ts ps (IsDistinct-tail (pointwise ◌==◌) t.0 (keys_of ts) d))
 distinct_joined (t ∷ ts) (Ended e ∷ ps) d = distinct_joined ts ps (IsDistinct-tail (pointwise ◌==◌) t.0 (keys_of ts) d)
 
-all_joined : (Q : Bytes → Type 0) (ts : List (Bytes × Op)) (ps : List Progress) → ((place : ℕ) (key : Bytes) (op : Op) → slice_get ts place ≡ Some (key, op) → slice_get ps place ≡ Some Joined → Q key) → AllByRecursion Q (joined_keys ts ps)
+all_joined : (Q : Bytes → Type 0) (ts : List (Bytes × Op)) (ps : List KeyProgress) → ((place : ℕ) (key : Bytes) (op : Op) → slice_get ts place ≡ Some (key, op) → slice_get ps place ≡ Some Joined → Q key) → AllByRecursion Q (joined_keys ts ps)
 all_joined Q [] ps h = tt
 all_joined Q (t ∷ ts) [] h = tt
 all_joined Q (t ∷ ts) (Waiting ∷ ps) h = all_joined Q ts ps (λ place. h (suc place))
@@ -235,17 +235,17 @@ all_joined Q (t ∷ ts) (Joined ∷ ps) h = (h zero t.0 t.1 refl refl, all_joine
 all_joined Q (t ∷ ts) (Ended e ∷ ps) h = all_joined Q ts ps (λ place. h (suc place))
 
 -- no room: the key at this place waits, so it is neither reserved nor has it joined a load
-pub full_by : (caller : Caller) (config : Config) (before : Bytes → View) (stripes : ℕ) (ts : List (Bytes × Op)) (ps : List Progress) (a b : List Seated) (calls : List Reservation) (joins : List JoinClaim) (most room place asked : ℕ) → IsDistinct (pointwise ◌==◌) (keys_of ts)
+pub full_by : (caller : Caller) (config : Config) (before : Bytes → View) (stripes : ℕ) (ts : List (Bytes × Op)) (ps : List KeyProgress) (a b : List Seated) (calls : List Reservation) (joins : List JoinClaim) (most room place asked : ℕ) → IsDistinct (pointwise ◌==◌) (keys_of ts)
     → length ps ≡ length ts → slice_get ps place ≡ Some Waiting → HaveJoined caller stripes ts a b ps
-    → AreIn is_reserved (IsTicketFor caller config) ts ps calls → AreIn is_joined (λ key op join. IsJoinFor caller (before key) key op join) ts ps joins → IsRoomFor RESERVATIONS_MAX (length ts) stripes most → IsRoomFor JOINERS_MAX (length ts) stripes room
+    → AreIn holds_reservation (IsTicketFor caller config) ts ps calls → AreIn waits_for_joined_load (λ key op join. IsJoinFor caller (before key) key op join) ts ps joins → IsRoomFor RESERVATIONS_MAX (length ts) stripes most → IsRoomFor JOINERS_MAX (length ts) stripes room
     → asked ≡ length calls → (most ≤ asked) ⊎ (room ≤ length joins) → IsFull caller stripes ts a b asked
 full_by caller config before stripes ts ps a b calls joins most room place asked d many waits have are joined most_is room_is same full = by full most_is room_is
   where
     fewer : length calls < length ts
-    fewer = fewer_out is_reserved (IsTicketFor caller config) ts ps calls place Waiting many waits refl are
+    fewer = fewer_out holds_reservation (IsTicketFor caller config) ts ps calls place Waiting many waits refl are
 
     fewer_joined : length joins < length ts
-    fewer_joined = fewer_out is_joined (λ key op join. IsJoinFor caller (before key) key op join) ts ps joins place Waiting many waits refl joined
+    fewer_joined = fewer_out waits_for_joined_load (λ key op join. IsJoinFor caller (before key) key op join) ts ps joins place Waiting many waits refl joined
 
     many_joined : JOINERS_MAX * stripes < length joins → AreManyJoined caller stripes ts a b
     many_joined more = record {
@@ -273,7 +273,7 @@ full_later caller stripes ts a b c m n more grown (inl many) = inl (omega (arith
 full_later caller stripes ts a b c m n more grown (inr j) = inr (record { joined = j.joined; distinct = j.distinct; many = j.many; each = all_later caller stripes ts a b c grown j.joined j.each })
 
 -- a first phase, at the key of a place
-pub have_more : (caller : Caller) (config : Config) (stripes : ℕ) (ts : List (Bytes × Op)) (a b c : List Seated) (ps : List Progress) (i : ℕ) (k : Bytes) (o : Op) (begin : Begun) (p : Progress) (xs xs' : List TicketClaim) (joins joins' : List JoinClaim)
+pub have_more : (caller : Caller) (config : Config) (stripes : ℕ) (ts : List (Bytes × Op)) (a b c : List Seated) (ps : List KeyProgress) (i : ℕ) (k : Bytes) (o : Op) (begin : Begun) (p : KeyProgress) (xs xs' : List TicketClaim) (joins joins' : List JoinClaim)
     → slice_get ts i ≡ Some (k, o) → ((j : ℕ) → HasGrown (view_at a j) (view_at b j)) → ((j : ℕ) → HasGrown (view_at b j) (view_at c j)) → HasBegun caller config (view_of stripes b k) (view_of stripes c k) k o begin → IsKept begin p xs xs' joins joins'
     → HaveJoined caller stripes ts a b ps → HaveJoined caller stripes ts a c (set ps i p)
 have_more caller config stripes ts a b c ps i k o begin p xs xs' joins joins' at one two has kept have place key op there is = by (set_get ps i place p Joined is)

@@ -31,7 +31,7 @@ use Rattle.jc_cache.specs.Sessions.{IsOf}
 use Rattle.jc_session.specs.declared.session.Session.{Session}
 use Rattle.jc_rounds.specs.Keys.{HasBegun, HasPicked, IsCommitted, IsEarly, IsJoinFor, IsPickedUp}
 use Rattle.jc_rounds.specs.Recorded.{steps_of}
-use Rattle.jc_rounds.specs.Seats.{AreBefore, HasGrown, Moves, view_at, view_of}
+use Rattle.jc_rounds.specs.Seats.{AreBefore, HasGrown, MovesAtKey, view_at, view_of}
 use Rattle.jc_rounds.proofs.KeyPhases.{key_begun, key_committed, key_picked}
 use Rattle.jc_rounds.proofs.CallSteps.{may-come-all}
 use Rattle.jc_rounds.proofs.SeatPhases.{Seated, moves_all, view_here, view_there}
@@ -57,7 +57,7 @@ module _ {I J : Type 0} {D : I → Type 0} {E : J → Type 0} where
   module _ (law : OnePhase) (steps : OwnSteps) (cache : CacheState) (old new : Session I J D E) (own : IsOf cache old) where
     pub start_told : (key : Bytes) (op : Op) (b : Begun) (counted : Counted) → PhaseAt (stripe_of key cache.config.stripes) old (starting_now old.agent.caller key op b) counted new
         → AreBefore old.agent.caller old.seats.items → steps_of old.agent.caller key (view_of cache.config.stripes old.seats.items key).own ≡ []
-        → Moves old.agent.caller cache.config.stripes key old.seats.items new.seats.items
+        → MovesAtKey old.agent.caller cache.config.stripes key old.seats.items new.seats.items
         × HasBegun old.agent.caller cache.config (view_of cache.config.stripes old.seats.items key) (view_of cache.config.stripes new.seats.items key) key op b
     start_told key op b counted x before none =
         let caller = old.agent.caller in
@@ -70,27 +70,27 @@ module _ {I J : Type 0} {D : I → Type 0} {E : J → Type 0} where
 
     pub commit_told : (r : Reservation) (out : Out) (done : StepDone) (counted : Counted) → PhaseAt (stripe_of r.key cache.config.stripes) old (committing r out done) counted new → r.caller ≡ old.agent.caller → IsEarly old.agent.caller
         → steps_of old.agent.caller r.key (view_of cache.config.stripes old.seats.items r.key).own ≡ []
-        → Moves old.agent.caller cache.config.stripes r.key old.seats.items new.seats.items
+        → MovesAtKey old.agent.caller cache.config.stripes r.key old.seats.items new.seats.items
         × IsCommitted cache.config old.agent.caller r out (view_of cache.config.stripes old.seats.items r.key) (view_of cache.config.stripes new.seats.items r.key) done.reply
     commit_told r out done counted x mine early none =
         let n = cache.config.stripes in
         let k = key_committed law steps cache.config old.agent.caller.session r out done x.before x.after x.seat (own.seats (stripe_of r.key n) (x.lock, x.before) x.was).config_is (sym (ap (λ (c : Caller). c.session) mine)) (subst IsEarly (sym mine) early)
         ((λ i. steps_of (mine i) r.key (sym (view_was x) i).own) ∙ none) in (
-          subst (λ (c : Caller). Moves c n r.key old.seats.items new.seats.items) mine (moves_all r.caller n r.key old.seats.items new.seats.items x.lock x.before x.after x.was x.now k.0),
+          subst (λ (c : Caller). MovesAtKey c n r.key old.seats.items new.seats.items) mine (moves_all r.caller n r.key old.seats.items new.seats.items x.lock x.before x.after x.was x.now k.0),
           subst (λ (c : Caller). IsCommitted cache.config c r out (view_of n old.seats.items r.key) (view_of n new.seats.items r.key) done.reply) mine
               (subst (λ (v : View). IsCommitted cache.config r.caller r out v (view_of n new.seats.items r.key) done.reply) (sym (view_was x)) (subst (λ (w : View). IsCommitted cache.config r.caller r out x.before w done.reply) (sym (view_now x)) k.1)),
         )
 
     pub pick_told : StepsBehind → (join : JoinClaim) (p : Polled) (counted : Counted) → PhaseAt (stripe_of join.key cache.config.stripes) old (picking_late join p) counted new → join.caller ≡ old.agent.caller → IsEarly old.agent.caller
         → steps_of old.agent.caller join.key (view_of cache.config.stripes old.seats.items join.key).own ≡ []
-        → Moves old.agent.caller cache.config.stripes join.key old.seats.items new.seats.items
+        → MovesAtKey old.agent.caller cache.config.stripes join.key old.seats.items new.seats.items
         × ((first : View) → HasGrown first (view_of cache.config.stripes old.seats.items join.key) → IsJoinFor old.agent.caller first join.key Get join
         → HasPicked cache.config old.agent.caller first (view_of cache.config.stripes new.seats.items join.key) join.key Get p)
     pick_told places join p counted x mine early none =
         let n = cache.config.stripes in
         let k = key_picked law steps cache.config places old.agent.caller.session join p x.before x.after x.seat (sym (ap (λ (c : Caller). c.session) mine)) (subst IsEarly (sym mine) early)
         ((λ i. steps_of (mine i) join.key (sym (view_was x) i).own) ∙ none) in (
-          subst (λ (c : Caller). Moves c n join.key old.seats.items new.seats.items) mine (moves_all join.caller n join.key old.seats.items new.seats.items x.lock x.before x.after x.was x.now k.0),
+          subst (λ (c : Caller). MovesAtKey c n join.key old.seats.items new.seats.items) mine (moves_all join.caller n join.key old.seats.items new.seats.items x.lock x.before x.after x.was x.now k.0),
           λ first grown is. subst (λ (w : View). HasPicked cache.config old.agent.caller first w join.key Get p) (sym (view_now x))
               (subst (λ (c : Caller). HasPicked cache.config c first x.after join.key Get p) mine
               (k.1 first (subst (HasGrown first) (view_was x) grown) (subst (λ (c : Caller). IsJoinFor c first join.key Get join) (sym mine) is))),

@@ -19,14 +19,14 @@ use Rattle.jc_model.specs.declared.event.Op.{Op}
 use Rattle.jc_model.specs.declared.event.Op.TheVariants.{Get}
 use Rattle.jc_model.specs.declared.event.Reply.{Reply}
 use Rattle.jc_batch.proofs.CallerLemmas.{not_before}
-use Rattle.jc_rounds.specs.declared.progress.Progress.{Progress}
-use Rattle.jc_rounds.specs.declared.progress.Progress.TheVariants.{Waiting, Reserved, Joined, Ended}
+use Rattle.jc_rounds.specs.declared.progress.KeyProgress.{KeyProgress}
+use Rattle.jc_rounds.specs.declared.progress.KeyProgress.TheVariants.{Waiting, Reserved, Joined, Ended}
 use Rattle.jc_rounds.specs.Ends.{KeyEnd, entries_by, failed_entries, key_end, key_ends, reply_value, value_at}
 use Rattle.jc_rounds.specs.KeyProgress.{failure_at, failures, refusal_in}
 
 -- 1. One key more.
 
-ends_push : (targets : List (Bytes × Op)) (ps : List Progress) (t : Bytes × Op) (p : Progress) → length ps ≡ length targets
+ends_push : (targets : List (Bytes × Op)) (ps : List KeyProgress) (t : Bytes × Op) (p : KeyProgress) → length ps ≡ length targets
     → key_ends (targets ++ t ∷ []) (ps ++ p ∷ []) ≡ key_ends targets ps ++ key_end t p
 ends_push [] [] t p many = append-nil (key_end t p)
 ends_push [] (q ∷ ps) t p many = cc
@@ -35,7 +35,7 @@ ends_push (u ∷ targets) (q ∷ ps) t p many =
     let fewer : length ps ≡ length targets = omega (arith, many) in
     ap (λ es. key_end u q ++ es) (ends_push targets ps t p fewer) ∙ sym (append_assoc (key_end u q) (key_ends targets ps) (key_end t p))
 
-pub ends_more : (targets : List (Bytes × Op)) (ps : List Progress) (i : ℕ) (t : Bytes × Op) (p : Progress) → length ps ≡ length targets → i < length ps
+pub ends_more : (targets : List (Bytes × Op)) (ps : List KeyProgress) (i : ℕ) (t : Bytes × Op) (p : KeyProgress) → length ps ≡ length targets → i < length ps
     → key_ends (take (i + 1) targets) (take (i + 1) ps) ≡ key_ends (take i targets) (take i ps) ++ key_end (get_or targets i t) (get_or ps i p)
 ends_more targets ps i t p many near =
     let same : length (take i ps) ≡ length (take i targets) = length-take i ps ∙ ap (min i) many ∙ sym (length-take i targets) in
@@ -52,21 +52,21 @@ keys_before targets i = sym (take-map (λ (t : Bytes × Op). t.0) i targets)
 
 -- 2. What is said of an end.
 
-pub told_failed : (t : Bytes × Op) (p : Progress) → entries_by refusal_in (key_end t p) ≡ cons_option (option_map (λ v. (t.0, v)) (failure_at p)) []
+pub told_failed : (t : Bytes × Op) (p : KeyProgress) → entries_by refusal_in (key_end t p) ≡ cons_option (option_map (λ v. (t.0, v)) (failure_at p)) []
 told_failed t Waiting = refl
 told_failed t Reserved = refl
 told_failed t Joined = refl
 told_failed t (Ended ended) = refl
 
-pub told_found : (t : Bytes × Op) (p : Progress) → entries_by reply_value (key_end t p) ≡ cons_option (option_map (λ v. (t.0, v)) (value_at p)) []
+pub told_found : (t : Bytes × Op) (p : KeyProgress) → entries_by reply_value (key_end t p) ≡ cons_option (option_map (λ v. (t.0, v)) (value_at p)) []
 told_found t Waiting = refl
 told_found t Reserved = refl
 told_found t Joined = refl
 told_found t (Ended ended) = refl
 
 module _ {V : Type 0} (said : Result Reply Refusal → Option V) where
-  pub entries_more : (at : Progress → Option V) → ((t : Bytes × Op) (p : Progress) → entries_by said (key_end t p) ≡ cons_option (option_map (λ v. (t.0, v)) (at p)) [])
-      → (targets : List (Bytes × Op)) (ps : List Progress) (i : ℕ) (key : Bytes) (p : Progress) (es : List (Bytes × V)) → length ps ≡ length targets → i < length ps → slice_get (keys_of targets) i ≡ Some key → p ≡ get_or ps i p
+  pub entries_more : (at : KeyProgress → Option V) → ((t : Bytes × Op) (p : KeyProgress) → entries_by said (key_end t p) ≡ cons_option (option_map (λ v. (t.0, v)) (at p)) [])
+      → (targets : List (Bytes × Op)) (ps : List KeyProgress) (i : ℕ) (key : Bytes) (p : KeyProgress) (es : List (Bytes × V)) → length ps ≡ length targets → i < length ps → slice_get (keys_of targets) i ≡ Some key → p ≡ get_or ps i p
       → es ≡ entries_by said (key_ends (take i targets) (take i ps)) → es ++ cons_option (option_map (λ v. (key, v)) (at p)) [] ≡ entries_by said (key_ends (take (i + 1) targets) (take (i + 1) ps))
   entries_more at told targets ps i key p es many near there is so_far =
       let t : Bytes × Op = (key, Get) in
@@ -83,7 +83,7 @@ module _ {V : Type 0} (said : Result Reply Refusal → Option V) where
   one_absent None k q es apart none = none
   one_absent (Some v) k q es apart none = ap (λ b. b || list_any (pointwise ◌==◌ q) (keys_of es)) apart ∙ none
 
-  entries_absent : (targets : List (Bytes × Op)) (ps : List Progress) (q : Bytes) → list_any (pointwise ◌==◌ q) (keys_of targets) ≡ false → list_any (pointwise ◌==◌ q) (keys_of (entries_by said (key_ends targets ps))) ≡ false
+  entries_absent : (targets : List (Bytes × Op)) (ps : List KeyProgress) (q : Bytes) → list_any (pointwise ◌==◌ q) (keys_of targets) ≡ false → list_any (pointwise ◌==◌ q) (keys_of (entries_by said (key_ends targets ps))) ≡ false
   entries_absent [] ps q away = refl
   entries_absent (t ∷ targets) [] q away = refl
   entries_absent (t ∷ targets) (Waiting ∷ ps) q away = entries_absent targets ps q (or_parts (pointwise ◌==◌ q t.0) _ away).1
@@ -93,13 +93,13 @@ module _ {V : Type 0} (said : Result Reply Refusal → Option V) where
       let parts = or_parts (pointwise ◌==◌ q t.0) (list_any (pointwise ◌==◌ q) (keys_of targets)) away in
       one_absent (said ended) t.0 q (entries_by said (key_ends targets ps)) parts.0 (entries_absent targets ps q parts.1)
 
-  pub entries_new : (targets : List (Bytes × Op)) (ps : List Progress) (i : ℕ) (key : Bytes) (es : List (Bytes × V)) → IsDistinct (pointwise ◌==◌) (keys_of targets) → slice_get (keys_of targets) i ≡ Some key
+  pub entries_new : (targets : List (Bytes × Op)) (ps : List KeyProgress) (i : ℕ) (key : Bytes) (es : List (Bytes × V)) → IsDistinct (pointwise ◌==◌) (keys_of targets) → slice_get (keys_of targets) i ≡ Some key
       → es ≡ entries_by said (key_ends (take i targets) (take i ps)) → list_any (pointwise ◌==◌ key) (keys_of es) ≡ false
   entries_new targets ps i key es d there so_far =
       ap (λ xs. list_any (pointwise ◌==◌ key) (keys_of xs)) so_far
       ∙ entries_absent (take i targets) (take i ps) key (ap (list_any (pointwise ◌==◌ key)) (keys_before targets i) ∙ not_before (keys_of targets) i key d there)
 
-  pub entries_whole : (targets : List (Bytes × Op)) (ps : List Progress) (i : ℕ) (es : List (Bytes × V)) → length ps ≡ length targets → length ps ≤ i
+  pub entries_whole : (targets : List (Bytes × Op)) (ps : List KeyProgress) (i : ℕ) (es : List (Bytes × V)) → length ps ≡ length targets → length ps ≤ i
       → es ≡ entries_by said (key_ends (take i targets) (take i ps)) → es ≡ entries_by said (key_ends targets ps)
   entries_whole targets ps i es many past so_far =
       so_far ∙ (λ j. entries_by said (key_ends (take_all i targets (omega (arith, past, many)) j) (take_all i ps past j)))
@@ -110,7 +110,7 @@ told_map : (o : Option Refusal) (k : Bytes) (es : List (Bytes × Refusal)) → m
 told_map None k es = refl
 told_map (Some r) k es = refl
 
-pub failures_are : (targets : List (Bytes × Op)) (ps : List Progress) → length ps ≡ length targets → map (λ (e : Bytes × Refusal). e.1) (failed_entries (key_ends targets ps)) ≡ failures ps
+pub failures_are : (targets : List (Bytes × Op)) (ps : List KeyProgress) → length ps ≡ length targets → map (λ (e : Bytes × Refusal). e.1) (failed_entries (key_ends targets ps)) ≡ failures ps
 failures_are [] [] many = refl
 failures_are [] (p ∷ ps) many = cc
 failures_are (t ∷ targets) [] many = cc

@@ -12,19 +12,19 @@ use Rattle.jc_model.specs.declared.event.Op.{Op}
 use Rattle.jc_stripe.specs.Tickets.{JoinClaim, TicketClaim}
 use Rattle.jc_cache.specs.Caches.{CacheState}
 use Rattle.jc_session.specs.declared.session.Session.{Session}
-use Rattle.jc_rounds.specs.declared.answers.Answers.{Answers}
+use Rattle.jc_rounds.specs.declared.answers.RoundAnswers.{RoundAnswers}
 use Rattle.jc_rounds.specs.declared.bulk_call.BulkCall.{BulkCall}
-use Rattle.jc_rounds.specs.declared.progress.Progress.{Progress}
-use Rattle.jc_rounds.specs.declared.progress.Progress.TheVariants.{Waiting, Reserved, Joined}
+use Rattle.jc_rounds.specs.declared.progress.KeyProgress.{KeyProgress}
+use Rattle.jc_rounds.specs.declared.progress.KeyProgress.TheVariants.{Waiting, Reserved, Joined}
 use Rattle.jc_rounds.specs.Answers.{AreAnswers}
-use Rattle.jc_rounds.specs.KeyProgress.{IsCauseIn, IsNoted, StillWaits, failures, is_joined, is_reserved, is_waiting}
+use Rattle.jc_rounds.specs.KeyProgress.{IsCauseIn, IsNoted, StillWaits, failures, holds_reservation, waits_for_joined_load, waits_for_round}
 use Rattle.jc_rounds.specs.Keys.{IsJoinFor, IsTicketFor}
 use Rattle.jc_rounds.specs.Rounds.{Round, faults_in}
 use Rattle.jc_rounds.specs.Seats.{view_of}
 use Rattle.jc_rounds.specs.SoFar.{AreHeldBack, AreIn, IsHeldAt}
 use Rattle.jc_rounds.specs.Starting.{HaveJoined, IsFull}
 use Rattle.jc_rounds.specs.Targets.{ops_of}
-use Rattle.jc_rounds.specs.Underway.{Advances, HasCommitted, HasNoRoom, HasStarted, IsAnswered, IsBetween, IsCommitting, IsCommittingNext, IsOn, IsPicking, IsPickingNext, IsStarting, KeepsJoined, Past, are_fresh, reserved_by}
+use Rattle.jc_rounds.specs.Underway.{Advances, CallPast, HasCommitted, HasNoRoom, HasStarted, IsAnswered, IsBetween, IsCommitting, IsCommittingNext, IsOn, IsPicking, IsPickingNext, IsStarting, KeepsJoined, are_fresh, reserved_by}
 use Rattle.jc_rounds.proofs.Failures.{cause_met, keeps_both, keeps_noted, noted_all}
 use Rattle.jc_rounds.proofs.Held.{full_by, full_later, held_next, not_held}
 use Rattle.jc_rounds.proofs.OnCall.{on_by}
@@ -49,7 +49,7 @@ noted_since call mid later same rest noted =
     subst (λ c. IsNoted c (failures later.progress.items) later.cause) same (subst (λ ps. IsNoted mid.cause (failures ps) later.cause) (sym (ap (λ (x : BulkCall). x.progress.items) rest)) noted)
 
 module _ {I J : Type 0} {D : I → Type 0} {E : J → Type 0} where
-  pub note_on : (cache : CacheState) (past : Past) (session : Session I J D E) (call later : BulkCall) (ts : List TicketClaim) (js : List JoinClaim) → later ≡ record call { cause = later.cause } → IsNoted call.cause (failures call.progress.items) later.cause
+  pub note_on : (cache : CacheState) (past : CallPast) (session : Session I J D E) (call later : BulkCall) (ts : List TicketClaim) (js : List JoinClaim) → later ≡ record call { cause = later.cause } → IsNoted call.cause (failures call.progress.items) later.cause
       → IsOn cache past session call ts js → IsOn cache past session later ts js × IsCauseIn later.cause (failures later.progress.items ++ faults_in past.rounds)
   note_on cache past session call later ts js rest noted on =
       let is : IsCauseIn later.cause (failures call.progress.items ++ faults_in past.rounds) = noted_all call.cause later.cause call.progress.items (faults_in past.rounds) on.met noted in
@@ -71,21 +71,21 @@ module _ {I J : Type 0} {D : I → Type 0} {E : J → Type 0} where
       subst (Advances old new call) (sym rest) (record { goes = a.goes; agent = a.agent; targets = a.targets; most = a.most; cause = keeps_both call.cause mid.cause later.cause a.cause (keeps_noted mid.cause later.cause (failures mid.progress.items) noted) })
 
   -- other tickets or joins, and as much room
-  pub re_ticket : (cache : CacheState) (past : Past) (session : Session I J D E) (call : BulkCall) (v : Vec TicketClaim) (ts : List TicketClaim) (js : List JoinClaim) → vec_capacity v ≡ vec_capacity call.tickets → IsOn cache past session call ts js → IsOn cache past session (record call { tickets = v }) ts js
+  pub re_ticket : (cache : CacheState) (past : CallPast) (session : Session I J D E) (call : BulkCall) (v : Vec TicketClaim) (ts : List TicketClaim) (js : List JoinClaim) → vec_capacity v ≡ vec_capacity call.tickets → IsOn cache past session call ts js → IsOn cache past session (record call { tickets = v }) ts js
   re_ticket cache past session call v ts js room on =
       on_by cache past session session call (record call { tickets = v }) (record { targets = refl; most = refl; cause = refl; tickets_room = room; joins_room = refl }) ts ts js js on on.under on.asked on.met
 
-  pub re_join : (cache : CacheState) (past : Past) (session : Session I J D E) (call : BulkCall) (v : Vec JoinClaim) (ts : List TicketClaim) (js : List JoinClaim) → vec_capacity v ≡ vec_capacity call.joins → IsOn cache past session call ts js → IsOn cache past session (record call { joins = v }) ts js
+  pub re_join : (cache : CacheState) (past : CallPast) (session : Session I J D E) (call : BulkCall) (v : Vec JoinClaim) (ts : List TicketClaim) (js : List JoinClaim) → vec_capacity v ≡ vec_capacity call.joins → IsOn cache past session call ts js → IsOn cache past session (record call { joins = v }) ts js
   re_join cache past session call v ts js room on =
       on_by cache past session session call (record call { joins = v }) (record { targets = refl; most = refl; cause = refl; tickets_room = refl; joins_room = room }) ts ts js js on on.under on.asked on.met
 
   -- 2. First phases.
 
-  abbrev pub Held : CacheState → Past → Session I J D E → Session I J D E → BulkCall → ℕ → Type 0
+  abbrev pub Held : CacheState → CallPast → Session I J D E → Session I J D E → BulkCall → ℕ → Type 0
   Held cache past old new call end =
       AreHeldBack (IsFull past.caller cache.config.stripes (ops_of call.targets.now) old.seats.items new.seats.items (length call.tickets.items)) end past.caller cache.config.stripes (ops_of call.targets.now) old.seats.items new.seats.items call.progress.items
 
-  pub start_from : (cache : CacheState) (past : Past) (session : Session I J D E) (call : BulkCall) → IsBetween cache past session call → IsStarting cache past session call 0
+  pub start_from : (cache : CacheState) (past : CallPast) (session : Session I J D E) (call : BulkCall) → IsBetween cache past session call → IsStarting cache past session call 0
   start_from cache past session call between =
       let u = between.on.under in
       let ops = ops_of call.targets.now in
@@ -93,17 +93,17 @@ module _ {I J : Type 0} {D : I → Type 0} {E : J → Type 0} where
         on = subst (λ ts. IsOn cache past session call ts call.joins.items) (sym between.no_tickets) (subst (IsOn cache past session call []) (sym between.no_joins) between.on);
         fresh = subst (are_fresh past.rounds) (sym between.no_tickets) tt;
         few = omega (arith, ap length between.no_tickets);
-        settled = λ i p le at. settled_by p (none_in is_reserved _ ops call.progress.items u.so_far.many u.calls_are i p at) (none_in is_joined _ ops call.progress.items u.so_far.many u.joins_are i p at);
+        settled = λ i p le at. settled_by p (none_in holds_reservation _ ops call.progress.items u.so_far.many u.calls_are i p at) (none_in waits_for_joined_load _ ops call.progress.items u.so_far.many u.joins_are i p at);
       }
 
   -- nothing has joined a load before the first phases
-  pub none_joined : (cache : CacheState) (past : Past) (session : Session I J D E) (call : BulkCall) → IsBetween cache past session call → HaveJoined past.caller cache.config.stripes (ops_of call.targets.now) session.seats.items session.seats.items call.progress.items
+  pub none_joined : (cache : CacheState) (past : CallPast) (session : Session I J D E) (call : BulkCall) → IsBetween cache past session call → HaveJoined past.caller cache.config.stripes (ops_of call.targets.now) session.seats.items session.seats.items call.progress.items
   none_joined cache past session call between place key op at there =
       let u = between.on.under in
-      absurd (true≢false (none_in is_joined _ (ops_of call.targets.now) call.progress.items u.so_far.many u.joins_are place Joined there))
+      absurd (true≢false (none_in waits_for_joined_load _ (ops_of call.targets.now) call.progress.items u.so_far.many u.joins_are place Joined there))
 
   -- one key more
-  pub start_more : (cache : CacheState) (past : Past) (a b c : Session I J D E) (x y z : BulkCall) (place : ℕ) → Advances a b x y → Advances b c y z → Held cache past a b y place → length y.tickets.items ≤ length z.tickets.items
+  pub start_more : (cache : CacheState) (past : CallPast) (a b c : Session I J D E) (x y z : BulkCall) (place : ℕ) → Advances a b x y → Advances b c y z → Held cache past a b y place → length y.tickets.items ≤ length z.tickets.items
       → HaveJoined past.caller cache.config.stripes (ops_of z.targets.now) a.seats.items c.seats.items z.progress.items → IsStarting cache past c z (place + 1)
       → IsHeldAt (StillWaits z.progress.items place × HasNoRoom z) place past.caller cache.config.stripes (ops_of z.targets.now) b.seats.items c.seats.items z.progress.items → Held cache past a c z (place + 1)
   start_more cache past a b c x y z place one two held more have starting here =
@@ -125,7 +125,7 @@ module _ {I J : Type 0} {D : I → Type 0} {E : J → Type 0} where
           z.most (vec_capacity z.joins) place (length z.tickets.items) on.distinct on.under.so_far.many none.0 have on.under.calls_are on.under.joins_are on.most on.joins_room (sym (as_many reserved_by z.tickets.items)) none.1
 
   -- there is no room for the key at this place
-  pub start_else : (cache : CacheState) (past : Past) (session : Session I J D E) (call : BulkCall) (place : ℕ) → slice_get call.progress.items place ≡ Some Waiting → HasNoRoom call
+  pub start_else : (cache : CacheState) (past : CallPast) (session : Session I J D E) (call : BulkCall) (place : ℕ) → slice_get call.progress.items place ≡ Some Waiting → HasNoRoom call
       → IsStarting cache past session call place
       → IsStarting cache past session call (place + 1) × (length call.tickets.items ≤ length call.tickets.items)
       × IsHeldAt (StillWaits call.progress.items place × HasNoRoom call) place past.caller cache.config.stripes (ops_of call.targets.now) session.seats.items session.seats.items call.progress.items × KeepsJoined past.caller cache session session call call
@@ -137,7 +137,7 @@ module _ {I J : Type 0} {D : I → Type 0} {E : J → Type 0} where
   )
 
   -- the key at this place doesn't wait
-  pub start_past : (cache : CacheState) (past : Past) (session : Session I J D E) (call : BulkCall) (place : ℕ) (q : Progress) → slice_get call.progress.items place ≡ Some q → is_waiting q ≡ false → IsStarting cache past session call place
+  pub start_past : (cache : CacheState) (past : CallPast) (session : Session I J D E) (call : BulkCall) (place : ℕ) (q : KeyProgress) → slice_get call.progress.items place ≡ Some q → waits_for_round q ≡ false → IsStarting cache past session call place
       → IsStarting cache past session call (place + 1) × (length call.tickets.items ≤ length call.tickets.items)
       × IsHeldAt (StillWaits call.progress.items place × HasNoRoom call) place past.caller cache.config.stripes (ops_of call.targets.now) session.seats.items session.seats.items call.progress.items × KeepsJoined past.caller cache session session call call
   start_past cache past session call place q here isnt starting = (
@@ -145,12 +145,12 @@ module _ {I J : Type 0} {D : I → Type 0} {E : J → Type 0} where
     omega arith,
     (λ key op p at there held. absurd (
         let same : q ≡ p = (let is : Some q ≡ Some p = sym here ∙ there in cc) in
-        not_held p (ap is_waiting (sym same) ∙ isnt) (starting.settled place p (omega arith) there) held
+        not_held p (ap waits_for_round (sym same) ∙ isnt) (starting.settled place p (omega arith) there) held
         )),
     λ start grown have. have,
   )
 
-  pub start_over : (cache : CacheState) (past : Past) (old new : Session I J D E) (call mid later : BulkCall) (place : ℕ) → Advances old new call mid → later ≡ record mid { cause = later.cause } → IsNoted mid.cause (failures mid.progress.items) later.cause → length mid.progress.items ≤ place
+  pub start_over : (cache : CacheState) (past : CallPast) (old new : Session I J D E) (call mid later : BulkCall) (place : ℕ) → Advances old new call mid → later ≡ record mid { cause = later.cause } → IsNoted mid.cause (failures mid.progress.items) later.cause → length mid.progress.items ≤ place
       → IsStarting cache past new mid place → Held cache past old new mid place → HasStarted cache past old new later
   start_over cache past old new call mid later place advances rest noted end starting held =
       let on = (note_on cache past new mid later mid.tickets.items mid.joins.items rest noted starting.on).0 in
@@ -163,14 +163,14 @@ module _ {I J : Type 0} {D : I → Type 0} {E : J → Type 0} where
 
   -- 3. Last phases.
 
-  pub commit_noted : (cache : CacheState) (past : Past) (session : Session I J D E) (mid later : BulkCall) → later ≡ record mid { cause = later.cause } → IsNoted mid.cause (failures mid.progress.items) later.cause → mid.tickets.items ≡ []
+  pub commit_noted : (cache : CacheState) (past : CallPast) (session : Session I J D E) (mid later : BulkCall) → later ≡ record mid { cause = later.cause } → IsNoted mid.cause (failures mid.progress.items) later.cause → mid.tickets.items ≡ []
       → IsOn cache past session mid [] mid.joins.items → HasCommitted cache past session later
   commit_noted cache past session mid later rest noted none on = record {
     on = subst (IsOn cache past session later []) (ap (λ (x : BulkCall). x.joins.items) (sym rest)) (note_on cache past session mid later [] mid.joins.items rest noted on).0;
     no_tickets = ap (λ (x : BulkCall). x.tickets.items) rest ∙ none;
   }
 
-  pub commit_from : (cache : CacheState) (past : Past) (round : Round) (session : Session I J D E) (call : BulkCall) (v : Vec TicketClaim) (a : Answers) → v.items ≡ reverse call.tickets.items → vec_capacity v ≡ vec_capacity call.tickets
+  pub commit_from : (cache : CacheState) (past : CallPast) (round : Round) (session : Session I J D E) (call : BulkCall) (v : Vec TicketClaim) (a : RoundAnswers) → v.items ≡ reverse call.tickets.items → vec_capacity v ≡ vec_capacity call.tickets
       → IsAnswered cache past round session call a → IsCommitting cache past round session (record call { tickets = v }) a 0
   commit_from cache past round session call v a is room answered =
       let back : call.tickets.items ≡ reverse v.items = sym (ap reverse is ∙ reverse-reverse call.tickets.items) in
@@ -181,7 +181,7 @@ module _ {I J : Type 0} {D : I → Type 0} {E : J → Type 0} where
         committed = λ place p less at. absurd (omega (arith, less));
       }
 
-  pub next_commit : (cache : CacheState) (past : Past) (round : Round) (session : Session I J D E) (call : BulkCall) (v : Vec TicketClaim) (t : TicketClaim) (a : Answers) (place : ℕ) → call.tickets.items ≡ v.items ++ t ∷ [] → vec_capacity v ≡ vec_capacity call.tickets
+  pub next_commit : (cache : CacheState) (past : CallPast) (round : Round) (session : Session I J D E) (call : BulkCall) (v : Vec TicketClaim) (t : TicketClaim) (a : RoundAnswers) (place : ℕ) → call.tickets.items ≡ v.items ++ t ∷ [] → vec_capacity v ≡ vec_capacity call.tickets
       → IsCommitting cache past round session call a place → IsCommittingNext cache past round session (record call { tickets = v }) t a place
   next_commit cache past round session call v t a place is room c =
       let first : reverse call.tickets.items ≡ t ∷ reverse v.items = last_first call.tickets.items v.items t is in
@@ -193,22 +193,22 @@ module _ {I J : Type 0} {D : I → Type 0} {E : J → Type 0} where
       }
 
   -- a key that is reserved has a ticket
-  pub commit_none : (cache : CacheState) (past : Past) (round : Round) (session : Session I J D E) (call : BulkCall) (a : Answers) (place : ℕ) → slice_get call.progress.items place ≡ Some Reserved → call.tickets.items ≡ [] → IsCommitting cache past round session call a place → ⊥
+  pub commit_none : (cache : CacheState) (past : CallPast) (round : Round) (session : Session I J D E) (call : BulkCall) (a : RoundAnswers) (place : ℕ) → slice_get call.progress.items place ≡ Some Reserved → call.tickets.items ≡ [] → IsCommitting cache past round session call a place → ⊥
   commit_none cache past round session call a place there none c =
       let u = c.on.under in
-      true≢false (none_in is_reserved _ (ops_of call.targets.now) call.progress.items u.so_far.many (subst (AreIn is_reserved (IsTicketFor past.caller cache.config) (ops_of call.targets.now) call.progress.items) (ap (λ ts. map reserved_by (reverse ts)) none) u.calls_are) place Reserved there)
+      true≢false (none_in holds_reservation _ (ops_of call.targets.now) call.progress.items u.so_far.many (subst (AreIn holds_reservation (IsTicketFor past.caller cache.config) (ops_of call.targets.now) call.progress.items) (ap (λ ts. map reserved_by (reverse ts)) none) u.calls_are) place Reserved there)
 
-  pub commit_past : (cache : CacheState) (past : Past) (round : Round) (session : Session I J D E) (call : BulkCall) (a : Answers) (place : ℕ) (q : Progress) → slice_get call.progress.items place ≡ Some q → is_reserved q ≡ false
+  pub commit_past : (cache : CacheState) (past : CallPast) (round : Round) (session : Session I J D E) (call : BulkCall) (a : RoundAnswers) (place : ℕ) (q : KeyProgress) → slice_get call.progress.items place ≡ Some q → holds_reservation q ≡ false
       → IsCommitting cache past round session call a place → IsCommitting cache past round session call a (place + 1)
   commit_past cache past round session call a place q there isnt c =
-      record { on = c.on; among = c.among; answered = c.answered; committed = under_next is_reserved call.progress.items place q there isnt c.committed }
+      record { on = c.on; among = c.among; answered = c.answered; committed = under_next holds_reservation call.progress.items place q there isnt c.committed }
 
-  pub commit_over : (cache : CacheState) (past : Past) (round : Round) (session : Session I J D E) (call : BulkCall) (a : Answers) (place : ℕ) → length call.progress.items ≤ place → IsCommitting cache past round session call a place
+  pub commit_over : (cache : CacheState) (past : CallPast) (round : Round) (session : Session I J D E) (call : BulkCall) (a : RoundAnswers) (place : ℕ) → length call.progress.items ≤ place → IsCommitting cache past round session call a place
       → (call.tickets.items ≡ []) × AreAnswers cache.config round a [] × IsOn cache past session call [] call.joins.items
   commit_over cache past round session call a place end c =
       let u = c.on.under in
       let none : reverse call.tickets.items ≡ [] =
-      none_mapped (reverse call.tickets.items) (nothing_out is_reserved _ (ops_of call.targets.now) call.progress.items (map reserved_by (reverse call.tickets.items)) (none_at_all is_reserved call.progress.items place end c.committed) u.calls_are) in (
+      none_mapped (reverse call.tickets.items) (nothing_out holds_reservation _ (ops_of call.targets.now) call.progress.items (map reserved_by (reverse call.tickets.items)) (none_at_all holds_reservation call.progress.items place end c.committed) u.calls_are) in (
         sym (reverse-reverse call.tickets.items) ∙ ap reverse none,
         subst (λ ts. AreAnswers cache.config round a (map reserved_by ts)) none c.answered,
         subst (λ ts. IsOn cache past session call ts call.joins.items) none c.on,
@@ -216,7 +216,7 @@ module _ {I J : Type 0} {D : I → Type 0} {E : J → Type 0} where
 
   -- 4. Pick-ups.
 
-  pub pick_from : (cache : CacheState) (past : Past) (session : Session I J D E) (call : BulkCall) (v : Vec JoinClaim) → v.items ≡ reverse call.joins.items → vec_capacity v ≡ vec_capacity call.joins
+  pub pick_from : (cache : CacheState) (past : CallPast) (session : Session I J D E) (call : BulkCall) (v : Vec JoinClaim) → v.items ≡ reverse call.joins.items → vec_capacity v ≡ vec_capacity call.joins
       → HasCommitted cache past session call → IsPicking cache past session (record call { joins = v }) 0
   pick_from cache past session call v is room has = record {
     on = re_join cache past session call v [] (reverse v.items) room (subst (IsOn cache past session call []) (sym (ap reverse is ∙ reverse-reverse call.joins.items)) has.on);
@@ -224,7 +224,7 @@ module _ {I J : Type 0} {D : I → Type 0} {E : J → Type 0} where
     picked = λ place p less at. absurd (omega (arith, less));
   }
 
-  pub next_pick : (cache : CacheState) (past : Past) (session : Session I J D E) (call : BulkCall) (v : Vec JoinClaim) (j : JoinClaim) (place : ℕ) → call.joins.items ≡ v.items ++ j ∷ [] → vec_capacity v ≡ vec_capacity call.joins
+  pub next_pick : (cache : CacheState) (past : CallPast) (session : Session I J D E) (call : BulkCall) (v : Vec JoinClaim) (j : JoinClaim) (place : ℕ) → call.joins.items ≡ v.items ++ j ∷ [] → vec_capacity v ≡ vec_capacity call.joins
       → IsPicking cache past session call place → IsPickingNext cache past session (record call { joins = v }) j place
   next_pick cache past session call v j place is room c = record {
     on = re_join cache past session call v [] (j ∷ reverse v.items) room (subst (IsOn cache past session call []) (last_first call.joins.items v.items j is) c.on);
@@ -232,21 +232,21 @@ module _ {I J : Type 0} {D : I → Type 0} {E : J → Type 0} where
     picked = c.picked;
   }
 
-  pub pick_none : (cache : CacheState) (past : Past) (session : Session I J D E) (call : BulkCall) (place : ℕ) → slice_get call.progress.items place ≡ Some Joined → call.joins.items ≡ [] → IsPicking cache past session call place → ⊥
+  pub pick_none : (cache : CacheState) (past : CallPast) (session : Session I J D E) (call : BulkCall) (place : ℕ) → slice_get call.progress.items place ≡ Some Joined → call.joins.items ≡ [] → IsPicking cache past session call place → ⊥
   pick_none cache past session call place there none c =
       let u = c.on.under in
-      true≢false (none_in is_joined _ (ops_of call.targets.now) call.progress.items u.so_far.many (subst (AreIn is_joined (λ k o j. IsJoinFor past.caller (view_of cache.config.stripes past.first k) k o j) (ops_of call.targets.now) call.progress.items) (ap reverse none) u.joins_are) place Joined there)
+      true≢false (none_in waits_for_joined_load _ (ops_of call.targets.now) call.progress.items u.so_far.many (subst (AreIn waits_for_joined_load (λ k o j. IsJoinFor past.caller (view_of cache.config.stripes past.first k) k o j) (ops_of call.targets.now) call.progress.items) (ap reverse none) u.joins_are) place Joined there)
 
-  pub pick_past : (cache : CacheState) (past : Past) (session : Session I J D E) (call : BulkCall) (place : ℕ) (q : Progress) → slice_get call.progress.items place ≡ Some q → is_joined q ≡ false → IsPicking cache past session call place → IsPicking cache past session call (place + 1)
-  pick_past cache past session call place q there isnt c = record { on = c.on; no_tickets = c.no_tickets; picked = under_next is_joined call.progress.items place q there isnt c.picked }
+  pub pick_past : (cache : CacheState) (past : CallPast) (session : Session I J D E) (call : BulkCall) (place : ℕ) (q : KeyProgress) → slice_get call.progress.items place ≡ Some q → waits_for_joined_load q ≡ false → IsPicking cache past session call place → IsPicking cache past session call (place + 1)
+  pick_past cache past session call place q there isnt c = record { on = c.on; no_tickets = c.no_tickets; picked = under_next waits_for_joined_load call.progress.items place q there isnt c.picked }
 
-  pub pick_over : (cache : CacheState) (past : Past) (session : Session I J D E) (call : BulkCall) (place : ℕ) → length call.progress.items ≤ place → IsPicking cache past session call place → (call.joins.items ≡ []) × IsOn cache past session call [] []
+  pub pick_over : (cache : CacheState) (past : CallPast) (session : Session I J D E) (call : BulkCall) (place : ℕ) → length call.progress.items ≤ place → IsPicking cache past session call place → (call.joins.items ≡ []) × IsOn cache past session call [] []
   pick_over cache past session call place end c =
       let u = c.on.under in
-      let none : reverse call.joins.items ≡ [] = nothing_out is_joined _ (ops_of call.targets.now) call.progress.items (reverse call.joins.items) (none_at_all is_joined call.progress.items place end c.picked) u.joins_are in
+      let none : reverse call.joins.items ≡ [] = nothing_out waits_for_joined_load _ (ops_of call.targets.now) call.progress.items (reverse call.joins.items) (none_at_all waits_for_joined_load call.progress.items place end c.picked) u.joins_are in
       (sym (reverse-reverse call.joins.items) ∙ ap reverse none, subst (IsOn cache past session call []) none c.on)
 
-  pub pick_noted : (cache : CacheState) (past : Past) (session : Session I J D E) (mid later : BulkCall) → later ≡ record mid { cause = later.cause } → IsNoted mid.cause (failures mid.progress.items) later.cause → mid.tickets.items ≡ [] → mid.joins.items ≡ []
+  pub pick_noted : (cache : CacheState) (past : CallPast) (session : Session I J D E) (mid later : BulkCall) → later ≡ record mid { cause = later.cause } → IsNoted mid.cause (failures mid.progress.items) later.cause → mid.tickets.items ≡ [] → mid.joins.items ≡ []
       → IsOn cache past session mid [] [] → IsBetween cache past session later
   pick_noted cache past session mid later rest noted none free on =
       let noted_is = note_on cache past session mid later [] [] rest noted on in

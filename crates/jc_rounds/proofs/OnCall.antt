@@ -36,23 +36,23 @@ use Rattle.jc_session.specs.declared.counts.Counted.{Counted}
 use Rattle.jc_session.specs.declared.counts.Counted.TheVariants.{Committed}
 use Rattle.jc_cache.specs.Caches.{CacheState}
 use Rattle.jc_session.specs.declared.session.Session.{Session}
-use Rattle.jc_rounds.specs.declared.answers.Answers.{Answers}
-use Rattle.jc_rounds.specs.declared.answers.Answers.TheVariants as answers
+use Rattle.jc_rounds.specs.declared.answers.RoundAnswers.{RoundAnswers}
+use Rattle.jc_rounds.specs.declared.answers.RoundAnswers.TheVariants as answers
 use Rattle.jc_rounds.specs.declared.bulk_call.BulkCall.{BulkCall}
-use Rattle.jc_rounds.specs.declared.progress.Progress.{Progress}
-use Rattle.jc_rounds.specs.declared.progress.Progress.TheVariants.{Waiting, Reserved, Joined, Ended}
+use Rattle.jc_rounds.specs.declared.progress.KeyProgress.{KeyProgress}
+use Rattle.jc_rounds.specs.declared.progress.KeyProgress.TheVariants.{Waiting, Reserved, Joined, Ended}
 use Rattle.jc_rounds.specs.Answers.{AreAnswers}
-use Rattle.jc_rounds.specs.Asking.{HasAsked}
+use Rattle.jc_rounds.specs.Asking.{HasAskedSoFar}
 use Rattle.jc_rounds.specs.KeyPhases.{IsKeyPhase, MayStep}
-use Rattle.jc_rounds.specs.KeyProgress.{IsMet, StayEnded, failures, is_held_back, is_joined, is_reserved}
+use Rattle.jc_rounds.specs.KeyProgress.{IsMet, StayEnded, failures, holds_reservation, is_held_back, waits_for_joined_load}
 use Rattle.jc_rounds.specs.Keys.{HasBegun, HasPicked, IsCommitted, IsEarly, IsJoinFor}
 use Rattle.jc_rounds.specs.Rounds.{IsAnswer, LoadAll, ProcessAll, Round, WriteAll, asked_in, faults_in, keys_asked}
 use Rattle.jc_rounds.specs.Seats.{AreBefore, HasGrown, view_of}
 use Rattle.jc_rounds.specs.Recorded.{steps_of}
 use Rattle.jc_types.specs.declared.caller.Caller.{Caller}
-use Rattle.jc_rounds.specs.SoFar.{AreSettledFrom, AreUnder, GoesOn, IsHeldAt, IsKept, IsPicked, IsUnderway}
+use Rattle.jc_rounds.specs.SoFar.{AreSettledFrom, AreUnder, IsHeldAt, IsKept, IsPicked, IsUnderway, KeysAdvance}
 use Rattle.jc_rounds.specs.Targets.{ops_of}
-use Rattle.jc_rounds.specs.Underway.{Advances, AdvancesUnnoted, HasRoom, IsCommitting, IsCommittingNext, IsFresh, IsOn, IsPicking, IsPickingNext, IsStarting, KeepsJoined, KeepsRoom, Past, are_fresh, reserved_by}
+use Rattle.jc_rounds.specs.Underway.{Advances, AdvancesUnnoted, CallPast, HasRoom, IsCommitting, IsCommittingNext, IsFresh, IsOn, IsPicking, IsPickingNext, IsStarting, KeepsJoined, KeepsRoom, are_fresh, reserved_by}
 use Rattle.jc_rounds.proofs.Asked.{asked_set, unasked_at}
 use Rattle.jc_rounds.proofs.Failures.{among_after, among_either, failures_stay, keeps_both, keeps_itself, keeps_same}
 use Rattle.jc_rounds.proofs.Held.{goes_both, goes_itself, goes_set, have_more, held_at, kept_held, set_there}
@@ -66,7 +66,7 @@ pub record SameCall (call later : BulkCall) : Type 0 where
   pub tickets_room : vec_capacity later.tickets ≡ vec_capacity call.tickets
   pub joins_room : vec_capacity later.joins ≡ vec_capacity call.joins
 
-pub same_kept : (call mid : BulkCall) (qs : Vec Progress) → KeepsRoom call mid → SameCall call (record mid { progress = qs })
+pub same_kept : (call mid : BulkCall) (qs : Vec KeyProgress) → KeepsRoom call mid → SameCall call (record mid { progress = qs })
 same_kept call mid qs keeps = record {
   targets = ap (λ (x : BulkCall). x.targets) keeps.rest;
   most = ap (λ (x : BulkCall). x.most) keeps.rest;
@@ -76,7 +76,7 @@ same_kept call mid qs keeps = record {
 }
 
 -- the place of a key is one of the vector's
-pub near_in : (ps : Vec Progress) (place : ℕ) (p : Progress) → slice_get ps.items place ≡ Some p → place < vec_len ps
+pub near_in : (ps : Vec KeyProgress) (place : ℕ) (p : KeyProgress) → slice_get ps.items place ≡ Some p → place < vec_len ps
 near_in ps place p there = omega (arith, place_near ps.items place p there, ps.ok.0)
 
 pub progress_kept : (call mid : BulkCall) → KeepsRoom call mid → mid.progress.items ≡ call.progress.items
@@ -84,7 +84,7 @@ progress_kept call mid keeps = ap (λ (x : BulkCall). x.progress.items) keeps.re
 
 -- 1. The cause.
 
-pub met_stay : (cause : Option Refusal) (ps qs : List Progress) (faults : List Refusal) → StayEnded ps qs → IsMet cause ps faults → IsMet cause qs faults
+pub met_stay : (cause : Option Refusal) (ps qs : List KeyProgress) (faults : List Refusal) → StayEnded ps qs → IsMet cause ps faults → IsMet cause qs faults
 met_stay None ps qs faults stay met = met
 met_stay (Some c) ps qs faults stay met = by (among_either (failures ps) faults c met)
   where
@@ -94,7 +94,7 @@ met_stay (Some c) ps qs faults stay met = by (among_either (failures ps) faults 
 
 -- 2. The call goes on.
 
-module _ {I J : Type 0} {D : I → Type 0} {E : J → Type 0} (cache : CacheState) (past : Past) (session : Session I J D E) (call : BulkCall) where
+module _ {I J : Type 0} {D : I → Type 0} {E : J → Type 0} (cache : CacheState) (past : CallPast) (session : Session I J D E) (call : BulkCall) where
   -- the session may make its next phase at a key
   pub may_start : (place : ℕ) (key : Bytes) (op : Op) → slice_get (ops_of call.targets.now) place ≡ Some (key, op) → slice_get call.progress.items place ≡ Some Waiting → IsStarting cache past session call place
       → MayStep cache session key × AreBefore session.agent.caller session.seats.items
@@ -104,7 +104,7 @@ module _ {I J : Type 0} {D : I → Type 0} {E : J → Type 0} (cache : CacheStat
         subst (λ (w : Caller). AreBefore w session.seats.items) (sym u.caller_is) u.so_far.numbers,
       )
 
-  pub may_commit : (round : Round) (place : ℕ) (ticket : TicketClaim) (a : Answers) → slice_get call.progress.items place ≡ Some Reserved → IsCommittingNext cache past round session call ticket a place
+  pub may_commit : (round : Round) (place : ℕ) (ticket : TicketClaim) (a : RoundAnswers) → slice_get call.progress.items place ≡ Some Reserved → IsCommittingNext cache past round session call ticket a place
       → MayStep cache session ticket.reservation.key × ((ticket.reservation.caller ≡ session.agent.caller) × IsEarly session.agent.caller)
   may_commit round place ticket a there next =
       let u = next.on.under in
@@ -146,7 +146,7 @@ all_then : (rounds : List Round) (ts : List TicketClaim) (t : TicketClaim) → a
 all_then rounds [] t all one = (one, tt)
 all_then rounds (x ∷ ts) t all one = (all.0, all_then rounds ts t all.1 one)
 
-fresh_more : (rounds : List Round) (caller : Caller) (config : Config) (v w : View) (key : Bytes) (op : Op) (b : Begun) (p : Progress) (ts ts' : List TicketClaim) (js js' : List JoinClaim) → HasBegun caller config v w key op b → IsKept b p ts ts' js js'
+fresh_more : (rounds : List Round) (caller : Caller) (config : Config) (v w : View) (key : Bytes) (op : Op) (b : Begun) (p : KeyProgress) (ts ts' : List TicketClaim) (js js' : List JoinClaim) → HasBegun caller config v w key op b → IsKept b p ts ts' js js'
     → is_among (asked_in rounds) key ≡ false → are_fresh rounds ts → are_fresh rounds ts'
 fresh_more rounds caller config v w key op (begun.Asks ticket) p ts ts' js js' has kept unasked all =
     subst (are_fresh rounds) (sym kept.1) (all_then rounds ts ticket all (has.1, has.2, ap (is_among (asked_in rounds)) has.3.key_is ∙ unasked))
@@ -154,14 +154,14 @@ fresh_more rounds caller config v w key op (begun.Done done) p ts ts' js js' has
 fresh_more rounds caller config v w key op (begun.Refused refusal) p ts ts' js js' has kept unasked all = subst (are_fresh rounds) (sym kept.1) all
 fresh_more rounds caller config v w key op (begun.Joined join) p ts ts' js js' has kept unasked all = subst (are_fresh rounds) (sym kept.1) all
 
-pub kept_more : (b : Begun) (p : Progress) (ts ts' : List TicketClaim) (js js' : List JoinClaim) → IsKept b p ts ts' js js' → (length ts ≤ length ts') × (length ts' ≤ length ts + 1)
+pub kept_more : (b : Begun) (p : KeyProgress) (ts ts' : List TicketClaim) (js js' : List JoinClaim) → IsKept b p ts ts' js js' → (length ts ≤ length ts') × (length ts' ≤ length ts + 1)
 kept_more (begun.Asks ticket) p ts ts' js js' kept = let n = ap length kept.1 ∙ length-append ts (ticket ∷ []) in (omega (arith, n), omega (arith, n))
 kept_more (begun.Done done) p ts ts' js js' kept = let n = ap length kept.1 in (omega (arith, n), omega (arith, n))
 kept_more (begun.Refused refusal) p ts ts' js js' kept = let n = ap length kept.1 in (omega (arith, n), omega (arith, n))
 kept_more (begun.Joined join) p ts ts' js js' kept = let n = ap length kept.1 in (omega (arith, n), omega (arith, n))
 
 -- a round asked for the key of each reservation that it answers
-asked_next : (config : Config) (round : Round) (a : Answers) (r : Reservation) (rest : List Reservation) → AreAnswers config round a (r ∷ rest) → is_among (keys_asked round) r.key ≡ true
+asked_next : (config : Config) (round : Round) (a : RoundAnswers) (r : Reservation) (rest : List Reservation) → AreAnswers config round a (r ∷ rest) → is_among (keys_asked round) r.key ≡ true
 asked_next config (LoadAll round) (answers.Loads done) r rest are = are.1.0.1
 asked_next config (WriteAll round) (answers.Writes done) r rest are = are.1.0.1
 asked_next config (ProcessAll round) (answers.Processes done written deleted) r rest are = are.1.0.1
@@ -172,37 +172,37 @@ asked_next config (WriteAll round) (answers.Processes done written deleted) r re
 asked_next config (ProcessAll round) (answers.Loads done) r rest are = absurd are
 asked_next config (ProcessAll round) (answers.Writes done) r rest are = absurd are
 
-module _ {I J : Type 0} {D : I → Type 0} {E : J → Type 0} (cache : CacheState) (past : Past) (old new : Session I J D E) (call later : BulkCall) (same : SameCall call later) where
+module _ {I J : Type 0} {D : I → Type 0} {E : J → Type 0} (cache : CacheState) (past : CallPast) (old new : Session I J D E) (call later : BulkCall) (same : SameCall call later) where
   pub on_by : (ts ts' : List TicketClaim) (js js' : List JoinClaim) → IsOn cache past old call ts js
       → IsUnderway cache past.caller (ops_of call.targets.now) past.rounds past.first new later.progress.items (map reserved_by ts') js'
-      → HasAsked cache.config (ops_of call.targets.now) past.rounds later.progress.items → IsMet call.cause later.progress.items (faults_in past.rounds) → IsOn cache past new later ts' js'
+      → HasAskedSoFar cache.config (ops_of call.targets.now) past.rounds later.progress.items → IsMet call.cause later.progress.items (faults_in past.rounds) → IsOn cache past new later ts' js'
   on_by ts ts' js js' on under asked met = record {
     distinct = subst (λ t. IsDistinct (pointwise ◌==◌) (keys_of (ops_of t.now))) (sym same.targets) on.distinct;
     under = subst (λ t. IsUnderway cache past.caller (ops_of t.now) past.rounds past.first new later.progress.items (map reserved_by ts') js') (sym same.targets) under;
-    asked = subst (λ t. HasAsked cache.config (ops_of t.now) past.rounds later.progress.items) (sym same.targets) asked;
+    asked = subst (λ t. HasAskedSoFar cache.config (ops_of t.now) past.rounds later.progress.items) (sym same.targets) asked;
     met = subst (λ c. IsMet c later.progress.items (faults_in past.rounds)) (sym same.cause) met;
     tickets_room = omega (arith, on.tickets_room, same.tickets_room, same.most);
     most = subst (λ t. IsRoomFor RESERVATIONS_MAX (length (ops_of t.now)) cache.config.stripes later.most) (sym same.targets) (subst (IsRoomFor RESERVATIONS_MAX (length (ops_of call.targets.now)) cache.config.stripes) (sym same.most) on.most);
     joins_room = subst (λ t. IsRoomFor JOINERS_MAX (length (ops_of t.now)) cache.config.stripes (vec_capacity later.joins)) (sym same.targets) (subst (IsRoomFor JOINERS_MAX (length (ops_of call.targets.now)) cache.config.stripes) (sym same.joins_room) on.joins_room);
   }
 
-  pub advances_by : (counted : Counted) (key : Bytes) (Made : Type 0) (place : ℕ) (q p : Progress) → later.progress.items ≡ set call.progress.items place p → slice_get call.progress.items place ≡ Some q
+  pub advances_by : (counted : Counted) (key : Bytes) (Made : Type 0) (place : ℕ) (q p : KeyProgress) → later.progress.items ≡ set call.progress.items place p → slice_get call.progress.items place ≡ Some q
       → ((e : Result Reply Refusal) → q ≡ Ended e → ⊥) → (is_held_back p ≡ true → is_held_back q ≡ true) → IsKeyPhase cache old key counted new Made → Advances old new call later
   advances_by counted key Made place q p is there unended held phase = record {
-    goes = subst (GoesOn old.seats.items new.seats.items call.progress.items) (sym is) (goes_set old.seats.items new.seats.items call.progress.items place q p phase.moves.grown there unended held);
+    goes = subst (KeysAdvance old.seats.items new.seats.items call.progress.items) (sym is) (goes_set old.seats.items new.seats.items call.progress.items place q p phase.moves.grown there unended held);
     agent = phase.agent ∙ ap (λ k. record old.agent { counts = k }) (sym (ap (λ (a : Agent I J D E). a.counts) phase.agent));
     targets = same.targets;
     most = same.most;
     cause = keeps_same call.cause later.cause same.cause;
   }
 
-  pub unnoted_by : (counted : Counted) (key : Bytes) (Made : Type 0) (place : ℕ) (q p : Progress) → later.progress.items ≡ set call.progress.items place p → slice_get call.progress.items place ≡ Some q
+  pub unnoted_by : (counted : Counted) (key : Bytes) (Made : Type 0) (place : ℕ) (q p : KeyProgress) → later.progress.items ≡ set call.progress.items place p → slice_get call.progress.items place ≡ Some q
       → ((e : Result Reply Refusal) → q ≡ Ended e → ⊥) → (is_held_back p ≡ true → is_held_back q ≡ true) → IsKeyPhase cache old key counted new Made → AdvancesUnnoted old new call later
   unnoted_by counted key Made place q p is there unended held phase = record { advances = advances_by counted key Made place q p is there unended held phase; cause = same.cause }
 
   -- 3. First phases.
 
-  pub starting_on : (place : ℕ) (key : Bytes) (op : Op) (b : Begun) (p : Progress) → later.progress.items ≡ set call.progress.items place p → slice_get (ops_of call.targets.now) place ≡ Some (key, op) → slice_get call.progress.items place ≡ Some Waiting
+  pub starting_on : (place : ℕ) (key : Bytes) (op : Op) (b : Begun) (p : KeyProgress) → later.progress.items ≡ set call.progress.items place p → slice_get (ops_of call.targets.now) place ≡ Some (key, op) → slice_get call.progress.items place ≡ Some Waiting
       → HasRoom call → IsKept b p call.tickets.items later.tickets.items call.joins.items later.joins.items
       → IsKeyPhase cache old key (counted_begun b) new (HasBegun old.agent.caller cache.config (view_of cache.config.stripes old.seats.items key) (view_of cache.config.stripes new.seats.items key) key op b)
       → IsStarting cache past old call place → IsStarting cache past new later (place + 1)
@@ -215,14 +215,14 @@ module _ {I J : Type 0} {D : I → Type 0} {E : J → Type 0} (cache : CacheStat
         on = on_by call.tickets.items later.tickets.items call.joins.items later.joins.items on
             (subst (λ qs. IsUnderway cache past.caller ops past.rounds past.first new qs (map reserved_by later.tickets.items) later.joins.items) (sym is)
             (started_on cache past.caller ops past.rounds past.first old new ps call.tickets.items later.tickets.items call.joins.items later.joins.items place key op b p on.distinct at (place_near ps place Waiting waits) waits starting.settled unasked phase room.few_tickets room.few_joins kept on.under))
-            (subst (HasAsked cache.config ops past.rounds) (sym is) (asked_set cache.config ops past.rounds ps place key op Waiting p at waits (inl unasked) on.asked))
+            (subst (HasAskedSoFar cache.config ops past.rounds) (sym is) (asked_set cache.config ops past.rounds ps place key op Waiting p at waits (inl unasked) on.asked))
             (subst (λ qs. IsMet call.cause qs (faults_in past.rounds)) (sym is) (met_stay call.cause ps (set ps place p) (faults_in past.rounds) (stay_set ps place Waiting p waits (λ e bad. cc)) on.met));
         fresh = fresh_more past.rounds old.agent.caller cache.config _ _ key op b p call.tickets.items later.tickets.items call.joins.items later.joins.items phase.made kept unasked starting.fresh;
         few = omega (arith, (kept_more b p call.tickets.items later.tickets.items call.joins.items later.joins.items kept).1, room.tickets, same.most);
         settled = subst (AreSettledFrom (place + 1)) (sym is) (settled_set ps place p starting.settled);
       }
 
-  pub held_by : (place : ℕ) (key : Bytes) (op : Op) (b : Begun) (p : Progress) → later.progress.items ≡ set call.progress.items place p → slice_get (ops_of call.targets.now) place ≡ Some (key, op) → slice_get call.progress.items place ≡ Some Waiting
+  pub held_by : (place : ℕ) (key : Bytes) (op : Op) (b : Begun) (p : KeyProgress) → later.progress.items ≡ set call.progress.items place p → slice_get (ops_of call.targets.now) place ≡ Some (key, op) → slice_get call.progress.items place ≡ Some Waiting
       → IsKept b p call.tickets.items later.tickets.items call.joins.items later.joins.items
       → IsKeyPhase cache old key (counted_begun b) new (HasBegun old.agent.caller cache.config (view_of cache.config.stripes old.seats.items key) (view_of cache.config.stripes new.seats.items key) key op b)
       → IsStarting cache past old call place → IsHeldAt ⊥ place past.caller cache.config.stripes (ops_of later.targets.now) old.seats.items new.seats.items later.progress.items
@@ -236,7 +236,7 @@ module _ {I J : Type 0} {D : I → Type 0} {E : J → Type 0} (cache : CacheStat
       (held_at past.caller n (ops_of call.targets.now) old.seats.items new.seats.items (set call.progress.items place p) place (key, op) p at (set_there call.progress.items place p (place_near call.progress.items place Waiting waits))
       (kept_held past.caller cache.config (view_of n old.seats.items key) (view_of n new.seats.items key) key op b p call.tickets.items later.tickets.items call.joins.items later.joins.items has kept)))
 
-  pub kept_joined : (place : ℕ) (key : Bytes) (op : Op) (b : Begun) (p : Progress) → later.progress.items ≡ set call.progress.items place p → slice_get (ops_of call.targets.now) place ≡ Some (key, op)
+  pub kept_joined : (place : ℕ) (key : Bytes) (op : Op) (b : Begun) (p : KeyProgress) → later.progress.items ≡ set call.progress.items place p → slice_get (ops_of call.targets.now) place ≡ Some (key, op)
       → IsKept b p call.tickets.items later.tickets.items call.joins.items later.joins.items
       → IsKeyPhase cache old key (counted_begun b) new (HasBegun old.agent.caller cache.config (view_of cache.config.stripes old.seats.items key) (view_of cache.config.stripes new.seats.items key) key op b)
       → IsStarting cache past old call place → KeepsJoined past.caller cache old new call later
@@ -250,7 +250,7 @@ module _ {I J : Type 0} {D : I → Type 0} {E : J → Type 0} (cache : CacheStat
 
   -- 4. Last phases.
 
-  pub committing_on : (round : Round) (place : ℕ) (ticket : TicketClaim) (reply : Reply) (a a' : Answers) → later.progress.items ≡ set call.progress.items place (Ended (Ok reply)) → later.tickets.items ≡ call.tickets.items → later.joins.items ≡ call.joins.items
+  pub committing_on : (round : Round) (place : ℕ) (ticket : TicketClaim) (reply : Reply) (a a' : RoundAnswers) → later.progress.items ≡ set call.progress.items place (Ended (Ok reply)) → later.tickets.items ≡ call.tickets.items → later.joins.items ≡ call.joins.items
       → slice_get call.progress.items place ≡ Some Reserved → AreAnswers cache.config round a' (map reserved_by (reverse call.tickets.items))
       → IsKeyPhase cache old ticket.reservation.key Committed new
       ((out : Out) × IsAnswer cache.config round ticket.reservation.key ticket.reservation.first out
@@ -269,16 +269,16 @@ module _ {I J : Type 0} {D : I → Type 0} {E : J → Type 0} (cache : CacheStat
             (subst (λ qs. IsUnderway cache past.caller ops past.rounds past.first new qs others call.joins.items) (sym is)
             (committed_on cache past.caller ops past.rounds past.first old new ps r phase.made.0 others call.joins.items place reply round on.distinct there next.committed next.among (asked_next cache.config round a r others next.answered) phase.made.1
             (record { own = phase.own; agent = phase.agent; moves = phase.moves; made = phase.made.2 }) on.under))
-            (subst (HasAsked cache.config ops past.rounds) (sym is) (asked_set cache.config ops past.rounds ps place r.key t.0 Reserved (Ended (Ok reply)) t.1 there (inr refl) on.asked))
+            (subst (HasAskedSoFar cache.config ops past.rounds) (sym is) (asked_set cache.config ops past.rounds ps place r.key t.0 Reserved (Ended (Ok reply)) t.1 there (inr refl) on.asked))
             (subst (λ qs. IsMet call.cause qs (faults_in past.rounds)) (sym is) (met_stay call.cause ps (set ps place (Ended (Ok reply))) (faults_in past.rounds) (stay_set ps place Reserved (Ended (Ok reply)) there (λ e bad. cc)) on.met))));
         among = next.among;
         answered = subst (λ xs. AreAnswers cache.config round a' (map reserved_by (reverse xs))) (sym tickets) rest;
-        committed = subst (AreUnder is_reserved (place + 1)) (sym is) (under_set is_reserved ps place (Ended (Ok reply)) refl next.committed);
+        committed = subst (AreUnder holds_reservation (place + 1)) (sym is) (under_set holds_reservation ps place (Ended (Ok reply)) refl next.committed);
       }
 
   -- 5. Pick-ups.
 
-  pub picking_on : (place : ℕ) (join : JoinClaim) (p : Polled) (q : Progress) → later.progress.items ≡ set call.progress.items place q → later.tickets.items ≡ call.tickets.items → later.joins.items ≡ call.joins.items
+  pub picking_on : (place : ℕ) (join : JoinClaim) (p : Polled) (q : KeyProgress) → later.progress.items ≡ set call.progress.items place q → later.tickets.items ≡ call.tickets.items → later.joins.items ≡ call.joins.items
       → slice_get call.progress.items place ≡ Some Joined → IsPicked p q
       → IsKeyPhase cache old join.key (counted_polled p) new
       ((before : View) → HasGrown before (view_of cache.config.stripes old.seats.items join.key) → IsJoinFor old.agent.caller before join.key Get join
@@ -297,8 +297,8 @@ module _ {I J : Type 0} {D : I → Type 0} {E : J → Type 0} (cache : CacheStat
             (on_by [] [] (join ∷ others) others on
             (subst (λ qs. IsUnderway cache past.caller ops past.rounds past.first new qs [] others) (sym is)
             (picked_on cache past.caller ops past.rounds past.first old new ps [] join others place p q on.distinct there next.picked unasked phase picked on.under))
-            (subst (HasAsked cache.config ops past.rounds) (sym is) (asked_set cache.config ops past.rounds ps place join.key Get Joined q t.0 there (inl unasked) on.asked))
+            (subst (HasAskedSoFar cache.config ops past.rounds) (sym is) (asked_set cache.config ops past.rounds ps place join.key Get Joined q t.0 there (inl unasked) on.asked))
             (subst (λ qs. IsMet call.cause qs (faults_in past.rounds)) (sym is) (met_stay call.cause ps (set ps place q) (faults_in past.rounds) (stay_set ps place Joined q there (λ e bad. cc)) on.met)));
         no_tickets = tickets ∙ next.no_tickets;
-        picked = subst (AreUnder is_joined (place + 1)) (sym is) (under_set is_joined ps place q isnt next.picked);
+        picked = subst (AreUnder waits_for_joined_load (place + 1)) (sym is) (under_set waits_for_joined_load ps place q isnt next.picked);
       }

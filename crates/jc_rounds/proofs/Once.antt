@@ -29,7 +29,7 @@ use Rattle.jc_stripe.specs.Refusals.{first_asked}
 use Rattle.jc_stripe.specs.Tickets.{asks_loader, asks_processor, change_asked}
 use Rattle.jc_rounds.specs.Rounds.{IsShown, KeyRun, LoadAll, ProcessAll, Round, WriteAll, asked_in, keys_asked}
 use Rattle.jc_rounds.specs.Seats.{HasGrown, view_at, view_of}
-use Rattle.jc_rounds.specs.Starting.{AsksAtMostOnce, EachStartsAll, HasStartedAll, IsFull, IsLeftAlone, RoundEnd, calls_of, seats_after}
+use Rattle.jc_rounds.specs.Starting.{AsksAtMostOnce, EachStartsAll, HasStartedAll, IsFull, IsLeftAlone, RoundEnd, rounds_asked, seats_after}
 use Rattle.jc_rounds.proofs.Asked.{or_other, place_among}
 use Rattle.jc_rounds.proofs.SoFar.{among_at}
 use Rattle.jc_rounds.proofs.Underway.{as_many}
@@ -105,9 +105,9 @@ some_key round rounds some = by (keys_asked round) refl
 
 module _ (caller : Caller) (stripes : ℕ) (targets : List (Bytes × Op)) (config : Config) where
   -- after a round that has asked, no round asks
-  none_later : (old new : List Seated) (e : RoundEnd) (es : List RoundEnd) → seats_after e.seats es ≡ new → EachStartsAll caller stripes targets old (e ∷ es) → All (AsksFor config targets) (calls_of es) → All (λ (r : Round). keys_asked r ≡ [] → ⊥) (calls_of es)
-      → length (asked_in e.calls) ≤ RESERVATIONS_MAX * stripes → IsLeftAlone caller stripes targets old new → length (calls_of es) ≤ 0
-  none_later old new e es last each asks some few alone = by (calls_of es) refl asks some
+  none_later : (old new : List Seated) (e : RoundEnd) (es : List RoundEnd) → seats_after e.seats es ≡ new → EachStartsAll caller stripes targets old (e ∷ es) → All (AsksFor config targets) (rounds_asked es) → All (λ (r : Round). keys_asked r ≡ [] → ⊥) (rounds_asked es)
+      → length (asked_in e.calls) ≤ RESERVATIONS_MAX * stripes → IsLeftAlone caller stripes targets old new → length (rounds_asked es) ≤ 0
+  none_later old new e es last each asks some few alone = by (rounds_asked es) refl asks some
     where
       held_on : (key : Bytes) (op : Op) → IsAmong targets (key, op) → IsHeldBack caller (view_of stripes old key) (view_of stripes e.seats key) key op → ⊥
       held_on key op among back =
@@ -124,41 +124,41 @@ module _ (caller : Caller) (stripes : ℕ) (targets : List (Bytes × Op)) (confi
       never key op among (inl (inr full)) = none_joins full.joined (let many = full.many in omega (arith, many)) full.each
       never key op among (inr back) = held_on key op among back
 
-      by : (rounds : List Round) → calls_of es ≡ rounds → All (AsksFor config targets) rounds → All (λ (r : Round). keys_asked r ≡ [] → ⊥) rounds → length rounds ≤ 0
+      by : (rounds : List Round) → rounds_asked es ≡ rounds → All (AsksFor config targets) rounds → All (λ (r : Round). keys_asked r ≡ [] → ⊥) rounds → length rounds ≤ 0
       by [] is asks some = omega arith
       by (r ∷ rounds) is asks some =
           let key = some_key r rounds (All-head (λ (x : Round). keys_asked x ≡ [] → ⊥) r rounds some) in
           let at = are_keys config targets (r ∷ rounds) key.0 asks key.1 in
           absurd (never key.0 at.0 at.1 (each.0.put_off key.0 at.0 at.1 (ap (λ rs. is_among (asked_in rs) key.0) is ∙ key.1)))
 
-  once_from : (old new : List Seated) (es : List RoundEnd) → seats_after old es ≡ new → EachStartsAll caller stripes targets old es → All (AsksFor config targets) (calls_of es) → All (λ (r : Round). keys_asked r ≡ [] → ⊥) (calls_of es)
-      → length (asked_in (calls_of es)) ≤ RESERVATIONS_MAX * stripes → IsLeftAlone caller stripes targets old new → length (calls_of es) ≤ 1
+  once_from : (old new : List Seated) (es : List RoundEnd) → seats_after old es ≡ new → EachStartsAll caller stripes targets old es → All (AsksFor config targets) (rounds_asked es) → All (λ (r : Round). keys_asked r ≡ [] → ⊥) (rounds_asked es)
+      → length (asked_in (rounds_asked es)) ≤ RESERVATIONS_MAX * stripes → IsLeftAlone caller stripes targets old new → length (rounds_asked es) ≤ 1
   once_from old new [] last each asks some few alone = omega arith
   once_from old new (e ∷ es) last each asks some few alone =
       by e.calls refl
       (once_from e.seats new es last each.1 asks_later some_later (omega (arith, keys, few))
       (λ key op among back. alone key op among (held_since caller (view_of stripes old key) (view_of stripes e.seats key) (view_of stripes new key) key op (each.0.grown (stripe_of key stripes)) back)))
     where
-      keys : length (asked_in (calls_of (e ∷ es))) ≡ length (asked_in e.calls) + length (asked_in (calls_of es))
-      keys = ap length (flat_map-append keys_asked e.calls (calls_of es)) ∙ length-append (asked_in e.calls) (asked_in (calls_of es))
+      keys : length (asked_in (rounds_asked (e ∷ es))) ≡ length (asked_in e.calls) + length (asked_in (rounds_asked es))
+      keys = ap length (flat_map-append keys_asked e.calls (rounds_asked es)) ∙ length-append (asked_in e.calls) (asked_in (rounds_asked es))
 
-      asks_later : All (AsksFor config targets) (calls_of es)
-      asks_later = all_after (AsksFor config targets) e.calls (calls_of es) asks
+      asks_later : All (AsksFor config targets) (rounds_asked es)
+      asks_later = all_after (AsksFor config targets) e.calls (rounds_asked es) asks
 
-      some_later : All (λ (r : Round). keys_asked r ≡ [] → ⊥) (calls_of es)
-      some_later = all_after (λ (r : Round). keys_asked r ≡ [] → ⊥) e.calls (calls_of es) some
+      some_later : All (λ (r : Round). keys_asked r ≡ [] → ⊥) (rounds_asked es)
+      some_later = all_after (λ (r : Round). keys_asked r ≡ [] → ⊥) e.calls (rounds_asked es) some
 
-      by : (calls : List Round) → e.calls ≡ calls → length (calls_of es) ≤ 1 → length (e.calls ++ calls_of es) ≤ 1
-      by [] is later = subst (λ rs. length (rs ++ calls_of es) ≤ 1) (sym is) later
+      by : (calls : List Round) → e.calls ≡ calls → length (rounds_asked es) ≤ 1 → length (e.calls ++ rounds_asked es) ≤ 1
+      by [] is later = subst (λ rs. length (rs ++ rounds_asked es) ≤ 1) (sym is) later
       by (r ∷ rs) is later =
           let none = none_later old new e es last each asks_later some_later (omega (arith, keys, few)) alone in
-          let n = length-append e.calls (calls_of es) in
+          let n = length-append e.calls (rounds_asked es) in
           let one = each.0.few in
           omega (arith, none, n, one)
 
   pub at_most_once : (old new : List Seated) (rounds : List Round) → AsksEachOnce config targets rounds → HasStartedAll caller stripes targets old new rounds → AsksAtMostOnce caller stripes targets old new rounds
   at_most_once old new rounds asks started all alone =
       let few : length (asked_in rounds) ≤ RESERVATIONS_MAX * stripes = (let n = few_asked config targets rounds asks in omega (arith, n, all)) in
-      let here : AsksEachOnce config targets (calls_of started.ends) = subst (AsksEachOnce config targets) (sym started.calls_are) asks in
+      let here : AsksEachOnce config targets (rounds_asked started.ends) = subst (AsksEachOnce config targets) (sym started.calls_are) asks in
       subst (λ rs. length rs ≤ 1) started.calls_are
       (once_from old new started.ends started.seats_are started.each here.each here.some (subst (λ rs. length (asked_in rs) ≤ RESERVATIONS_MAX * stripes) (sym started.calls_are) few) alone)

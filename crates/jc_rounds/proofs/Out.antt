@@ -10,7 +10,7 @@ use Rattle.std.proofs.Common.{◌≡◌, ◌<◌, ◌≤◌, ℕ, zero, suc, Lis
 use Rattle.std.proofs.lemmas.Option.{same_Some}
 use Rattle.jc_model.specs.Cache.{Bytes}
 use Rattle.jc_model.specs.declared.event.Op.{Op}
-use Rattle.jc_rounds.specs.declared.progress.Progress.{Progress}
+use Rattle.jc_rounds.specs.declared.progress.KeyProgress.{KeyProgress}
 use Rattle.jc_rounds.specs.SoFar.{AreIn}
 
 match_map : (b : Bool) (A C B D : Type 0) → (A → C) → (B → D) → MatchBool b A B → MatchBool b C D
@@ -33,26 +33,26 @@ pub is_no : (b : Bool) (A B : Type 0) → b ≡ false → MatchBool b A B → B
 is_no true A B is x = cc
 is_no false A B is x = x
 
-module _ {X : Type 0} (has : Progress → Bool) (fits : Bytes → Op → X → Type 0) where
-  pub none_are : (targets : List (Bytes × Op)) (ps : List Progress) → ((i : ℕ) (p : Progress) → slice_get ps i ≡ Some p → has p ≡ false) → AreIn has fits targets ps []
+module _ {X : Type 0} (has : KeyProgress → Bool) (fits : Bytes → Op → X → Type 0) where
+  pub none_are : (targets : List (Bytes × Op)) (ps : List KeyProgress) → ((i : ℕ) (p : KeyProgress) → slice_get ps i ≡ Some p → has p ≡ false) → AreIn has fits targets ps []
   none_are [] ps none = refl
   none_are (t ∷ ts) [] none = refl
   none_are (t ∷ ts) (p ∷ ps) none = (none zero p refl, none_are ts ps (λ i q at. none (suc i) q at))
 
-  pub none_in : (targets : List (Bytes × Op)) (ps : List Progress) → length ps ≡ length targets → AreIn has fits targets ps [] → (i : ℕ) (p : Progress) → slice_get ps i ≡ Some p → has p ≡ false
+  pub none_in : (targets : List (Bytes × Op)) (ps : List KeyProgress) → length ps ≡ length targets → AreIn has fits targets ps [] → (i : ℕ) (p : KeyProgress) → slice_get ps i ≡ Some p → has p ≡ false
   none_in [] [] long are i p at = cc
   none_in [] (q ∷ ps) long are i p at = cc
   none_in (t ∷ ts) [] long are i p at = cc
   none_in (t ∷ ts) (q ∷ ps) long are zero p at = ap has (sym (same_Some q p at)) ∙ are.0
   none_in (t ∷ ts) (q ∷ ps) long are (suc i) p at = none_in ts ps (omega arith) are.1 i p at
 
-  pub nothing_out : (targets : List (Bytes × Op)) (ps : List Progress) (xs : List X) → ((i : ℕ) (p : Progress) → slice_get ps i ≡ Some p → has p ≡ false) → AreIn has fits targets ps xs → xs ≡ []
+  pub nothing_out : (targets : List (Bytes × Op)) (ps : List KeyProgress) (xs : List X) → ((i : ℕ) (p : KeyProgress) → slice_get ps i ≡ Some p → has p ≡ false) → AreIn has fits targets ps xs → xs ≡ []
   nothing_out [] ps xs none are = are
   nothing_out (t ∷ ts) [] xs none are = are
   nothing_out (t ∷ ts) (p ∷ ps) [] none are = refl
   nothing_out (t ∷ ts) (p ∷ ps) (x ∷ xs) none are = nothing_out ts ps (x ∷ xs) (λ i q at. none (suc i) q at) (is_no (has p) _ _ (none zero p refl) are)
 
-  pub keep_in : (targets : List (Bytes × Op)) (ps : List Progress) (xs : List X) (i : ℕ) (q p : Progress) → slice_get ps i ≡ Some q → has q ≡ has p → AreIn has fits targets ps xs → AreIn has fits targets (set ps i p) xs
+  pub keep_in : (targets : List (Bytes × Op)) (ps : List KeyProgress) (xs : List X) (i : ℕ) (q p : KeyProgress) → slice_get ps i ≡ Some q → has q ≡ has p → AreIn has fits targets ps xs → AreIn has fits targets (set ps i p) xs
   keep_in [] ps xs i q p at same are = are
   keep_in (t ∷ ts) [] xs i q p at same are = are
   keep_in (t ∷ ts) (r ∷ ps) [] zero q p at same are = (sym same ∙ ap has (sym (same_Some r q at)) ∙ are.0, are.1)
@@ -62,8 +62,8 @@ module _ {X : Type 0} (has : Progress → Bool) (fits : Bytes → Op → X → T
   keep_in (t ∷ ts) (r ∷ ps) (x ∷ xs) (suc i) q p at same are =
       match_map (has r) _ _ _ _ (λ y. (y.0, keep_in ts ps xs i q p at same y.1)) (λ y. keep_in ts ps (x ∷ xs) i q p at same y) are
 
-  pub push_in : (targets : List (Bytes × Op)) (ps : List Progress) (xs : List X) (i : ℕ) (key : Bytes) (op : Op) (p : Progress) (x : X) → slice_get targets i ≡ Some (key, op) → i < length ps
-      → ((j : ℕ) (q : Progress) → i ≤ j → slice_get ps j ≡ Some q → has q ≡ false) → has p ≡ true → fits key op x → AreIn has fits targets ps xs → AreIn has fits targets (set ps i p) (xs ++ x ∷ [])
+  pub push_in : (targets : List (Bytes × Op)) (ps : List KeyProgress) (xs : List X) (i : ℕ) (key : Bytes) (op : Op) (p : KeyProgress) (x : X) → slice_get targets i ≡ Some (key, op) → i < length ps
+      → ((j : ℕ) (q : KeyProgress) → i ≤ j → slice_get ps j ≡ Some q → has q ≡ false) → has p ≡ true → fits key op x → AreIn has fits targets ps xs → AreIn has fits targets (set ps i p) (xs ++ x ∷ [])
   push_in [] ps xs i key op p x at near behind is fit are = cc
   push_in (t ∷ ts) [] xs i key op p x at near behind is fit are = absurd (omega arith)
   push_in (t ∷ ts) (r ∷ ps) [] zero key op p x at near behind is fit are =
@@ -77,8 +77,8 @@ module _ {X : Type 0} (has : Progress → Bool) (fits : Bytes → Op → X → T
       (λ z. (z.0, push_in ts ps ys i key op p x at (omega arith) (λ j q le there. behind (suc j) q (omega arith) there) is fit z.1))
       (λ z. push_in ts ps (y ∷ ys) i key op p x at (omega arith) (λ j q le there. behind (suc j) q (omega arith) there) is fit z) are
 
-  pub pop_in : (targets : List (Bytes × Op)) (ps : List Progress) (xs : List X) (i : ℕ) (q p : Progress) → length ps ≡ length targets → slice_get ps i ≡ Some q → has q ≡ true
-      → ((j : ℕ) (r : Progress) → j < i → slice_get ps j ≡ Some r → has r ≡ false) → has p ≡ false → AreIn has fits targets ps xs
+  pub pop_in : (targets : List (Bytes × Op)) (ps : List KeyProgress) (xs : List X) (i : ℕ) (q p : KeyProgress) → length ps ≡ length targets → slice_get ps i ≡ Some q → has q ≡ true
+      → ((j : ℕ) (r : KeyProgress) → j < i → slice_get ps j ≡ Some r → has r ≡ false) → has p ≡ false → AreIn has fits targets ps xs
       → (key : Bytes) × (op : Op) × (x : X) × (rest : List X) × (slice_get targets i ≡ Some (key, op)) × (xs ≡ x ∷ rest) × fits key op x × AreIn has fits targets (set ps i p) rest
   pop_in [] [] xs i q p long at is before isnt are = cc
   pop_in [] (r ∷ ps) xs i q p long at is before isnt are = cc
@@ -88,7 +88,7 @@ module _ {X : Type 0} (has : Progress → Bool) (fits : Bytes → Op → X → T
       let here = is_yes (has r) _ _ (ap has (same_Some r q at) ∙ is) are in
       (t.0, t.1, x, xs, refl, refl, here.0, put ts ps xs p isnt here.1)
     where
-      put : (ts : List (Bytes × Op)) (ps : List Progress) (xs : List X) (p : Progress) → has p ≡ false → AreIn has fits ts ps xs → AreIn has fits (t ∷ ts) (p ∷ ps) xs
+      put : (ts : List (Bytes × Op)) (ps : List KeyProgress) (xs : List X) (p : KeyProgress) → has p ≡ false → AreIn has fits ts ps xs → AreIn has fits (t ∷ ts) (p ∷ ps) xs
       put ts ps [] p isnt are = (isnt, are)
       put ts ps (y ∷ ys) p isnt are = match_no (has p) _ _ isnt are
   pop_in (t ∷ ts) (r ∷ ps) [] (suc i) q p long at is before isnt are =
@@ -99,6 +99,6 @@ module _ {X : Type 0} (has : Progress → Bool) (fits : Bytes → Op → X → T
       let rest = pop_in ts ps (x ∷ xs) i q p (omega arith) at is (λ j u less there. before (suc j) u (omega arith) there) isnt (is_no (has r) _ _ none are) in
       (rest.0, rest.1, rest.2, rest.3, rest.4, rest.5, rest.6, put ts (set ps i p) rest.3 r none rest.7)
     where
-      put : (ts : List (Bytes × Op)) (ps : List Progress) (xs : List X) (p : Progress) → has p ≡ false → AreIn has fits ts ps xs → AreIn has fits (t ∷ ts) (p ∷ ps) xs
+      put : (ts : List (Bytes × Op)) (ps : List KeyProgress) (xs : List X) (p : KeyProgress) → has p ≡ false → AreIn has fits ts ps xs → AreIn has fits (t ∷ ts) (p ∷ ps) xs
       put ts ps [] p isnt are = (isnt, are)
       put ts ps (y ∷ ys) p isnt are = match_no (has p) _ _ isnt are

@@ -15,17 +15,17 @@ use Rattle.jc_session.specs.declared.agent.Agent.{Agent}
 use Rattle.jc_cache.specs.Caches.{CacheState}
 use Rattle.jc_cache.specs.Sessions.{HoldsNothing, IsOf}
 use Rattle.jc_session.specs.declared.session.Session.{Session}
-use Rattle.jc_rounds.specs.declared.answers.Answers.{Answers}
+use Rattle.jc_rounds.specs.declared.answers.RoundAnswers.{RoundAnswers}
 use Rattle.jc_rounds.specs.declared.bulk_call.BulkCall.{BulkCall}
 use Rattle.jc_rounds.specs.Answers.{AreAnswers}
 use Rattle.jc_rounds.specs.Asking.{reserved_keys}
 use Rattle.jc_rounds.specs.KeyProgress.{IsNoted, KeepsCause, failures, refused_if_waiting}
 use Rattle.jc_rounds.specs.Rounds.{Round, asked_in, keys_asked, round_fault}
-use Rattle.jc_rounds.specs.Ran.{HasReserved, IsTold, Ran}
+use Rattle.jc_rounds.specs.Ran.{HasReserved, IsRoundTold, RunsRounds}
 use Rattle.jc_rounds.specs.Running.{EachTakesMemory, HasRun, with_rounds}
-use Rattle.jc_rounds.specs.SoFar.{GoesOn}
+use Rattle.jc_rounds.specs.SoFar.{KeysAdvance}
 use Rattle.jc_rounds.specs.Targets.{ops_of}
-use Rattle.jc_rounds.specs.Underway.{Advances, HasStarted, IsAnswered, IsBetween, Past, reserved_by, with_round}
+use Rattle.jc_rounds.specs.Underway.{Advances, CallPast, HasStarted, IsAnswered, IsBetween, reserved_by, with_round}
 use Rattle.jc_rounds.proofs.Asked.{among_there}
 use Rattle.jc_rounds.proofs.Failures.{keeps_both, keeps_noted, keeps_or}
 use Rattle.jc_rounds.proofs.Held.{goes_both}
@@ -33,10 +33,10 @@ use Rattle.jc_rounds.proofs.OnCall.{advances_both}
 use Rattle.jc_rounds.proofs.Started.{run_more, some_more}
 use Rattle.jc_rounds.proofs.Whole.{asked_call, refused_call, refused_round, round_of}
 
-pub no_more : (past : Past) → with_rounds past [] ≡ past
+pub no_more : (past : CallPast) → with_rounds past [] ≡ past
 no_more past = λ i. record past { rounds = append-nil past.rounds i }
 
-pub more_rounds : (past : Past) (rs more : List Round) → with_rounds (with_rounds past rs) more ≡ with_rounds past (rs ++ more)
+pub more_rounds : (past : CallPast) (rs more : List Round) → with_rounds (with_rounds past rs) more ≡ with_rounds past (rs ++ more)
 more_rounds past rs more = λ i. record past { rounds = append_assoc past.rounds rs more i }
 
 last_there : {A : Type 0} (xs : List A) (x : A) → slice_get (xs ++ x ∷ []) (length xs) ≡ Some x
@@ -47,7 +47,7 @@ some_last : {A : Type 0} (xs : List A) (x : A) → xs ++ x ∷ [] ≡ [] → ⊥
 some_last [] x is = cc
 some_last (y ∷ xs) x is = cc
 
-module _ {I J : Type 0} {D : I → Type 0} {E : J → Type 0} (cache : CacheState) (past : Past) where
+module _ {I J : Type 0} {D : I → Type 0} {E : J → Type 0} (cache : CacheState) (past : CallPast) where
   -- 1. One round.
 
   pub quiet_run : (old mid new : Session I J D E) (call begun later : BulkCall) → HasRun cache past old call → HasStarted cache past old mid begun → Advances old mid call begun → begun.tickets.items ≡ []
@@ -64,7 +64,7 @@ module _ {I J : Type 0} {D : I → Type 0} {E : J → Type 0} (cache : CacheStat
   pub has_reserved : (old mid : Session I J D E) (call begun : BulkCall) → HasRun cache past old call → HasStarted cache past old mid begun → Advances old mid call begun → (begun.tickets.items ≡ [] → ⊥) → HasReserved cache past mid begun
   has_reserved old mid call begun run started one some = record { old = old; before = call; run = run; started = started; advances = one; some = some }
 
-  module _ (round : Round) (session : Session I J D E) (call noted : BulkCall) (answers : Answers) (fault : Option Refusal) (told : IsTold cache past round session call answers fault) (note : noted ≡ record call { cause = option_or call.cause fault }) where
+  module _ (round : Round) (session : Session I J D E) (call noted : BulkCall) (answers : RoundAnswers) (fault : Option Refusal) (told : IsRoundTold cache past round session call answers fault) (note : noted ≡ record call { cause = option_or call.cause fault }) where
     noted_is : noted ≡ record told.reserving { tickets = call.tickets; cause = option_or told.reserving.cause (round_fault round) }
     noted_is = note ∙ ap (λ (x : BulkCall). record x { cause = option_or x.cause fault }) told.call_is
         ∙ ap (λ (f : Option Refusal). record told.reserving { tickets = call.tickets; cause = option_or told.reserving.cause f }) told.fault_is
@@ -81,7 +81,7 @@ module _ {I J : Type 0} {D : I → Type 0} {E : J → Type 0} (cache : CacheStat
         let all = advances_both session late new noted committed later two three in
         let is = sym note in
         record {
-          goes = subst (λ (x : BulkCall). GoesOn session.seats.items new.seats.items x.progress.items later.progress.items) note all.goes;
+          goes = subst (λ (x : BulkCall). KeysAdvance session.seats.items new.seats.items x.progress.items later.progress.items) note all.goes;
           agent = all.agent;
           targets = all.targets ∙ ap (λ (x : BulkCall). x.targets) note;
           most = all.most ∙ ap (λ (x : BulkCall). x.most) note;
@@ -93,9 +93,9 @@ module _ {I J : Type 0} {D : I → Type 0} {E : J → Type 0} (cache : CacheStat
     told_run late new committed later two three between =
         let r = told.reserved in
         let on = told_advances late new committed later two three in
-        let goes : GoesOn told.asking.seats.items new.seats.items told.reserving.progress.items later.progress.items =
-        subst (λ (s : Session I J D E). GoesOn s.seats.items new.seats.items told.reserving.progress.items later.progress.items) told.rest
-        (subst (λ (x : BulkCall). GoesOn session.seats.items new.seats.items x.progress.items later.progress.items) told.call_is on.goes) in
+        let goes : KeysAdvance told.asking.seats.items new.seats.items told.reserving.progress.items later.progress.items =
+        subst (λ (s : Session I J D E). KeysAdvance s.seats.items new.seats.items told.reserving.progress.items later.progress.items) told.rest
+        (subst (λ (x : BulkCall). KeysAdvance session.seats.items new.seats.items x.progress.items later.progress.items) told.call_is on.goes) in
         let targets : later.targets ≡ told.reserving.targets = on.targets ∙ ap (λ (x : BulkCall). x.targets) told.call_is in
         let keeps : KeepsCause told.reserving.cause later.cause = subst (λ (x : BulkCall). KeepsCause x.cause later.cause) told.call_is on.cause in
         run_more cache past r.old new r.before later (round ∷ []) (targets ∙ r.advances.targets)
@@ -104,16 +104,16 @@ module _ {I J : Type 0} {D : I → Type 0} {E : J → Type 0} (cache : CacheStat
 
 -- 2. Rounds after rounds.
 
-module _ {I J : Type 0} {D : I → Type 0} {E : J → Type 0} (Asked : List Round → Type 0) (cache : CacheState) (past : Past) (old : Session I J D E) (call : BulkCall) where
+module _ {I J : Type 0} {D : I → Type 0} {E : J → Type 0} (Asked : List Round → Type 0) (cache : CacheState) (past : CallPast) (old : Session I J D E) (call : BulkCall) where
   same_agent : (new : Session I J D E) → new.agent.caller ≡ old.agent.caller → new.agent ≡ record old.agent { counts = new.agent.counts; hands = new.agent.hands }
   same_agent new is = ap (λ (c : Caller). record new.agent { caller = c }) is
 
-  pub ran_none : Asked [] → HasRun cache past old call → Ran Asked cache past old call old call
+  pub ran_none : Asked [] → HasRun cache past old call → RunsRounds Asked cache past old call old call
   ran_none none run = record { rounds = []; asked = none; run = subst (λ p. HasRun cache p old call) (sym (no_more past)) run; agent = refl; targets = refl; most = refl }
 
   -- rounds that have asked nobody
-  pub ran_quiet : (Before : List Round → Type 0) (mid new : Session I J D E) (between later : BulkCall) (one : Ran Before cache past old call mid between) → Asked one.rounds → HasRun cache (with_rounds past one.rounds) new later → Advances mid new between later
-      → Ran Asked cache past old call new later
+  pub ran_quiet : (Before : List Round → Type 0) (mid new : Session I J D E) (between later : BulkCall) (one : RunsRounds Before cache past old call mid between) → Asked one.rounds → HasRun cache (with_rounds past one.rounds) new later → Advances mid new between later
+      → RunsRounds Asked cache past old call new later
   ran_quiet Before mid new between later one asked run on = record {
     rounds = one.rounds;
     asked = asked;
@@ -124,9 +124,9 @@ module _ {I J : Type 0} {D : I → Type 0} {E : J → Type 0} (Asked : List Roun
   }
 
   -- rounds of which the last one has asked
-  pub ran_more : (Before : List Round → Type 0) (mid asking told new : Session I J D E) (between reserving filled later : BulkCall) (one : Ran Before cache past old call mid between) (round : Round) → Asked (one.rounds ++ round ∷ []) → HasRun cache (with_round (with_rounds past one.rounds) round) new later
+  pub ran_more : (Before : List Round → Type 0) (mid asking told new : Session I J D E) (between reserving filled later : BulkCall) (one : RunsRounds Before cache past old call mid between) (round : Round) → Asked (one.rounds ++ round ∷ []) → HasRun cache (with_round (with_rounds past one.rounds) round) new later
       → Advances mid asking between reserving → told ≡ record asking { agent = record asking.agent { hands = told.agent.hands } } → filled ≡ record reserving { tickets = filled.tickets } → Advances told new filled later
-      → (ran : Ran Asked cache past old call new later) × (ran.rounds ≡ [] → ⊥)
+      → (ran : RunsRounds Asked cache past old call new later) × (ran.rounds ≡ [] → ⊥)
   ran_more Before mid asking told new between reserving filled later one round asked run start rest is end = (
     record {
       rounds = one.rounds ++ round ∷ [];
@@ -140,8 +140,8 @@ module _ {I J : Type 0} {D : I → Type 0} {E : J → Type 0} (Asked : List Roun
   )
 
   -- the memory for one more round could not be taken
-  pub ran_refused : (mid : Session I J D E) (between later : BulkCall) (one : Ran Asked cache past old call mid between) → later ≡ record between { progress = later.progress; cause = later.cause } → later.progress.items ≡ map refused_if_waiting between.progress.items
-      → IsNoted between.cause (failures later.progress.items) later.cause → (one.rounds ≡ [] → ⊥) → EachTakesMemory cache.config (ops_of between.targets.now) → Ran Asked cache past old call mid later
+  pub ran_refused : (mid : Session I J D E) (between later : BulkCall) (one : RunsRounds Asked cache past old call mid between) → later ≡ record between { progress = later.progress; cause = later.cause } → later.progress.items ≡ map refused_if_waiting between.progress.items
+      → IsNoted between.cause (failures later.progress.items) later.cause → (one.rounds ≡ [] → ⊥) → EachTakesMemory cache.config (ops_of between.targets.now) → RunsRounds Asked cache past old call mid later
   ran_refused mid between later one rest is noted some takes =
       let then = with_rounds past one.rounds in
       let targets = ap (λ (x : BulkCall). x.targets) rest in

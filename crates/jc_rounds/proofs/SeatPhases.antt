@@ -38,7 +38,7 @@ use Rattle.jc_cache.specs.PhaseCalls.{SeatPhase}
 use Rattle.jc_rounds.specs.Keys.{IsEarly}
 use Rattle.jc_rounds.specs.Lendings.{IsPhaseAt, OnlyPhases}
 use Rattle.jc_rounds.specs.Recorded.{steps_of, former_steps, are_before}
-use Rattle.jc_rounds.specs.Seats.{HasFound, HasGrown, Moves, is_at, view_at}
+use Rattle.jc_rounds.specs.Seats.{HasFound, HasGrown, MovesAtKey, is_at, view_at}
 use Rattle.jc_rounds.proofs.CallSteps.{before-gained, former-gained, others-gained}
 
 abbrev pub Seated : Type 0
@@ -195,7 +195,7 @@ same_number : (i j : ℕ) → j ≡ i → (i == j) ≡ true
 same_number i j is = grind (arith, nat_tests)
 
 pub moves_all : (caller : Caller) (stripes : ℕ) (key : Bytes) (old new : List Seated) (lock : TableId) (v w : View) → slice_get old (stripe_of key stripes) ≡ Some (lock, v) → new ≡ slice_set old (stripe_of key stripes) (lock, w)
-    → MovesSeat caller key v w → Moves caller stripes key old new
+    → MovesSeat caller key v w → MovesAtKey caller stripes key old new
 moves_all caller stripes key old new lock v w was now moves = record {
   grown = λ i. ⊎_elim (λ t. grows i t.0 t.1) (λ t. stays (HasGrown (view_at old i)) i t.1 (grown_itself (view_at old i))) (at i);
   others = λ other i not_at. ⊎_elim

@@ -31,8 +31,8 @@ use Rattle.jc_outside.proofs.CallerLemmas.{at_place}
 use Rattle.jc_stripe.specs.Generations.{whole_history}
 use Rattle.jc_lock.specs.declared.view.View.{View}
 use Rattle.jc_lock.proofs.CallerLemmas.{prefix-trans, same_on}
-use Rattle.jc_rounds.specs.declared.progress.Progress.{Progress}
-use Rattle.jc_rounds.specs.declared.progress.Progress.TheVariants.{Waiting, Reserved, Joined, Ended}
+use Rattle.jc_rounds.specs.declared.progress.KeyProgress.{KeyProgress}
+use Rattle.jc_rounds.specs.declared.progress.KeyProgress.TheVariants.{Waiting, Reserved, Joined, Ended}
 use Rattle.jc_rounds.specs.KeyProgress.{all_waiting}
 use Rattle.jc_engine.specs.MadeIn.{IsNext}
 use Rattle.jc_stripe.specs.State.{State}
@@ -40,11 +40,11 @@ use Rattle.jc_types.specs.declared.config.Config.{Config}
 use Rattle.jc_model.specs.declared.event.Reply.{Reply}
 use Rattle.std.proofs.lemmas.List.Concat.{flat_map-append}
 use Rattle.std.proofs.lemmas.List.Folds.{list_any-append}
-use Rattle.jc_rounds.specs.Keys.{IsAt, IsTold, MadeOn, WasRefused}
+use Rattle.jc_rounds.specs.Keys.{IsAt, IsStepTold, MadeOn, WasRefused}
 use Rattle.jc_rounds.specs.Recorded.{steps_of}
 use Rattle.jc_rounds.specs.Rounds.{Round, asked_in, keys_asked}
-use Rattle.jc_rounds.specs.Seats.{HasGrown, Moves, is_at, view_at, view_of}
-use Rattle.jc_rounds.specs.SoFar.{IsSoFar, is_due}
+use Rattle.jc_rounds.specs.Seats.{HasGrown, MovesAtKey, is_at, view_at, view_of}
+use Rattle.jc_rounds.specs.SoFar.{IsSoFar, is_target_of}
 use Rattle.jc_rounds.proofs.CallSteps.{no-steps, still-before}
 use Rattle.jc_rounds.proofs.SeatPhases.{Seated, found_later, found_since, grown_itself, grown_on, phases_among, phases_none, phases_on}
 
@@ -112,7 +112,7 @@ made_later v w key place P grown made = record {
   entry = made.entry;
 }
 
-told_later : (config : Config) (rounds : List Round) (v w : View) (key : Bytes) (op : Op) (place : ℕ) (shared : Option ℕ) (out : Out) → HasGrown v w → IsTold config rounds v key op place shared out → IsTold config rounds w key op place shared out
+told_later : (config : Config) (rounds : List Round) (v w : View) (key : Bytes) (op : Op) (place : ℕ) (shared : Option ℕ) (out : Out) → HasGrown v w → IsStepTold config rounds v key op place shared out → IsStepTold config rounds w key op place shared out
 told_later config rounds v w key op place None out grown (inl told) = inl (told.0, told.1, made_later v w key place _ grown told.2)
 told_later config rounds v w key op place None out grown (inr told) = inr (told.0, told.1, told.2, made_later v w key place _ grown told.3)
 told_later config rounds v w key op place (Some load) out grown told = told
@@ -123,13 +123,13 @@ asked_more rounds more key one two =
     ap (λ ks. is_among ks key) (flat_map-append keys_asked rounds more) ∙ list_any-append (pointwise ◌==◌ key) (asked_in rounds) (asked_in more) ∙ (λ i. one i || two i)
 
 told_more : (config : Config) (rounds more : List Round) (w : View) (key : Bytes) (op : Op) (place : ℕ) (shared : Option ℕ) (out : Out) → is_among (asked_in more) key ≡ false
-    → IsTold config rounds w key op place shared out → IsTold config (rounds ++ more) w key op place shared out
+    → IsStepTold config rounds w key op place shared out → IsStepTold config (rounds ++ more) w key op place shared out
 told_more config rounds more w key op place None out none (inl told) = inl (asked_more rounds more key told.0 none, told.1, told.2)
 told_more config rounds more w key op place None out none (inr told) = inr (told.0, among_more rounds more told.0 told.1, told.2, told.3)
 told_more config rounds more w key op place (Some load) out none told = (asked_more rounds more key told.0 none, told.1)
 
 -- THE LEMMA: a phase at another key leaves what is said of this one
-pub at_later : (config : Config) (caller : Caller) (rounds : List Round) (u v w : View) (key : Bytes) (op : Op) (p : Progress) → HasGrown v w → steps_of caller key w.own ≡ steps_of caller key v.own
+pub at_later : (config : Config) (caller : Caller) (rounds : List Round) (u v w : View) (key : Bytes) (op : Op) (p : KeyProgress) → HasGrown v w → steps_of caller key w.own ≡ steps_of caller key v.own
     → IsAt config caller rounds u v key op p → IsAt config caller rounds u w key op p
 at_later config caller rounds u v w key op Waiting grown same at = same ∙ at
 at_later config caller rounds u v w key op Reserved grown same at = same ∙ at
@@ -147,7 +147,7 @@ at_later config caller rounds u v w key op (Ended (Ok reply)) grown same at = re
 at_later config caller rounds u v w key op (Ended (Err refusal)) grown same at =
     (same ∙ at.0, at.1, ⊎_elim (λ memory. inl memory) (λ full. inr (full.0, refused_later caller u v w key op refusal grown full.1)) at.2)
 
-pub at_since : (config : Config) (caller : Caller) (rounds : List Round) (u v w : View) (key : Bytes) (op : Op) (p : Progress) → HasGrown u v → IsAt config caller rounds v w key op p → IsAt config caller rounds u w key op p
+pub at_since : (config : Config) (caller : Caller) (rounds : List Round) (u v w : View) (key : Bytes) (op : Op) (p : KeyProgress) → HasGrown u v → IsAt config caller rounds v w key op p → IsAt config caller rounds u w key op p
 at_since config caller rounds u v w key op Waiting grown at = at
 at_since config caller rounds u v w key op Reserved grown at = at
 at_since config caller rounds u v w key op Joined grown at = at
@@ -165,7 +165,7 @@ at_since config caller rounds u v w key op (Ended (Err refusal)) grown at =
     (at.0, at.1, ⊎_elim (λ memory. inl memory) (λ full. inr (full.0, refused_since caller u v w key op refusal grown full.1)) at.2)
 
 -- a key that has ended isn't asked for in a later round
-pub at_more : (config : Config) (caller : Caller) (rounds more : List Round) (u w : View) (key : Bytes) (op : Op) (p : Progress) → ((ended : Result Reply Refusal) → p ≡ Ended ended → is_among (asked_in more) key ≡ false)
+pub at_more : (config : Config) (caller : Caller) (rounds more : List Round) (u w : View) (key : Bytes) (op : Op) (p : KeyProgress) → ((ended : Result Reply Refusal) → p ≡ Ended ended → is_among (asked_in more) key ≡ false)
     → IsAt config caller rounds u w key op p → IsAt config caller (rounds ++ more) u w key op p
 at_more config caller rounds more u w key op Waiting none at = at
 at_more config caller rounds more u w key op Reserved none at = at
@@ -202,7 +202,7 @@ key_at (t ∷ targets) zero key op at = ap Some (ap (λ (u : Bytes × Op). u.0) 
 key_at (t ∷ targets) (suc i) key op at = key_at targets i key op at
 
 pub place_or : (targets : List (Bytes × Op)) (i j : ℕ) (key q : Bytes) (op o : Op) → IsDistinct (pointwise ◌==◌) (keys_of targets) → slice_get targets i ≡ Some (key, op) → slice_get targets j ≡ Some (q, o)
-    → (ps : List Progress) (p r : Progress) → slice_get (set ps i p) j ≡ Some r → ((pointwise ◌==◌ key q ≡ false) × (slice_get ps j ≡ Some r)) ⊎ ((q ≡ key) × (o ≡ op) × (r ≡ p))
+    → (ps : List KeyProgress) (p r : KeyProgress) → slice_get (set ps i p) j ≡ Some r → ((pointwise ◌==◌ key q ≡ false) × (slice_get ps j ≡ Some r)) ⊎ ((q ≡ key) × (o ≡ op) × (r ≡ p))
 place_or [] i j key q op o d at there ps p r is = cc
 place_or (t ∷ targets) i j key q op o d at there [] p r is = cc
 place_or (t ∷ targets) zero zero key q op o d at there (x ∷ ps) p r is =
@@ -243,26 +243,26 @@ rest_false true b is h = h
 rest_false false b is h = cc
 
 -- a key of no place, or on another stripe, isn't at this one
-pub not_here : (targets : List (Bytes × Op)) (stripes place : ℕ) (key q : Bytes) (op : Op) (i : ℕ) (b : Bool) → pointwise ◌==◌ key q ≡ b → slice_get targets place ≡ Some (key, op) → is_due stripes targets q i ≡ false → is_at stripes key q i ≡ false
+pub not_here : (targets : List (Bytes × Op)) (stripes place : ℕ) (key q : Bytes) (op : Op) (i : ℕ) (b : Bool) → pointwise ◌==◌ key q ≡ b → slice_get targets place ≡ Some (key, op) → is_target_of stripes targets q i ≡ false → is_at stripes key q i ≡ false
 not_here targets stripes place key q op i false apart at none = and_left _ _ apart
 not_here targets stripes place key q op i true same at none =
     let is : key ≡ q = same_text key q (sym same) in
     let elsewhere : (stripe_of q stripes == i) ≡ false = rest_false (is_among (keys_of targets) q) _ (subst (λ k. is_among (keys_of targets) k ≡ true) is (among_at targets place key op at)) none in
     and_right _ _ (ap (λ k. stripe_of k stripes == i) is ∙ elsewhere)
 
-due_at : (targets : List (Bytes × Op)) (stripes place : ℕ) (key q : Bytes) (op : Op) (i : ℕ) → slice_get targets place ≡ Some (key, op) → is_at stripes key q i ≡ true → is_due stripes targets q i ≡ true
+due_at : (targets : List (Bytes × Op)) (stripes place : ℕ) (key q : Bytes) (op : Op) (i : ℕ) → slice_get targets place ≡ Some (key, op) → is_at stripes key q i ≡ true → is_target_of stripes targets q i ≡ true
 due_at targets stripes place key q op i at is =
     let parts = and_parts (pointwise ◌==◌ key q) (stripe_of key stripes == i) is in
     let same : key ≡ q = same_text key q (sym parts.0) in
     and_from (is_among (keys_of targets) q) (stripe_of q stripes == i) (subst (λ k. is_among (keys_of targets) k ≡ true) same (among_at targets place key op at)) (ap (λ k. stripe_of k stripes == i) (sym same) ∙ parts.1)
 
-pub goes_on : (config : Config) (caller : Caller) (stripes : ℕ) (targets : List (Bytes × Op)) (rounds : List Round) (old mid new : List Seated) (ps : List Progress) (place : ℕ) (key : Bytes) (op : Op) (p : Progress)
-    → IsDistinct (pointwise ◌==◌) (keys_of targets) → slice_get targets place ≡ Some (key, op) → IsSoFar config caller stripes targets rounds old mid ps → Moves caller stripes key mid new
+pub goes_on : (config : Config) (caller : Caller) (stripes : ℕ) (targets : List (Bytes × Op)) (rounds : List Round) (old mid new : List Seated) (ps : List KeyProgress) (place : ℕ) (key : Bytes) (op : Op) (p : KeyProgress)
+    → IsDistinct (pointwise ◌==◌) (keys_of targets) → slice_get targets place ≡ Some (key, op) → IsSoFar config caller stripes targets rounds old mid ps → MovesAtKey caller stripes key mid new
     → IsAt config caller rounds (view_of stripes old key) (view_of stripes new key) key op p → IsSoFar config caller stripes targets rounds old new (set ps place p)
 goes_on config caller stripes targets rounds old mid new ps place key op p d at was moves now = record {
   grown = λ i. grown_on (view_at old i) (view_at mid i) (view_at new i) (was.grown i) (moves.grown i);
-  phases = λ i. phases_on caller (λ q. is_due stripes targets q i ≡ true) (view_at old i) (view_at mid i) (view_at new i) (was.phases i)
-      (phases_among caller (λ q. is_at stripes key q i ≡ true) (λ q. is_due stripes targets q i ≡ true) (view_at mid i) (view_at new i) (λ q is. due_at targets stripes place key q op i at is) (moves.phases i));
+  phases = λ i. phases_on caller (λ q. is_target_of stripes targets q i ≡ true) (view_at old i) (view_at mid i) (view_at new i) (was.phases i)
+      (phases_among caller (λ q. is_at stripes key q i ≡ true) (λ q. is_target_of stripes targets q i ≡ true) (view_at mid i) (view_at new i) (λ q is. due_at targets stripes place key q op i at is) (moves.phases i));
   numbers = λ i. moves.numbers i (was.numbers i);
   former = λ i. moves.former i ∙ was.former i;
   many = length-set ps place p ∙ was.many;
@@ -270,7 +270,7 @@ goes_on config caller stripes targets rounds old mid new ps place key op p d at 
   others = λ q i none. moves.others q i (not_here targets stripes place key q op i (pointwise ◌==◌ key q) refl at none) ∙ was.others q i none;
 }
   where
-    by : (j : ℕ) (q : Bytes) (o : Op) (r : Progress) → slice_get targets j ≡ Some (q, o) → ((pointwise ◌==◌ key q ≡ false) × (slice_get ps j ≡ Some r)) ⊎ ((q ≡ key) × (o ≡ op) × (r ≡ p))
+    by : (j : ℕ) (q : Bytes) (o : Op) (r : KeyProgress) → slice_get targets j ≡ Some (q, o) → ((pointwise ◌==◌ key q ≡ false) × (slice_get ps j ≡ Some r)) ⊎ ((q ≡ key) × (o ≡ op) × (r ≡ p))
         → IsAt config caller rounds (view_of stripes old q) (view_of stripes new q) q o r
     by j q o r there (inl other) =
         at_later config caller rounds (view_of stripes old q) (view_of stripes mid q) (view_of stripes new q) q o r (moves.grown (stripe_of q stripes)) (moves.others q (stripe_of q stripes) (and_left _ _ other.0)) (was.each j q o r there other.1)
@@ -278,7 +278,7 @@ goes_on config caller stripes targets rounds old mid new ps place key op p d at 
         subst (λ (k : Bytes). IsAt config caller rounds (view_of stripes old k) (view_of stripes new k) k o r) (sym same.0)
         (subst (λ (y : Op). IsAt config caller rounds (view_of stripes old key) (view_of stripes new key) key y r) (sym same.1) (subst (IsAt config caller rounds (view_of stripes old key) (view_of stripes new key) key op) (sym same.2) now))
 
-pub more_rounds : (config : Config) (caller : Caller) (stripes : ℕ) (targets : List (Bytes × Op)) (rounds more : List Round) (old new : List Seated) (ps : List Progress)
+pub more_rounds : (config : Config) (caller : Caller) (stripes : ℕ) (targets : List (Bytes × Op)) (rounds more : List Round) (old new : List Seated) (ps : List KeyProgress)
     → ((place : ℕ) (key : Bytes) (op : Op) (ended : Result Reply Refusal) → slice_get targets place ≡ Some (key, op) → slice_get ps place ≡ Some (Ended ended) → is_among (asked_in more) key ≡ false)
     → IsSoFar config caller stripes targets rounds old new ps → IsSoFar config caller stripes targets (rounds ++ more) old new ps
 more_rounds config caller stripes targets rounds more old new ps none so = record {
@@ -298,21 +298,21 @@ pub waiting_many : (n : ℕ) → length (all_waiting n) ≡ n
 waiting_many zero = refl
 waiting_many (suc n) = ap suc (waiting_many n)
 
-pub waiting_there : (n place : ℕ) (p : Progress) → slice_get (all_waiting n) place ≡ Some p → p ≡ Waiting
+pub waiting_there : (n place : ℕ) (p : KeyProgress) → slice_get (all_waiting n) place ≡ Some p → p ≡ Waiting
 waiting_there zero place p at = cc
 waiting_there (suc n) zero p at = sym (same_Some Waiting p at)
 waiting_there (suc n) (suc place) p at = waiting_there n place p at
 
-pub opens : (config : Config) (caller : Caller) (stripes : ℕ) (targets : List (Bytes × Op)) (seats : List Seated) (ps : List Progress) → ((i : ℕ) → list_all (is_before_call caller.session caller.call) (view_at seats i).own ≡ true) → ps ≡ all_waiting (length targets)
+pub opens : (config : Config) (caller : Caller) (stripes : ℕ) (targets : List (Bytes × Op)) (seats : List Seated) (ps : List KeyProgress) → ((i : ℕ) → list_all (is_before_call caller.session caller.call) (view_at seats i).own ≡ true) → ps ≡ all_waiting (length targets)
     → IsSoFar config caller stripes targets [] seats seats ps
 opens config caller stripes targets seats ps before is = record {
   grown = λ i. grown_itself (view_at seats i);
-  phases = λ i. phases_none caller (λ q. is_due stripes targets q i ≡ true) (view_at seats i);
+  phases = λ i. phases_none caller (λ q. is_target_of stripes targets q i ≡ true) (view_at seats i);
   numbers = λ i. still-before caller (view_at seats i).own (before i);
   former = λ i. refl;
   many = ap length is ∙ waiting_many (length targets);
   each = λ place key op p at there.
-      subst (IsAt config caller [] (view_of stripes seats key) (view_of stripes seats key) key op) (sym (waiting_there (length targets) place p (subst (λ (qs : List Progress). slice_get qs place ≡ Some p) is there)))
+      subst (IsAt config caller [] (view_of stripes seats key) (view_of stripes seats key) key op) (sym (waiting_there (length targets) place p (subst (λ (qs : List KeyProgress). slice_get qs place ≡ Some p) is there)))
       (no-steps caller key (view_of stripes seats key).own (before (stripe_of key stripes)));
   others = λ q i none. no-steps caller q (view_at seats i).own (before i);
 }

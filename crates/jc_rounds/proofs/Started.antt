@@ -12,8 +12,8 @@ use Rattle.jc_types.specs.declared.caller.Caller.{Caller}
 use Rattle.jc_model.specs.Batches.{is_among}
 use Rattle.jc_model.specs.Cache.{Bytes}
 use Rattle.jc_model.specs.declared.event.Op.{Op}
-use Rattle.jc_rounds.specs.declared.progress.Progress.{Progress}
-use Rattle.jc_rounds.specs.declared.progress.Progress.TheVariants.{Waiting, Reserved, Joined, Ended}
+use Rattle.jc_rounds.specs.declared.progress.KeyProgress.{KeyProgress}
+use Rattle.jc_rounds.specs.declared.progress.KeyProgress.TheVariants.{Waiting, Reserved, Joined, Ended}
 use Rattle.jc_rounds.specs.Keys.{IsAt, IsHeldBack}
 use Rattle.jc_rounds.specs.Recorded.{steps_of}
 use Rattle.jc_rounds.specs.Seats.{view_of}
@@ -23,13 +23,13 @@ use Rattle.jc_session.specs.declared.session.Session.{Session}
 use Rattle.jc_rounds.specs.declared.bulk_call.BulkCall.{BulkCall}
 use Rattle.jc_rounds.specs.Rounds.{Round, asked_in, keys_asked}
 use Rattle.jc_rounds.specs.Causes.{IsFirst}
-use Rattle.jc_rounds.specs.KeyProgress.{KeepsCause, is_held_back, is_reserved}
+use Rattle.jc_rounds.specs.KeyProgress.{KeepsCause, holds_reservation, is_held_back}
 use Rattle.jc_rounds.proofs.Causes.{first_more}
 use Rattle.jc_rounds.specs.Running.{HasRun, HeldInEach, IsRound, with_rounds}
-use Rattle.jc_rounds.specs.SoFar.{AreHeldBack, GoesOn, HaveNoStep}
-use Rattle.jc_rounds.specs.Starting.{EachStartsAll, IsFull, RoundEnd, calls_of, seats_after}
+use Rattle.jc_rounds.specs.SoFar.{AreHeldBack, HaveNoStep, KeysAdvance}
+use Rattle.jc_rounds.specs.Starting.{EachStartsAll, IsFull, RoundEnd, rounds_asked, seats_after}
 use Rattle.jc_rounds.specs.Targets.{ops_of}
-use Rattle.jc_rounds.specs.Underway.{IsBetween, Past}
+use Rattle.jc_rounds.specs.Underway.{CallPast, IsBetween}
 use Rattle.jc_rounds.specs.Seats.{HasGrown, view_at}
 use Rattle.jc_rounds.proofs.Asked.{or_other, place_among}
 use Rattle.jc_rounds.proofs.Out.{none_in}
@@ -48,15 +48,15 @@ either_later xs ys key is =
     ap (λ ks. is_among ks key) (flat_map-append keys_asked xs ys) ∙ list_any-append (pointwise ◌==◌ key) (asked_in xs) (asked_in ys)
     ∙ (λ i. is_among (asked_in xs) key || is i) ∙ or_true (is_among (asked_in xs) key)
 
-calls_more : (es : List RoundEnd) (e : RoundEnd) → calls_of (es ++ e ∷ []) ≡ calls_of es ++ e.calls
-calls_more es e = flat_map-append (λ (x : RoundEnd). x.calls) es (e ∷ []) ∙ ap (λ cs. calls_of es ++ cs) (append-nil e.calls)
+calls_more : (es : List RoundEnd) (e : RoundEnd) → rounds_asked (es ++ e ∷ []) ≡ rounds_asked es ++ e.calls
+calls_more es e = flat_map-append (λ (x : RoundEnd). x.calls) es (e ∷ []) ∙ ap (λ cs. rounds_asked es ++ cs) (append-nil e.calls)
 
 seats_more : (old : List Seated) (es : List RoundEnd) (e : RoundEnd) → seats_after old (es ++ e ∷ []) ≡ e.seats
 seats_more old [] e = refl
 seats_more old (f ∷ es) e = seats_more f.seats es e
 
 module _ (caller : Caller) (stripes : ℕ) (targets : List (Bytes × Op)) where
-  held_less : (old : List Seated) (es : List RoundEnd) (a b : List Seated) (ps qs : List Progress) → GoesOn a b ps qs → HeldInEach caller stripes targets old es ps → HeldInEach caller stripes targets old es qs
+  held_less : (old : List Seated) (es : List RoundEnd) (a b : List Seated) (ps qs : List KeyProgress) → KeysAdvance a b ps qs → HeldInEach caller stripes targets old es ps → HeldInEach caller stripes targets old es qs
   held_less old [] a b ps qs goes held = tt
   held_less old (e ∷ es) a b ps qs goes held = (
     λ place less key op p there at is. let q = goes.held place p at is in held.0 place less key op q.0 there q.1 q.2,
@@ -64,7 +64,7 @@ module _ (caller : Caller) (stripes : ℕ) (targets : List (Bytes × Op)) where
     held_less e.seats es a b ps qs goes held.2,
   )
 
-  held_more : (old : List Seated) (es : List RoundEnd) (e : RoundEnd) (ps : List Progress) → AreHeldBack (IsFull caller stripes targets (seats_after old es) e.seats (length (asked_in e.calls))) (length targets) caller stripes targets (seats_after old es) e.seats ps
+  held_more : (old : List Seated) (es : List RoundEnd) (e : RoundEnd) (ps : List KeyProgress) → AreHeldBack (IsFull caller stripes targets (seats_after old es) e.seats (length (asked_in e.calls))) (length targets) caller stripes targets (seats_after old es) e.seats ps
       → HaveNoStep caller stripes targets e.seats ps → HeldInEach caller stripes targets old es ps → HeldInEach caller stripes targets old (es ++ e ∷ []) ps
   held_more old [] e ps here none held = (here, none, tt)
   held_more old (f ∷ es) e ps here none held = (held.0, held.1, held_more f.seats es e ps here none held.2)
@@ -72,7 +72,7 @@ module _ (caller : Caller) (stripes : ℕ) (targets : List (Bytes × Op)) where
   abbrev AreOver : RoundEnd → Type 0
   AreOver e = (key : Bytes) (op : Op) → IsAmong targets (key, op) → is_among (asked_in e.calls) key ≡ true → steps_of caller key (view_of stripes e.seats key).own ≡ [] → ⊥
 
-  starts_more : (old : List Seated) (es : List RoundEnd) (e : RoundEnd) (ps : List Progress) → length e.calls ≤ 1 → ((i : ℕ) → HasGrown (view_at (seats_after old es) i) (view_at e.seats i))
+  starts_more : (old : List Seated) (es : List RoundEnd) (e : RoundEnd) (ps : List KeyProgress) → length e.calls ≤ 1 → ((i : ℕ) → HasGrown (view_at (seats_after old es) i) (view_at e.seats i))
       → ((place : ℕ) (key : Bytes) (op : Op) → slice_get targets place ≡ Some (key, op) → is_among (asked_in e.calls) key ≡ true → slice_get ps place ≡ Some Waiting)
       → AreOver e → HeldInEach caller stripes targets old es ps → EachStartsAll caller stripes targets old es → EachStartsAll caller stripes targets old (es ++ e ∷ [])
   starts_more old [] e ps few grown waited over held each = (
@@ -84,24 +84,24 @@ module _ (caller : Caller) (stripes : ℕ) (targets : List (Bytes × Op)) where
       few = each.0.few;
       grown = each.0.grown;
       ended = each.0.ended;
-      no_step = λ key op among asked. step key op among (either_asked (calls_of es) e.calls key (ap (λ cs. is_among (asked_in cs) key) (sym (calls_more es e)) ∙ asked));
-      put_off = λ key op among asked. by key op among (either_asked (calls_of es) e.calls key (ap (λ cs. is_among (asked_in cs) key) (sym (calls_more es e)) ∙ asked));
+      no_step = λ key op among asked. step key op among (either_asked (rounds_asked es) e.calls key (ap (λ cs. is_among (asked_in cs) key) (sym (calls_more es e)) ∙ asked));
+      put_off = λ key op among asked. by key op among (either_asked (rounds_asked es) e.calls key (ap (λ cs. is_among (asked_in cs) key) (sym (calls_more es e)) ∙ asked));
     },
     starts_more f.seats es e ps few grown waited over held.2 each.1,
   )
     where
-      step : (key : Bytes) (op : Op) → IsAmong targets (key, op) → (is_among (asked_in (calls_of es)) key ≡ true) ⊎ (is_among (asked_in e.calls) key ≡ true) → steps_of caller key (view_of stripes f.seats key).own ≡ []
+      step : (key : Bytes) (op : Op) → IsAmong targets (key, op) → (is_among (asked_in (rounds_asked es)) key ≡ true) ⊎ (is_among (asked_in e.calls) key ≡ true) → steps_of caller key (view_of stripes f.seats key).own ≡ []
       step key op among (inl before) = each.0.no_step key op among before
       step key op among (inr now) = let at = place_among targets (key, op) among in held.1 at.0 key op Waiting at.2 (waited at.0 key op at.2 now) refl
 
-      by : (key : Bytes) (op : Op) → IsAmong targets (key, op) → (is_among (asked_in (calls_of es)) key ≡ true) ⊎ (is_among (asked_in e.calls) key ≡ true)
+      by : (key : Bytes) (op : Op) → IsAmong targets (key, op) → (is_among (asked_in (rounds_asked es)) key ≡ true) ⊎ (is_among (asked_in e.calls) key ≡ true)
           → IsFull caller stripes targets old f.seats (length (asked_in f.calls)) ⊎ IsHeldBack caller (view_of stripes old key) (view_of stripes f.seats key) key op
       by key op among (inl before) = each.0.put_off key op among before
       by key op among (inr now) = let at = place_among targets (key, op) among in held.0 at.0 at.1 key op Waiting at.2 (waited at.0 key op at.2 now) refl
 
 -- between two rounds: a key that was asked for has a step, and one that is held back has none
-module _ {I J : Type 0} {D : I → Type 0} {E : J → Type 0} (cache : CacheState) (past : Past) (session : Session I J D E) (call : BulkCall) (between : IsBetween cache past session call) where
-  ended : (key : Bytes) (op : Op) (p : Progress) → is_held_back p ≡ false → is_reserved p ≡ false → is_among (asked_in past.rounds) key ≡ true
+module _ {I J : Type 0} {D : I → Type 0} {E : J → Type 0} (cache : CacheState) (past : CallPast) (session : Session I J D E) (call : BulkCall) (between : IsBetween cache past session call) where
+  ended : (key : Bytes) (op : Op) (p : KeyProgress) → is_held_back p ≡ false → holds_reservation p ≡ false → is_among (asked_in past.rounds) key ≡ true
       → IsAt cache.config past.caller past.rounds (view_of cache.config.stripes past.first key) (view_of cache.config.stripes session.seats.items key) key op p
       → steps_of past.caller key (view_of cache.config.stripes session.seats.items key).own ≡ [] → ⊥
   ended key op Waiting held free asked at none = let bad : true ≡ false = held in cc
@@ -116,12 +116,12 @@ module _ {I J : Type 0} {D : I → Type 0} {E : J → Type 0} (cache : CacheStat
       let u = between.on.under in
       let at = place_among ops (key, op) among in
       let p = between.on.asked.over at.0 key op at.2 asked in
-      ended key op p.0 p.2 (none_in is_reserved _ ops call.progress.items u.so_far.many u.calls_are at.0 p.0 p.1) asked (u.so_far.each at.0 key op p.0 at.2 p.1)
+      ended key op p.0 p.2 (none_in holds_reservation _ ops call.progress.items u.so_far.many u.calls_are at.0 p.0 p.1) asked (u.so_far.each at.0 key op p.0 at.2 p.1)
 
   have_none : HaveNoStep past.caller cache.config.stripes (ops_of call.targets.now) session.seats.items call.progress.items
   have_none place key op p there at held = by p held (between.on.under.so_far.each place key op p there at)
     where
-      by : (p : Progress) → is_held_back p ≡ true → IsAt cache.config past.caller past.rounds (view_of cache.config.stripes past.first key) (view_of cache.config.stripes session.seats.items key) key op p
+      by : (p : KeyProgress) → is_held_back p ≡ true → IsAt cache.config past.caller past.rounds (view_of cache.config.stripes past.first key) (view_of cache.config.stripes session.seats.items key) key op p
           → steps_of past.caller key (view_of cache.config.stripes session.seats.items key).own ≡ []
       by Waiting held none = none
       by Reserved held none = none
@@ -130,7 +130,7 @@ module _ {I J : Type 0} {D : I → Type 0} {E : J → Type 0} (cache : CacheStat
 
 -- the call goes on by a round
 module _ {I J : Type 0} {D : I → Type 0} {E : J → Type 0} where
-  pub none_run : (cache : CacheState) (past : Past) (session : Session I J D E) (call : BulkCall) → past.rounds ≡ [] → past.first ≡ session.seats.items → IsBetween cache past session call → HasRun cache past session call
+  pub none_run : (cache : CacheState) (past : CallPast) (session : Session I J D E) (call : BulkCall) → past.rounds ≡ [] → past.first ≡ session.seats.items → IsBetween cache past session call → HasRun cache past session call
   none_run cache past session call none first between = record {
     between = between;
     started = record { ends = []; calls_are = sym none; seats_are = first; each = tt };
@@ -138,7 +138,7 @@ module _ {I J : Type 0} {D : I → Type 0} {E : J → Type 0} where
     first = tt;
   }
 
-  pub run_more : (cache : CacheState) (past : Past) (old new : Session I J D E) (call later : BulkCall) (calls : List Round) → later.targets ≡ call.targets
+  pub run_more : (cache : CacheState) (past : CallPast) (old new : Session I J D E) (call later : BulkCall) (calls : List Round) → later.targets ≡ call.targets
       → IsRound past.caller cache.config.stripes (ops_of call.targets.now) old.seats.items new.seats.items call.progress.items later.progress.items calls
       → KeepsCause call.cause later.cause → IsBetween cache (with_rounds past calls) new later → HasRun cache past old call → HasRun cache (with_rounds past calls) new later
   run_more cache past old new call later calls same round keeps between run =

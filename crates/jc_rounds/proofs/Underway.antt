@@ -44,14 +44,14 @@ use Rattle.jc_session.specs.declared.counts.Counted.TheVariants.{Committed}
 use Rattle.jc_session.specs.declared.counts.Counts.{Counts}
 use Rattle.jc_cache.specs.Caches.{CacheState}
 use Rattle.jc_session.specs.declared.session.Session.{Session}
-use Rattle.jc_rounds.specs.declared.progress.Progress.{Progress}
-use Rattle.jc_rounds.specs.declared.progress.Progress.TheVariants.{Waiting, Reserved, Joined, Ended}
-use Rattle.jc_rounds.specs.KeyProgress.{StayEnded, is_joined, is_reserved, is_settled, is_waiting}
+use Rattle.jc_rounds.specs.declared.progress.KeyProgress.{KeyProgress}
+use Rattle.jc_rounds.specs.declared.progress.KeyProgress.TheVariants.{Waiting, Reserved, Joined, Ended}
+use Rattle.jc_rounds.specs.KeyProgress.{StayEnded, holds_reservation, is_settled, waits_for_joined_load, waits_for_round}
 use Rattle.jc_rounds.specs.Keys.{HasBegun, HasPicked, IsAt, IsCommitted, IsJoinFor, IsTicketFor}
 use Rattle.jc_rounds.specs.KeyPhases.{IsKeyPhase}
 use Rattle.jc_rounds.specs.Recorded.{steps_of}
 use Rattle.jc_rounds.specs.Rounds.{IsAnswer, Round, asked_in, keys_asked}
-use Rattle.jc_rounds.specs.Seats.{HasGrown, Moves, view_of}
+use Rattle.jc_rounds.specs.Seats.{HasGrown, MovesAtKey, view_of}
 use Rattle.jc_rounds.specs.SoFar.{AreIn, AreSettledFrom, AreUnder, IsKept, IsPicked, IsUnderway}
 use Rattle.jc_rounds.proofs.KeyPhases.{all_before}
 use Rattle.jc_rounds.proofs.Out.{keep_in, pop_in, push_in}
@@ -65,7 +65,7 @@ refused_at : (caller : Caller) (config : Config) (v w : View) (key : Bytes) (op 
 refused_at caller config v w key op refusal true is has = has.0
 refused_at caller config v w key op refusal false is has = (has.0, refl, ⊎_elim (λ put_off. absurd (let bad : true ≡ false = sym put_off ∙ is in cc)) (λ full. inr (full, has.3)) has.1)
 
-pub kept_at : (caller : Caller) (config : Config) (v w : View) (key : Bytes) (op : Op) (b : Begun) (p : Progress) (ts ts' : List TicketClaim) (joins joins' : List JoinClaim) → HasBegun caller config v w key op b → IsKept b p ts ts' joins joins'
+pub kept_at : (caller : Caller) (config : Config) (v w : View) (key : Bytes) (op : Op) (b : Begun) (p : KeyProgress) (ts ts' : List TicketClaim) (joins joins' : List JoinClaim) → HasBegun caller config v w key op b → IsKept b p ts ts' joins joins'
     → IsAt config caller [] v w key op p
 kept_at caller config v w key op (begun.Done done) p ts ts' joins joins' has kept = subst (IsAt config caller [] v w key op) (sym kept.0) has
 kept_at caller config v w key op (begun.Refused refusal) p ts ts' joins joins' has kept = subst (IsAt config caller [] v w key op) (sym kept.0) (refused_at caller config v w key op refusal (is_put_off refusal) refl has)
@@ -98,7 +98,7 @@ as_many f [] = refl
 as_many f (x ∷ xs) = ap suc (as_many f xs)
 
 -- what is counted of a first phase
-reserved_count : (b : Begun) (p : Progress) (counts : Counts) (ts ts' : List TicketClaim) (joins joins' : List JoinClaim) → IsKept b p ts ts' joins joins' → nat_lt (length ts) last_number ≡ true → counts.reservations ≡ length (map reserved_by ts)
+reserved_count : (b : Begun) (p : KeyProgress) (counts : Counts) (ts ts' : List TicketClaim) (joins joins' : List JoinClaim) → IsKept b p ts ts' joins joins' → nat_lt (length ts) last_number ≡ true → counts.reservations ≡ length (map reserved_by ts)
     → (counts_after counts (counted_begun b)).reservations ≡ length (map reserved_by ts')
 reserved_count (begun.Done done) p counts ts ts' joins joins' kept few is = is ∙ ap (λ xs. length (map reserved_by xs)) (sym kept.1)
 reserved_count (begun.Refused refusal) p counts ts ts' joins joins' kept few is = is ∙ ap (λ xs. length (map reserved_by xs)) (sym kept.1)
@@ -106,60 +106,60 @@ reserved_count (begun.Asks ticket) p counts ts ts' joins joins' kept few is =
     count_more (map reserved_by ts) ticket.reservation counts.reservations is (ap (λ n. nat_lt n last_number) (as_many reserved_by ts) ∙ few) ∙ ap length (sym (reserved_more ts ticket)) ∙ ap (λ xs. length (map reserved_by xs)) (sym kept.1)
 reserved_count (begun.Joined join) p counts ts ts' joins joins' kept few is = is ∙ ap (λ xs. length (map reserved_by xs)) (sym kept.1)
 
-joined_count : (b : Begun) (p : Progress) (counts : Counts) (ts ts' : List TicketClaim) (joins joins' : List JoinClaim) → IsKept b p ts ts' joins joins' → nat_lt (length joins) last_number ≡ true → counts.joins ≡ length joins
+joined_count : (b : Begun) (p : KeyProgress) (counts : Counts) (ts ts' : List TicketClaim) (joins joins' : List JoinClaim) → IsKept b p ts ts' joins joins' → nat_lt (length joins) last_number ≡ true → counts.joins ≡ length joins
     → (counts_after counts (counted_begun b)).joins ≡ length joins'
 joined_count (begun.Done done) p counts ts ts' joins joins' kept few is = is ∙ ap length (sym kept.2)
 joined_count (begun.Refused refusal) p counts ts ts' joins joins' kept few is = is ∙ ap length (sym kept.2)
 joined_count (begun.Asks ticket) p counts ts ts' joins joins' kept few is = is ∙ ap length (sym kept.2)
 joined_count (begun.Joined join) p counts ts ts' joins joins' kept few is = count_more joins join counts.joins is few ∙ ap length (sym kept.2)
 
-refused_is : (has : Progress → Bool) (refusal : Refusal) (b : Bool) → has Waiting ≡ false → has (Ended (Err refusal)) ≡ false → has (if b then Waiting else Ended (Err refusal)) ≡ false
+refused_is : (has : KeyProgress → Bool) (refusal : Refusal) (b : Bool) → has Waiting ≡ false → has (Ended (Err refusal)) ≡ false → has (if b then Waiting else Ended (Err refusal)) ≡ false
 refused_is has refusal true w e = w
 refused_is has refusal false w e = e
 
-pub settled_not_reserved : (p : Progress) → is_settled p ≡ true → is_reserved p ≡ false
+pub settled_not_reserved : (p : KeyProgress) → is_settled p ≡ true → holds_reservation p ≡ false
 settled_not_reserved Waiting h = refl
 settled_not_reserved Reserved h = cc
 settled_not_reserved Joined h = refl
 settled_not_reserved (Ended ended) h = refl
 
-settled_not_joined : (p : Progress) → is_settled p ≡ true → is_joined p ≡ false
+settled_not_joined : (p : KeyProgress) → is_settled p ≡ true → waits_for_joined_load p ≡ false
 settled_not_joined Waiting h = refl
 settled_not_joined Reserved h = refl
 settled_not_joined Joined h = cc
 settled_not_joined (Ended ended) h = refl
 
-module _ (caller : Caller) (config : Config) (targets : List (Bytes × Op)) (ps : List Progress) (place : ℕ) (key : Bytes) (op : Op) (v w : View) (there : slice_get targets place ≡ Some (key, op)) (near : place < length ps)
+module _ (caller : Caller) (config : Config) (targets : List (Bytes × Op)) (ps : List KeyProgress) (place : ℕ) (key : Bytes) (op : Op) (v w : View) (there : slice_get targets place ≡ Some (key, op)) (near : place < length ps)
     (waits : slice_get ps place ≡ Some Waiting) (behind : AreSettledFrom place ps) where
-  kept_same : (p : Progress) (ts ts' : List TicketClaim) → ts' ≡ ts → is_reserved p ≡ false → AreIn is_reserved (IsTicketFor caller config) targets ps (map reserved_by ts) → AreIn is_reserved (IsTicketFor caller config) targets (set ps place p) (map reserved_by ts')
+  kept_same : (p : KeyProgress) (ts ts' : List TicketClaim) → ts' ≡ ts → holds_reservation p ≡ false → AreIn holds_reservation (IsTicketFor caller config) targets ps (map reserved_by ts) → AreIn holds_reservation (IsTicketFor caller config) targets (set ps place p) (map reserved_by ts')
   kept_same p ts ts' same isnt are =
-      subst (AreIn is_reserved (IsTicketFor caller config) targets (set ps place p)) (ap (map reserved_by) (sym same)) (keep_in is_reserved (IsTicketFor caller config) targets ps (map reserved_by ts) place Waiting p waits (sym isnt) are)
+      subst (AreIn holds_reservation (IsTicketFor caller config) targets (set ps place p)) (ap (map reserved_by) (sym same)) (keep_in holds_reservation (IsTicketFor caller config) targets ps (map reserved_by ts) place Waiting p waits (sym isnt) are)
 
-  kept_calls : (b : Begun) (p : Progress) (ts ts' : List TicketClaim) (joins joins' : List JoinClaim) → HasBegun caller config v w key op b → IsKept b p ts ts' joins joins'
-      → AreIn is_reserved (IsTicketFor caller config) targets ps (map reserved_by ts) → AreIn is_reserved (IsTicketFor caller config) targets (set ps place p) (map reserved_by ts')
+  kept_calls : (b : Begun) (p : KeyProgress) (ts ts' : List TicketClaim) (joins joins' : List JoinClaim) → HasBegun caller config v w key op b → IsKept b p ts ts' joins joins'
+      → AreIn holds_reservation (IsTicketFor caller config) targets ps (map reserved_by ts) → AreIn holds_reservation (IsTicketFor caller config) targets (set ps place p) (map reserved_by ts')
   kept_calls (begun.Asks ticket) p ts ts' joins joins' has kept are =
-      subst (AreIn is_reserved (IsTicketFor caller config) targets (set ps place p)) (sym (reserved_more ts ticket) ∙ ap (map reserved_by) (sym kept.1))
-      (push_in is_reserved (IsTicketFor caller config) targets ps (map reserved_by ts) place key op p ticket.reservation there near (λ j q le at. settled_not_reserved q (behind j q le at)) (ap is_reserved kept.0) has.3 are)
-  kept_calls (begun.Done done) p ts ts' joins joins' has kept are = kept_same p ts ts' kept.1 (ap is_reserved kept.0) are
-  kept_calls (begun.Refused refusal) p ts ts' joins joins' has kept are = kept_same p ts ts' kept.1 (ap is_reserved kept.0 ∙ refused_is is_reserved refusal (is_put_off refusal) refl refl) are
-  kept_calls (begun.Joined join) p ts ts' joins joins' has kept are = kept_same p ts ts' kept.1 (ap is_reserved kept.0) are
+      subst (AreIn holds_reservation (IsTicketFor caller config) targets (set ps place p)) (sym (reserved_more ts ticket) ∙ ap (map reserved_by) (sym kept.1))
+      (push_in holds_reservation (IsTicketFor caller config) targets ps (map reserved_by ts) place key op p ticket.reservation there near (λ j q le at. settled_not_reserved q (behind j q le at)) (ap holds_reservation kept.0) has.3 are)
+  kept_calls (begun.Done done) p ts ts' joins joins' has kept are = kept_same p ts ts' kept.1 (ap holds_reservation kept.0) are
+  kept_calls (begun.Refused refusal) p ts ts' joins joins' has kept are = kept_same p ts ts' kept.1 (ap holds_reservation kept.0 ∙ refused_is holds_reservation refusal (is_put_off refusal) refl refl) are
+  kept_calls (begun.Joined join) p ts ts' joins joins' has kept are = kept_same p ts ts' kept.1 (ap holds_reservation kept.0) are
 
-  kept_joins : (fits : Bytes → Op → JoinClaim → Type 0) → ((join : JoinClaim) → IsJoinFor caller v key op join → fits key op join) → (b : Begun) (p : Progress) (ts ts' : List TicketClaim) (joins joins' : List JoinClaim)
-      → HasBegun caller config v w key op b → IsKept b p ts ts' joins joins' → AreIn is_joined fits targets ps joins → AreIn is_joined fits targets (set ps place p) joins'
+  kept_joins : (fits : Bytes → Op → JoinClaim → Type 0) → ((join : JoinClaim) → IsJoinFor caller v key op join → fits key op join) → (b : Begun) (p : KeyProgress) (ts ts' : List TicketClaim) (joins joins' : List JoinClaim)
+      → HasBegun caller config v w key op b → IsKept b p ts ts' joins joins' → AreIn waits_for_joined_load fits targets ps joins → AreIn waits_for_joined_load fits targets (set ps place p) joins'
   kept_joins fits fit (begun.Joined join) p ts ts' joins joins' has kept are =
-      subst (AreIn is_joined fits targets (set ps place p)) (sym kept.2)
-      (push_in is_joined fits targets ps joins place key op p join there near (λ j q le at. settled_not_joined q (behind j q le at)) (ap is_joined kept.0) (fit join has.1) are)
+      subst (AreIn waits_for_joined_load fits targets (set ps place p)) (sym kept.2)
+      (push_in waits_for_joined_load fits targets ps joins place key op p join there near (λ j q le at. settled_not_joined q (behind j q le at)) (ap waits_for_joined_load kept.0) (fit join has.1) are)
   kept_joins fits fit (begun.Done done) p ts ts' joins joins' has kept are =
-      subst (AreIn is_joined fits targets (set ps place p)) (sym kept.2) (keep_in is_joined fits targets ps joins place Waiting p waits (sym (ap is_joined kept.0)) are)
+      subst (AreIn waits_for_joined_load fits targets (set ps place p)) (sym kept.2) (keep_in waits_for_joined_load fits targets ps joins place Waiting p waits (sym (ap waits_for_joined_load kept.0)) are)
   kept_joins fits fit (begun.Refused refusal) p ts ts' joins joins' has kept are =
-      subst (AreIn is_joined fits targets (set ps place p)) (sym kept.2)
-      (keep_in is_joined fits targets ps joins place Waiting p waits (sym (ap is_joined kept.0 ∙ refused_is is_joined refusal (is_put_off refusal) refl refl)) are)
+      subst (AreIn waits_for_joined_load fits targets (set ps place p)) (sym kept.2)
+      (keep_in waits_for_joined_load fits targets ps joins place Waiting p waits (sym (ap waits_for_joined_load kept.0 ∙ refused_is waits_for_joined_load refusal (is_put_off refusal) refl refl)) are)
   kept_joins fits fit (begun.Asks ticket) p ts ts' joins joins' has kept are =
-      subst (AreIn is_joined fits targets (set ps place p)) (sym kept.2) (keep_in is_joined fits targets ps joins place Waiting p waits (sym (ap is_joined kept.0)) are)
+      subst (AreIn waits_for_joined_load fits targets (set ps place p)) (sym kept.2) (keep_in waits_for_joined_load fits targets ps joins place Waiting p waits (sym (ap waits_for_joined_load kept.0)) are)
 
 module _ {I J : Type 0} {D : I → Type 0} {E : J → Type 0} where
-  pub started_on : (cache : CacheState) (caller : Caller) (targets : List (Bytes × Op)) (rounds : List Round) (first : List Seated) (old new : Session I J D E) (ps : List Progress) (ts ts' : List TicketClaim) (joins joins' : List JoinClaim)
-      (place : ℕ) (key : Bytes) (op : Op) (b : Begun) (p : Progress) → IsDistinct (pointwise ◌==◌) (keys_of targets) → slice_get targets place ≡ Some (key, op) → place < length ps → slice_get ps place ≡ Some Waiting → AreSettledFrom place ps
+  pub started_on : (cache : CacheState) (caller : Caller) (targets : List (Bytes × Op)) (rounds : List Round) (first : List Seated) (old new : Session I J D E) (ps : List KeyProgress) (ts ts' : List TicketClaim) (joins joins' : List JoinClaim)
+      (place : ℕ) (key : Bytes) (op : Op) (b : Begun) (p : KeyProgress) → IsDistinct (pointwise ◌==◌) (keys_of targets) → slice_get targets place ≡ Some (key, op) → place < length ps → slice_get ps place ≡ Some Waiting → AreSettledFrom place ps
       → is_among (asked_in rounds) key ≡ false
       → IsKeyPhase cache old key (counted_begun b) new (HasBegun old.agent.caller cache.config (view_of cache.config.stripes old.seats.items key) (view_of cache.config.stripes new.seats.items key) key op b)
       → nat_lt (length ts) last_number ≡ true → nat_lt (length joins) last_number ≡ true → IsKept b p ts ts' joins joins'
@@ -168,7 +168,7 @@ module _ {I J : Type 0} {D : I → Type 0} {E : J → Type 0} where
       let n = cache.config.stripes in
       let v = view_of n old.seats.items key in
       let w = view_of n new.seats.items key in
-      let moved : Moves caller n key old.seats.items new.seats.items = subst (λ (c : Caller). Moves c n key old.seats.items new.seats.items) u.caller_is phase.moves in
+      let moved : MovesAtKey caller n key old.seats.items new.seats.items = subst (λ (c : Caller). MovesAtKey c n key old.seats.items new.seats.items) u.caller_is phase.moves in
       let has : HasBegun caller cache.config v w key op b = subst (λ (c : Caller). HasBegun c cache.config v w key op b) u.caller_is phase.made in
       let grown = u.so_far.grown (stripe_of key n) in
       record {
@@ -189,12 +189,12 @@ module _ {I J : Type 0} {D : I → Type 0} {E : J → Type 0} where
 
 module _ {I J : Type 0} {D : I → Type 0} {E : J → Type 0} where
   -- the ticket of the first key that is reserved
-  pub first_ticket : (cache : CacheState) (caller : Caller) (targets : List (Bytes × Op)) (rounds : List Round) (first : List Seated) (session : Session I J D E) (ps : List Progress) (r : Reservation) (rest : List Reservation) (joins : List JoinClaim)
-      (place : ℕ) (p : Progress) → slice_get ps place ≡ Some Reserved → AreUnder is_reserved place ps → is_reserved p ≡ false → IsUnderway cache caller targets rounds first session ps (r ∷ rest) joins
-      → (op : Op) × (slice_get targets place ≡ Some (r.key, op)) × IsTicketFor caller cache.config r.key op r × AreIn is_reserved (IsTicketFor caller cache.config) targets (set ps place p) rest
+  pub first_ticket : (cache : CacheState) (caller : Caller) (targets : List (Bytes × Op)) (rounds : List Round) (first : List Seated) (session : Session I J D E) (ps : List KeyProgress) (r : Reservation) (rest : List Reservation) (joins : List JoinClaim)
+      (place : ℕ) (p : KeyProgress) → slice_get ps place ≡ Some Reserved → AreUnder holds_reservation place ps → holds_reservation p ≡ false → IsUnderway cache caller targets rounds first session ps (r ∷ rest) joins
+      → (op : Op) × (slice_get targets place ≡ Some (r.key, op)) × IsTicketFor caller cache.config r.key op r × AreIn holds_reservation (IsTicketFor caller cache.config) targets (set ps place p) rest
       × (steps_of caller r.key (view_of cache.config.stripes session.seats.items r.key).own ≡ [])
   first_ticket cache caller targets rounds first session ps r rest joins place p there before isnt u =
-      let popped = pop_in is_reserved (IsTicketFor caller cache.config) targets ps (r ∷ rest) place Reserved p u.so_far.many there refl before isnt u.calls_are in
+      let popped = pop_in holds_reservation (IsTicketFor caller cache.config) targets ps (r ∷ rest) place Reserved p u.so_far.many there refl before isnt u.calls_are in
       let same : popped.2 ≡ r = cc in
       let others : popped.3 ≡ rest = cc in
       let fits : IsTicketFor caller cache.config popped.0 popped.1 r = subst (IsTicketFor caller cache.config popped.0 popped.1) same popped.6 in
@@ -203,12 +203,12 @@ module _ {I J : Type 0} {D : I → Type 0} {E : J → Type 0} where
         popped.1,
         at,
         subst (λ k. IsTicketFor caller cache.config k popped.1 r) key fits,
-        subst (AreIn is_reserved (IsTicketFor caller cache.config) targets (set ps place p)) others popped.7,
+        subst (AreIn holds_reservation (IsTicketFor caller cache.config) targets (set ps place p)) others popped.7,
         u.so_far.each place r.key popped.1 Reserved at there,
       )
 
-  pub committed_on : (cache : CacheState) (caller : Caller) (targets : List (Bytes × Op)) (rounds : List Round) (first : List Seated) (old new : Session I J D E) (ps : List Progress) (r : Reservation) (out : Out) (rest : List Reservation) (joins : List JoinClaim)
-      (place : ℕ) (reply : Reply) (round : Round) → IsDistinct (pointwise ◌==◌) (keys_of targets) → slice_get ps place ≡ Some Reserved → AreUnder is_reserved place ps → IsAmong rounds round → is_among (keys_asked round) r.key ≡ true → IsAnswer cache.config round r.key r.first out
+  pub committed_on : (cache : CacheState) (caller : Caller) (targets : List (Bytes × Op)) (rounds : List Round) (first : List Seated) (old new : Session I J D E) (ps : List KeyProgress) (r : Reservation) (out : Out) (rest : List Reservation) (joins : List JoinClaim)
+      (place : ℕ) (reply : Reply) (round : Round) → IsDistinct (pointwise ◌==◌) (keys_of targets) → slice_get ps place ≡ Some Reserved → AreUnder holds_reservation place ps → IsAmong rounds round → is_among (keys_asked round) r.key ≡ true → IsAnswer cache.config round r.key r.first out
       → IsKeyPhase cache old r.key Committed new (IsCommitted cache.config old.agent.caller r out (view_of cache.config.stripes old.seats.items r.key) (view_of cache.config.stripes new.seats.items r.key) reply)
       → IsUnderway cache caller targets rounds first old ps (r ∷ rest) joins → IsUnderway cache caller targets rounds first new (set ps place (Ended (Ok reply))) rest joins
   committed_on cache caller targets rounds first old new ps r out rest joins place reply round distinct there before among asked said phase u =
@@ -216,7 +216,7 @@ module _ {I J : Type 0} {D : I → Type 0} {E : J → Type 0} where
       let v = view_of n old.seats.items r.key in
       let w = view_of n new.seats.items r.key in
       let t = first_ticket cache caller targets rounds first old ps r rest joins place (Ended (Ok reply)) there before refl u in
-      let moved : Moves caller n r.key old.seats.items new.seats.items = subst (λ (c : Caller). Moves c n r.key old.seats.items new.seats.items) u.caller_is phase.moves in
+      let moved : MovesAtKey caller n r.key old.seats.items new.seats.items = subst (λ (c : Caller). MovesAtKey c n r.key old.seats.items new.seats.items) u.caller_is phase.moves in
       let made : IsCommitted cache.config caller r out v w reply = subst (λ (c : Caller). IsCommitted cache.config c r out v w reply) u.caller_is phase.made in
       let at : IsAt cache.config caller rounds v w r.key r.op (Ended (Ok reply)) = record {
         out = out;
@@ -249,22 +249,22 @@ module _ {I J : Type 0} {D : I → Type 0} {E : J → Type 0} where
             (at_since cache.config caller rounds (view_of n first r.key) v w r.key t.0 (Ended (Ok reply)) (u.so_far.grown (stripe_of r.key n))
             (subst (λ o. IsAt cache.config caller rounds v w r.key o (Ended (Ok reply))) t.2.op_is at));
         calls_are = t.3;
-        joins_are = keep_in is_joined _ targets ps joins place Reserved (Ended (Ok reply)) there refl u.joins_are;
+        joins_are = keep_in waits_for_joined_load _ targets ps joins place Reserved (Ended (Ok reply)) there refl u.joins_are;
       }
 
 -- 3. Pick-ups.
 
-picked_at : (config : Config) (caller : Caller) (first w : View) (key : Bytes) (p : Polled) (q : Progress) → HasPicked config caller first w key Get p → IsPicked p q → IsAt config caller [] first w key Get q
+picked_at : (config : Config) (caller : Caller) (first w : View) (key : Bytes) (p : Polled) (q : KeyProgress) → HasPicked config caller first w key Get p → IsPicked p q → IsAt config caller [] first w key Get q
 picked_at config caller first w key (polled.Answer reply place shared_with) q has is = subst (IsAt config caller [] first w key Get) (sym is) has
 picked_at config caller first w key polled.Again q has is = subst (IsAt config caller [] first w key Get) (sym is) has
 picked_at config caller first w key (polled.NotYet join) q has is = absurd is
 
-picked_settled : (p : Polled) (q : Progress) → IsPicked p q → is_settled q ≡ true
+picked_settled : (p : Polled) (q : KeyProgress) → IsPicked p q → is_settled q ≡ true
 picked_settled (polled.Answer reply place shared_with) q is = ap is_settled is
 picked_settled polled.Again q is = ap is_settled is
 picked_settled (polled.NotYet join) q is = absurd is
 
-picked_joins : (p : Polled) (q : Progress) (counts : Counts) → IsPicked p q → (counts_after counts (counted_polled p)).joins ≡ counts.joins - 1
+picked_joins : (p : Polled) (q : KeyProgress) (counts : Counts) → IsPicked p q → (counts_after counts (counted_polled p)).joins ≡ counts.joins - 1
 picked_joins (polled.Answer reply place shared_with) q counts is = refl
 picked_joins polled.Again q counts is = refl
 picked_joins (polled.NotYet join) q counts is = absurd is
@@ -276,14 +276,14 @@ picked_reservations (polled.NotYet join) counts = refl
 
 module _ {I J : Type 0} {D : I → Type 0} {E : J → Type 0} where
   -- the join of the first key that has joined a load
-  pub first_join : (cache : CacheState) (caller : Caller) (targets : List (Bytes × Op)) (rounds : List Round) (first : List Seated) (session : Session I J D E) (ps : List Progress) (calls : List Reservation) (join : JoinClaim) (rest : List JoinClaim)
-      (place : ℕ) (p : Progress) → slice_get ps place ≡ Some Joined → AreUnder is_joined place ps → is_joined p ≡ false → IsUnderway cache caller targets rounds first session ps calls (join ∷ rest)
+  pub first_join : (cache : CacheState) (caller : Caller) (targets : List (Bytes × Op)) (rounds : List Round) (first : List Seated) (session : Session I J D E) (ps : List KeyProgress) (calls : List Reservation) (join : JoinClaim) (rest : List JoinClaim)
+      (place : ℕ) (p : KeyProgress) → slice_get ps place ≡ Some Joined → AreUnder waits_for_joined_load place ps → waits_for_joined_load p ≡ false → IsUnderway cache caller targets rounds first session ps calls (join ∷ rest)
       → (slice_get targets place ≡ Some (join.key, Get)) × IsJoinFor caller (view_of cache.config.stripes first join.key) join.key Get join
-      × AreIn is_joined (λ k o j. IsJoinFor caller (view_of cache.config.stripes first k) k o j) targets (set ps place p) rest
+      × AreIn waits_for_joined_load (λ k o j. IsJoinFor caller (view_of cache.config.stripes first k) k o j) targets (set ps place p) rest
       × (steps_of caller join.key (view_of cache.config.stripes session.seats.items join.key).own ≡ [])
   first_join cache caller targets rounds first session ps calls join rest place p there before isnt u =
       let n = cache.config.stripes in
-      let popped = pop_in is_joined (λ k o j. IsJoinFor caller (view_of n first k) k o j) targets ps (join ∷ rest) place Joined p u.so_far.many there refl before isnt u.joins_are in
+      let popped = pop_in waits_for_joined_load (λ k o j. IsJoinFor caller (view_of n first k) k o j) targets ps (join ∷ rest) place Joined p u.so_far.many there refl before isnt u.joins_are in
       let same : popped.2 ≡ join = cc in
       let others : popped.3 ≡ rest = cc in
       let fits : IsJoinFor caller (view_of n first popped.0) popped.0 popped.1 join = subst (IsJoinFor caller (view_of n first popped.0) popped.0 popped.1) same popped.6 in
@@ -291,12 +291,12 @@ module _ {I J : Type 0} {D : I → Type 0} {E : J → Type 0} where
       let at : slice_get targets place ≡ Some (join.key, Get) = popped.4 ∙ ap (λ k. Some (k, popped.1)) key ∙ ap (λ o. Some (join.key, o)) fits.op_is in (
         at,
         subst (λ o. IsJoinFor caller (view_of n first join.key) join.key o join) fits.op_is (subst (λ k. IsJoinFor caller (view_of n first k) k popped.1 join) key fits),
-        subst (AreIn is_joined (λ k o j. IsJoinFor caller (view_of n first k) k o j) targets (set ps place p)) others popped.7,
+        subst (AreIn waits_for_joined_load (λ k o j. IsJoinFor caller (view_of n first k) k o j) targets (set ps place p)) others popped.7,
         u.so_far.each place join.key Get Joined at there,
       )
 
-  pub picked_on : (cache : CacheState) (caller : Caller) (targets : List (Bytes × Op)) (rounds : List Round) (first : List Seated) (old new : Session I J D E) (ps : List Progress) (calls : List Reservation) (join : JoinClaim) (rest : List JoinClaim)
-      (place : ℕ) (p : Polled) (q : Progress) → IsDistinct (pointwise ◌==◌) (keys_of targets) → slice_get ps place ≡ Some Joined → AreUnder is_joined place ps → is_among (asked_in rounds) join.key ≡ false
+  pub picked_on : (cache : CacheState) (caller : Caller) (targets : List (Bytes × Op)) (rounds : List Round) (first : List Seated) (old new : Session I J D E) (ps : List KeyProgress) (calls : List Reservation) (join : JoinClaim) (rest : List JoinClaim)
+      (place : ℕ) (p : Polled) (q : KeyProgress) → IsDistinct (pointwise ◌==◌) (keys_of targets) → slice_get ps place ≡ Some Joined → AreUnder waits_for_joined_load place ps → is_among (asked_in rounds) join.key ≡ false
       → IsKeyPhase cache old join.key (counted_polled p) new
       ((before : View) → HasGrown before (view_of cache.config.stripes old.seats.items join.key) → IsJoinFor old.agent.caller before join.key Get join
       → HasPicked cache.config old.agent.caller before (view_of cache.config.stripes new.seats.items join.key) join.key Get p)
@@ -305,7 +305,7 @@ module _ {I J : Type 0} {D : I → Type 0} {E : J → Type 0} where
       let n = cache.config.stripes in
       let settled = picked_settled p q is in
       let t = first_join cache caller targets rounds first old ps calls join rest place q there before (settled_not_joined q settled) u in
-      let moved : Moves caller n join.key old.seats.items new.seats.items = subst (λ (c : Caller). Moves c n join.key old.seats.items new.seats.items) u.caller_is phase.moves in
+      let moved : MovesAtKey caller n join.key old.seats.items new.seats.items = subst (λ (c : Caller). MovesAtKey c n join.key old.seats.items new.seats.items) u.caller_is phase.moves in
       let gives : HasPicked cache.config caller (view_of n first join.key) (view_of n new.seats.items join.key) join.key Get p =
       subst (λ (c : Caller). HasPicked cache.config c (view_of n first join.key) (view_of n new.seats.items join.key) join.key Get p) u.caller_is
       (phase.made (view_of n first join.key) (u.so_far.grown (stripe_of join.key n)) (subst (λ (c : Caller). IsJoinFor c (view_of n first join.key) join.key Get join) (sym u.caller_is) t.1)) in
@@ -316,37 +316,37 @@ module _ {I J : Type 0} {D : I → Type 0} {E : J → Type 0} where
         joins_out = ap (λ (a : Agent I J D E). a.counts.joins) phase.agent ∙ picked_joins p q old.agent.counts is ∙ ap (λ k. k - 1) u.joins_out ∙ one_less join rest;
         so_far = goes_on cache.config caller n targets rounds first old.seats.items new.seats.items ps place join.key Get q distinct t.0 u.so_far moved
             (at_more cache.config caller [] rounds (view_of n first join.key) (view_of n new.seats.items join.key) join.key Get q (λ e is. unasked) (picked_at cache.config caller (view_of n first join.key) (view_of n new.seats.items join.key) join.key p q gives is));
-        calls_are = keep_in is_reserved (IsTicketFor caller cache.config) targets ps calls place Joined q there (sym (settled_not_reserved q settled)) u.calls_are;
+        calls_are = keep_in holds_reservation (IsTicketFor caller cache.config) targets ps calls place Joined q there (sym (settled_not_reserved q settled)) u.calls_are;
         joins_are = t.2;
       }
 
 -- 4. Keys that have ended.
 
-pub stay_itself : (ps : List Progress) → StayEnded ps ps
+pub stay_itself : (ps : List KeyProgress) → StayEnded ps ps
 stay_itself ps = record { many = refl; ended = λ place e at. at }
 
-pub stay_on : (ps qs rs : List Progress) → StayEnded ps qs → StayEnded qs rs → StayEnded ps rs
+pub stay_on : (ps qs rs : List KeyProgress) → StayEnded ps qs → StayEnded qs rs → StayEnded ps rs
 stay_on ps qs rs p q = record { many = q.many ∙ p.many; ended = λ place e at. q.ended place e (p.ended place e at) }
 
-set_other : (ps : List Progress) (i j : ℕ) (q p : Progress) (e : Result Reply Refusal) → slice_get ps i ≡ Some q → (q ≡ Ended e → ⊥) → slice_get ps j ≡ Some (Ended e) → slice_get (set ps i p) j ≡ Some (Ended e)
+set_other : (ps : List KeyProgress) (i j : ℕ) (q p : KeyProgress) (e : Result Reply Refusal) → slice_get ps i ≡ Some q → (q ≡ Ended e → ⊥) → slice_get ps j ≡ Some (Ended e) → slice_get (set ps i p) j ≡ Some (Ended e)
 set_other [] i j q p e at unended there = cc
 set_other (x ∷ ps) zero zero q p e at unended there = absurd (unended (sym (same_Some x q at) ∙ same_Some x (Ended e) there))
 set_other (x ∷ ps) zero (suc j) q p e at unended there = there
 set_other (x ∷ ps) (suc i) zero q p e at unended there = there
 set_other (x ∷ ps) (suc i) (suc j) q p e at unended there = set_other ps i j q p e at unended there
 
-pub stay_set : (ps : List Progress) (i : ℕ) (q p : Progress) → slice_get ps i ≡ Some q → ((e : Result Reply Refusal) → q ≡ Ended e → ⊥) → StayEnded ps (set ps i p)
+pub stay_set : (ps : List KeyProgress) (i : ℕ) (q p : KeyProgress) → slice_get ps i ≡ Some q → ((e : Result Reply Refusal) → q ≡ Ended e → ⊥) → StayEnded ps (set ps i p)
 stay_set ps i q p at unended = record { many = length-set ps i p; ended = λ place e there. set_other ps i place q p e at (unended e) there }
 
 -- what is under a place, once the key there goes on
-pub set_get : (ps : List Progress) (i j : ℕ) (p r : Progress) → slice_get (set ps i p) j ≡ Some r → ((j ≡ i) × (r ≡ p)) ⊎ ((j ≡ i → ⊥) × (slice_get ps j ≡ Some r))
+pub set_get : (ps : List KeyProgress) (i j : ℕ) (p r : KeyProgress) → slice_get (set ps i p) j ≡ Some r → ((j ≡ i) × (r ≡ p)) ⊎ ((j ≡ i → ⊥) × (slice_get ps j ≡ Some r))
 set_get [] i j p r at = cc
 set_get (x ∷ ps) zero zero p r at = inl (refl, sym (same_Some p r at))
 set_get (x ∷ ps) zero (suc j) p r at = inr ((λ e. cc), at)
 set_get (x ∷ ps) (suc i) zero p r at = inr ((λ e. cc), at)
 set_get (x ∷ ps) (suc i) (suc j) p r at = ⊎_elim (λ t. inl (ap suc t.0, t.1)) (λ t. inr ((λ e. t.0 (omega arith)), t.1)) (set_get ps i j p r at)
 
-pub under_set : (has : Progress → Bool) (ps : List Progress) (i : ℕ) (p : Progress) → has p ≡ false → AreUnder has i ps → AreUnder has (i + 1) (set ps i p)
+pub under_set : (has : KeyProgress → Bool) (ps : List KeyProgress) (i : ℕ) (p : KeyProgress) → has p ≡ false → AreUnder has i ps → AreUnder has (i + 1) (set ps i p)
 under_set has ps i p isnt under j r less at = ⊎_elim (λ t. ap has t.1 ∙ isnt) (λ t. under j r (let apart = t.0 in omega arith) t.1) (set_get ps i j p r at)
 
 pub below_or : (j i : ℕ) → j < i + 1 → (j ≡ i) ⊎ (j < i)
@@ -355,55 +355,55 @@ below_or zero (suc i) less = inr (omega arith)
 below_or (suc j) zero less = absurd (omega arith)
 below_or (suc j) (suc i) less = ⊎_elim (λ t. inl (ap suc t)) (λ t. inr (omega arith)) (below_or j i (omega arith))
 
-pub under_next : (has : Progress → Bool) (ps : List Progress) (i : ℕ) (q : Progress) → slice_get ps i ≡ Some q → has q ≡ false → AreUnder has i ps → AreUnder has (i + 1) ps
+pub under_next : (has : KeyProgress → Bool) (ps : List KeyProgress) (i : ℕ) (q : KeyProgress) → slice_get ps i ≡ Some q → has q ≡ false → AreUnder has i ps → AreUnder has (i + 1) ps
 under_next has ps i q at isnt under j r less there = by (below_or j i less)
   where
     by : (j ≡ i) ⊎ (j < i) → has r ≡ false
     by (inl same) = ap has (same_Some r q (sym there ∙ ap (slice_get ps) same ∙ at)) ∙ isnt
     by (inr below) = under j r below there
 
-pub settled_set : (ps : List Progress) (i : ℕ) (p : Progress) → AreSettledFrom i ps → AreSettledFrom (i + 1) (set ps i p)
+pub settled_set : (ps : List KeyProgress) (i : ℕ) (p : KeyProgress) → AreSettledFrom i ps → AreSettledFrom (i + 1) (set ps i p)
 settled_set ps i p from j r le at = ⊎_elim (λ t. absurd (let same = t.0 in omega arith)) (λ t. from j r (omega arith) t.1) (set_get ps i j p r at)
 
-pub settled_next : (ps : List Progress) (i : ℕ) → AreSettledFrom i ps → AreSettledFrom (i + 1) ps
+pub settled_next : (ps : List KeyProgress) (i : ℕ) → AreSettledFrom i ps → AreSettledFrom (i + 1) ps
 settled_next ps i from j r le at = from j r (omega arith) at
 
-pub picked_not_joined : (p : Polled) (q : Progress) → IsPicked p q → is_joined q ≡ false
+pub picked_not_joined : (p : Polled) (q : KeyProgress) → IsPicked p q → waits_for_joined_load q ≡ false
 picked_not_joined p q is = settled_not_joined q (picked_settled p q is)
 
 -- 5. The ends of the loops.
 
-pub place_near : (ps : List Progress) (i : ℕ) (p : Progress) → slice_get ps i ≡ Some p → i < length ps
+pub place_near : (ps : List KeyProgress) (i : ℕ) (p : KeyProgress) → slice_get ps i ≡ Some p → i < length ps
 place_near [] i p at = cc
 place_near (q ∷ ps) zero p at = omega arith
 place_near (q ∷ ps) (suc i) p at = let near = place_near ps i p at in omega arith
 
-pub none_at_all : (has : Progress → Bool) (ps : List Progress) (end : ℕ) → length ps ≤ end → AreUnder has end ps → (i : ℕ) (p : Progress) → slice_get ps i ≡ Some p → has p ≡ false
+pub none_at_all : (has : KeyProgress → Bool) (ps : List KeyProgress) (end : ℕ) → length ps ≤ end → AreUnder has end ps → (i : ℕ) (p : KeyProgress) → slice_get ps i ≡ Some p → has p ≡ false
 none_at_all has ps end past under i p at = under i p (let near = place_near ps i p at in omega arith) at
 
 -- the key at a place
-pub there_by : (ps : List Progress) (place : ℕ) (p : Progress) → place < length ps → p ≡ get_or ps place p → slice_get ps place ≡ Some p
+pub there_by : (ps : List KeyProgress) (place : ℕ) (p : KeyProgress) → place < length ps → p ≡ get_or ps place p → slice_get ps place ≡ Some p
 there_by ps place p near is = slice_get-get_or ps place p near ∙ ap Some (sym is)
 
-pub reserved_is : (p : Progress) → is_reserved p ≡ true → p ≡ Reserved
+pub reserved_is : (p : KeyProgress) → holds_reservation p ≡ true → p ≡ Reserved
 reserved_is Waiting h = cc
 reserved_is Reserved h = refl
 reserved_is Joined h = cc
 reserved_is (Ended e) h = cc
 
-pub joined_is : (p : Progress) → is_joined p ≡ true → p ≡ Joined
+pub joined_is : (p : KeyProgress) → waits_for_joined_load p ≡ true → p ≡ Joined
 joined_is Waiting h = cc
 joined_is Reserved h = cc
 joined_is Joined h = refl
 joined_is (Ended e) h = cc
 
-pub waiting_is : (p : Progress) → is_waiting p ≡ true → p ≡ Waiting
+pub waiting_is : (p : KeyProgress) → waits_for_round p ≡ true → p ≡ Waiting
 waiting_is Waiting h = refl
 waiting_is Reserved h = cc
 waiting_is Joined h = cc
 waiting_is (Ended e) h = cc
 
-pub settled_by : (p : Progress) → is_reserved p ≡ false → is_joined p ≡ false → is_settled p ≡ true
+pub settled_by : (p : KeyProgress) → holds_reservation p ≡ false → waits_for_joined_load p ≡ false → is_settled p ≡ true
 settled_by Waiting r j = refl
 settled_by Reserved r j = cc
 settled_by Joined r j = cc

@@ -32,8 +32,8 @@ use Rattle.jc_cache.specs.Caches.{CacheState}
 use Rattle.jc_session.specs.Sessions.{next_call}
 use Rattle.jc_cache.specs.Sessions.{MayCall}
 use Rattle.jc_session.specs.declared.session.Session.{Session}
-use Rattle.jc_rounds.specs.declared.progress.Progress.{Progress}
-use Rattle.jc_rounds.specs.declared.progress.Progress.TheVariants.{Waiting, Reserved, Joined, Ended}
+use Rattle.jc_rounds.specs.declared.progress.KeyProgress.{KeyProgress}
+use Rattle.jc_rounds.specs.declared.progress.KeyProgress.TheVariants.{Waiting, Reserved, Joined, Ended}
 use Rattle.jc_rounds.specs.Recorded.{are_before}
 use Rattle.jc_rounds.specs.Seats.{view_at, view_of}
 use Rattle.std.proofs.Common.{map, true≢false, vec_capacity}
@@ -49,7 +49,7 @@ use Rattle.jc_rounds.specs.KeyProgress.{IsMet}
 use Rattle.jc_rounds.specs.Lendings.{OnlyPhases}
 use Rattle.jc_rounds.specs.Recorded.{former_steps, steps_of}
 use Rattle.jc_rounds.specs.Seats.{HasGrown}
-use Rattle.jc_rounds.specs.SoFar.{AreHeldBack, is_due}
+use Rattle.jc_rounds.specs.SoFar.{AreHeldBack, is_target_of}
 use Rattle.jc_rounds.specs.Starting.{AsksAtMostOnce, HasStartedAll, IsRoomFor}
 use Rattle.jc_rounds.proofs.Failures.{cause_met}
 use Rattle.std.proofs.lemmas.List.Elements.{filter_map-append}
@@ -58,17 +58,17 @@ use Rattle.std.specs.Option.{option_or}
 use Rattle.jc_types.specs.declared.config.Config.{Config}
 use Rattle.jc_stripe.specs.Tickets.{TicketClaim}
 use Rattle.jc_rounds.specs.declared.bulk_call.BulkCall.{BulkCall}
-use Rattle.jc_rounds.specs.Asking.{AsksFor, HasAsked, reserved_keys}
+use Rattle.jc_rounds.specs.Asking.{AsksFor, HasAskedSoFar, reserved_keys}
 use Rattle.jc_rounds.specs.Ends.{KeyEnd, key_end, key_ends, key_ops}
-use Rattle.jc_rounds.specs.KeyProgress.{IsCauseIn, IsNoted, StayEnded, all_waiting, failures, is_held_back, is_joined, is_reserved, is_settled, refused_if_waiting}
-use Rattle.jc_rounds.specs.Keys.{HasEnded, IsAt, IsJoinFor, IsTicketFor, WasRefused}
+use Rattle.jc_rounds.specs.KeyProgress.{IsCauseIn, IsNoted, StayEnded, all_waiting, failures, holds_reservation, is_held_back, is_settled, refused_if_waiting, waits_for_joined_load}
+use Rattle.jc_rounds.specs.Keys.{EndsKey, IsAt, IsJoinFor, IsTicketFor, WasRefused}
 use Rattle.jc_rounds.specs.Rounds.{Round, asked_in, faults_in, keys_asked, round_fault}
 use Rattle.jc_rounds.specs.Causes.{IsFirst}
 use Rattle.jc_rounds.specs.Running.{EachTakesMemory, HasRun, IsCarriedOut, IsNearFull, IsRound, WasNearFull}
-use Rattle.jc_rounds.specs.SoFar.{GoesOn, IsUnderway}
+use Rattle.jc_rounds.specs.SoFar.{IsUnderway, KeysAdvance}
 use Rattle.jc_rounds.specs.Starting.{IsFull}
 use Rattle.jc_rounds.specs.Targets.{ops_of}
-use Rattle.jc_rounds.specs.Underway.{HasCommitted, HasStarted, IsBetween, IsNew, IsOn, IsOver, Past, are_fresh, reserved_by, with_round}
+use Rattle.jc_rounds.specs.Underway.{CallPast, HasCommitted, HasStarted, IsBetween, IsNew, IsOn, IsOver, are_fresh, reserved_by, with_round}
 use Rattle.jc_rounds.proofs.Asked.{asked_more, asked_on, new_key, none_asked, some_there, unasked_at}
 use Rattle.jc_rounds.proofs.Failures.{met_fault, noted_all}
 use Rattle.jc_rounds.proofs.Held.{full_later, goes_both, held_after}
@@ -119,7 +119,7 @@ near_full caller before after key op was =
     (which (nat_le (length s.history + promised s + needed) s.config.history) (nat_lt caller.call last_number) (nat_lt s.next last_number) none) in
     record { seen = s; reached = was.reached; same = was.same; since = was.since; later = was.later; found = was.found; full = full }
 
-refused_near : (config : Config) (caller : Caller) (rounds : List Round) (v w : View) (key : Bytes) (op : Op) (ended : Result Reply Refusal) → HasEnded config caller rounds v w key op ended → ended ≡ Err HistoryFull → WasNearFull caller v w
+refused_near : (config : Config) (caller : Caller) (rounds : List Round) (v w : View) (key : Bytes) (op : Op) (ended : Result Reply Refusal) → EndsKey config caller rounds v w key op ended → ended ≡ Err HistoryFull → WasNearFull caller v w
 refused_near config caller rounds v w key op (Ok reply) has is = let bad : Ok reply ≡ Err HistoryFull = is in cc
 refused_near config caller rounds v w key op (Err refusal) has is =
     let same : refusal ≡ HistoryFull = cc in
@@ -128,7 +128,7 @@ refused_near config caller rounds v w key op (Err refusal) has is =
 -- 2. Ends.
 
 module _ (P : Bytes → Op → Result Reply Refusal → Type 0) where
-  pub all_ended : (targets : List (Bytes × Op)) (ps : List Progress)
+  pub all_ended : (targets : List (Bytes × Op)) (ps : List KeyProgress)
       → ((i : ℕ) (key : Bytes) (op : Op) (ended : Result Reply Refusal) → slice_get targets i ≡ Some (key, op) → slice_get ps i ≡ Some (Ended ended) → P key op ended)
       → All (λ (e : KeyEnd). P e.key e.op e.ended) (key_ends targets ps)
   all_ended [] ps each = All-nil (λ (e : KeyEnd). P e.key e.op e.ended)
@@ -139,13 +139,13 @@ module _ (P : Bytes → Op → Result Reply Refusal → Type 0) where
   all_ended (t ∷ targets) (Ended ended ∷ ps) each =
       All-cons (λ (e : KeyEnd). P e.key e.op e.ended) (record { key = t.0; op = t.1; ended = ended }) (key_ends targets ps) (each zero t.0 t.1 ended refl refl) (all_ended targets ps (λ i. each (suc i)))
 
-pub ops_are : (targets : List (Bytes × Op)) (ps : List Progress) → length ps ≡ length targets → ((i : ℕ) (p : Progress) → slice_get ps i ≡ Some p → (ended : Result Reply Refusal) × (p ≡ Ended ended)) → key_ops (key_ends targets ps) ≡ targets
+pub ops_are : (targets : List (Bytes × Op)) (ps : List KeyProgress) → length ps ≡ length targets → ((i : ℕ) (p : KeyProgress) → slice_get ps i ≡ Some p → (ended : Result Reply Refusal) × (p ≡ Ended ended)) → key_ops (key_ends targets ps) ≡ targets
 ops_are [] ps many over = refl
 ops_are (t ∷ targets) [] many over = cc
 ops_are (t ∷ targets) (p ∷ ps) many over =
-    ap (λ (q : Progress). key_ops (key_end t q ++ key_ends targets ps)) (over zero p refl).1 ∙ ap (λ ts. t ∷ ts) (ops_are targets ps (omega (arith, many)) (λ i. over (suc i)))
+    ap (λ (q : KeyProgress). key_ops (key_end t q ++ key_ends targets ps)) (over zero p refl).1 ∙ ap (λ ts. t ∷ ts) (ops_are targets ps (omega (arith, many)) (λ i. over (suc i)))
 
-is_over : (p : Progress) → (p ≡ Waiting → ⊥) → is_reserved p ≡ false → is_joined p ≡ false → (ended : Result Reply Refusal) × (p ≡ Ended ended)
+is_over : (p : KeyProgress) → (p ≡ Waiting → ⊥) → holds_reservation p ≡ false → waits_for_joined_load p ≡ false → (ended : Result Reply Refusal) × (p ≡ Ended ended)
 is_over Waiting late free alone = absurd (late refl)
 is_over Reserved late free alone = let bad : true ≡ false = free in cc
 is_over Joined late free alone = let bad : true ≡ false = alone in cc
@@ -162,8 +162,8 @@ pub none_failed : (n : ℕ) → failures (all_waiting n) ≡ []
 none_failed zero = refl
 none_failed (suc n) = none_failed n
 
-none_such : (has : Progress → Bool) (n : ℕ) (ps : List Progress) → has Waiting ≡ false → ps ≡ all_waiting n → (i : ℕ) (p : Progress) → slice_get ps i ≡ Some p → has p ≡ false
-none_such has n ps isnt is i p there = ap has (waiting_there n i p (subst (λ (qs : List Progress). slice_get qs i ≡ Some p) is there)) ∙ isnt
+none_such : (has : KeyProgress → Bool) (n : ℕ) (ps : List KeyProgress) → has Waiting ≡ false → ps ≡ all_waiting n → (i : ℕ) (p : KeyProgress) → slice_get ps i ≡ Some p → has p ≡ false
+none_such has n ps isnt is i p there = ap has (waiting_there n i p (subst (λ (qs : List KeyProgress). slice_get qs i ≡ Some p) is there)) ∙ isnt
 
 none_mapped : (ts : List TicketClaim) → map reserved_by ts ≡ [] → ts ≡ []
 none_mapped [] is = refl
@@ -194,8 +194,8 @@ module _ {I J : Type 0} {D : I → Type 0} {E : J → Type 0} where
             reservations = may.reservations;
             joins_out = may.joins;
             so_far = opens cache.config caller cache.config.stripes ops session.seats.items call.progress.items (all_early cache session may) is;
-            calls_are = none_are is_reserved (IsTicketFor caller cache.config) ops call.progress.items (none_such is_reserved (length ops) call.progress.items refl is);
-            joins_are = none_are is_joined (λ key op join. IsJoinFor caller (view_of cache.config.stripes session.seats.items key) key op join) ops call.progress.items (none_such is_joined (length ops) call.progress.items refl is);
+            calls_are = none_are holds_reservation (IsTicketFor caller cache.config) ops call.progress.items (none_such holds_reservation (length ops) call.progress.items refl is);
+            joins_are = none_are waits_for_joined_load (λ key op join. IsJoinFor caller (view_of cache.config.stripes session.seats.items key) key op join) ops call.progress.items (none_such waits_for_joined_load (length ops) call.progress.items refl is);
           };
           asked = none_asked cache.config ops call.progress.items;
           met = subst (λ c. IsMet c call.progress.items []) (sym new.no_cause) refl;
@@ -208,7 +208,7 @@ module _ {I J : Type 0} {D : I → Type 0} {E : J → Type 0} where
         cause = subst (λ c. IsCauseIn c (failures call.progress.items ++ [])) (sym new.no_cause) (ap (λ rs. rs ++ []) nothing);
       }
 
-  pub may_again : (cache : CacheState) (past : Past) (session : Session I J D E) (call : BulkCall) → IsBetween cache past session call → MayCall cache session
+  pub may_again : (cache : CacheState) (past : CallPast) (session : Session I J D E) (call : BulkCall) → IsBetween cache past session call → MayCall cache session
   may_again cache past session call between =
       let u = between.on.under in
       record {
@@ -220,7 +220,7 @@ module _ {I J : Type 0} {D : I → Type 0} {E : J → Type 0} where
       }
 
   -- those outside were asked for the keys that are reserved
-  pub asked_call : (cache : CacheState) (past : Past) (start old new : Session I J D E) (call later : BulkCall) (v : Vec TicketClaim) (round : Round) → HasStarted cache past start old call → later ≡ record call { tickets = v; cause = option_or call.cause (round_fault round) }
+  pub asked_call : (cache : CacheState) (past : CallPast) (start old new : Session I J D E) (call later : BulkCall) (v : Vec TicketClaim) (round : Round) → HasStarted cache past start old call → later ≡ record call { tickets = v; cause = option_or call.cause (round_fault round) }
       → map reserved_by v.items ≡ map reserved_by call.tickets.items → vec_capacity v ≡ vec_capacity call.tickets → (call.tickets.items ≡ [] → ⊥) → keys_asked round ≡ reserved_keys (map reserved_by call.tickets.items) → AsksFor cache.config (ops_of call.targets.now) round
       → IsOf cache new → new ≡ record old { agent = record old.agent { hands = new.agent.hands } } → IsOn cache (with_round past round) new later later.tickets.items later.joins.items
   asked_call cache past start old new call later v round started is same room some keys for own rest =
@@ -240,11 +240,11 @@ module _ {I J : Type 0} {D : I → Type 0} {E : J → Type 0} where
       })
 
   -- a round that has reserved no key
-  pub nobody_asked : (cache : CacheState) (past : Past) (start session : Session I J D E) (call : BulkCall) → HasStarted cache past start session call → call.tickets.items ≡ [] → HasCommitted cache past session call
+  pub nobody_asked : (cache : CacheState) (past : CallPast) (start session : Session I J D E) (call : BulkCall) → HasStarted cache past start session call → call.tickets.items ≡ [] → HasCommitted cache past session call
   nobody_asked cache past start session call started none = record { on = subst (λ ts. IsOn cache past session call ts call.joins.items) none started.on; no_tickets = none }
 
-  pub round_of : (cache : CacheState) (past : Past) (old mid new : Session I J D E) (call begun later : BulkCall) (calls : List Round) → IsBetween cache past old call → HasStarted cache past old mid begun → begun.targets ≡ call.targets
-      → GoesOn old.seats.items mid.seats.items call.progress.items begun.progress.items → GoesOn mid.seats.items new.seats.items begun.progress.items later.progress.items → length calls ≤ 1
+  pub round_of : (cache : CacheState) (past : CallPast) (old mid new : Session I J D E) (call begun later : BulkCall) (calls : List Round) → IsBetween cache past old call → HasStarted cache past old mid begun → begun.targets ≡ call.targets
+      → KeysAdvance old.seats.items mid.seats.items call.progress.items begun.progress.items → KeysAdvance mid.seats.items new.seats.items begun.progress.items later.progress.items → length calls ≤ 1
       → asked_in calls ≡ reserved_keys (map reserved_by begun.tickets.items) → IsRound past.caller cache.config.stripes (ops_of call.targets.now) old.seats.items new.seats.items call.progress.items later.progress.items calls
   round_of cache past old mid new call begun later calls between started same one two few keys = record {
     few = few;
@@ -254,7 +254,7 @@ module _ {I J : Type 0} {D : I → Type 0} {E : J → Type 0} where
         (subst (λ t. AreHeldBack (IsFull past.caller n (ops_of t.now) old.seats.items mid.seats.items (length begun.tickets.items)) (length (ops_of t.now)) past.caller n (ops_of t.now) old.seats.items mid.seats.items begun.progress.items) same started.held);
     waited = λ place key op at asked.
         let p = some_there ops call.progress.items place (key, op) between.on.under.so_far.many at in
-        p.1 ∙ ap Some (by place key op at asked p.0 p.1 (settled_by p.0 (none_in is_reserved _ ops call.progress.items between.on.under.so_far.many between.on.under.calls_are place p.0 p.1) (none_in is_joined _ ops call.progress.items between.on.under.so_far.many between.on.under.joins_are place p.0 p.1)));
+        p.1 ∙ ap Some (by place key op at asked p.0 p.1 (settled_by p.0 (none_in holds_reservation _ ops call.progress.items between.on.under.so_far.many between.on.under.calls_are place p.0 p.1) (none_in waits_for_joined_load _ ops call.progress.items between.on.under.so_far.many between.on.under.joins_are place p.0 p.1)));
   }
     where
       n : ℕ
@@ -266,7 +266,7 @@ module _ {I J : Type 0} {D : I → Type 0} {E : J → Type 0} where
       many : length begun.tickets.items ≡ length (asked_in calls)
       many = sym (as_many reserved_by begun.tickets.items) ∙ sym (as_many (λ (r : Reservation). r.key) (map reserved_by begun.tickets.items)) ∙ ap length (sym keys)
 
-      by : (place : ℕ) (key : Bytes) (op : Op) → slice_get ops place ≡ Some (key, op) → is_among (asked_in calls) key ≡ true → (p : Progress) → slice_get call.progress.items place ≡ Some p → is_settled p ≡ true → p ≡ Waiting
+      by : (place : ℕ) (key : Bytes) (op : Op) → slice_get ops place ≡ Some (key, op) → is_among (asked_in calls) key ≡ true → (p : KeyProgress) → slice_get call.progress.items place ≡ Some p → is_settled p ≡ true → p ≡ Waiting
       by place key op at asked Waiting there settled = refl
       by place key op at asked Reserved there settled = cc
       by place key op at asked Joined there settled = cc
@@ -276,53 +276,53 @@ module _ {I J : Type 0} {D : I → Type 0} {E : J → Type 0} where
 
 -- 4. Keys that wait are refused.
 
-map_there : (ps : List Progress) (i : ℕ) (p : Progress) → slice_get ps i ≡ Some p → slice_get (map refused_if_waiting ps) i ≡ Some (refused_if_waiting p)
+map_there : (ps : List KeyProgress) (i : ℕ) (p : KeyProgress) → slice_get ps i ≡ Some p → slice_get (map refused_if_waiting ps) i ≡ Some (refused_if_waiting p)
 map_there [] i p at = cc
 map_there (q ∷ ps) zero p at = ap Some (ap refused_if_waiting (same_Some q p at))
 map_there (q ∷ ps) (suc i) p at = map_there ps i p at
 
-pub map_from : (ps : List Progress) (i : ℕ) (r : Progress) → slice_get (map refused_if_waiting ps) i ≡ Some r → (p : Progress) × (slice_get ps i ≡ Some p) × (r ≡ refused_if_waiting p)
+pub map_from : (ps : List KeyProgress) (i : ℕ) (r : KeyProgress) → slice_get (map refused_if_waiting ps) i ≡ Some r → (p : KeyProgress) × (slice_get ps i ≡ Some p) × (r ≡ refused_if_waiting p)
 map_from [] i r at = cc
 map_from (q ∷ ps) zero r at = (q, refl, sym (same_Some (refused_if_waiting q) r at))
 map_from (q ∷ ps) (suc i) r at = map_from ps i r at
 
-pub refused_stay : (ps : List Progress) → StayEnded ps (map refused_if_waiting ps)
+pub refused_stay : (ps : List KeyProgress) → StayEnded ps (map refused_if_waiting ps)
 refused_stay ps = record { many = as_many refused_if_waiting ps; ended = λ place e at. map_there ps place (Ended e) at }
 
-pub none_waits : (ps : List Progress) (place : ℕ) → slice_get (map refused_if_waiting ps) place ≡ Some Waiting → ⊥
+pub none_waits : (ps : List KeyProgress) (place : ℕ) → slice_get (map refused_if_waiting ps) place ≡ Some Waiting → ⊥
 none_waits ps place at = let from = map_from ps place Waiting at in by from.0 from.2
   where
-    by : (p : Progress) → Waiting ≡ refused_if_waiting p → ⊥
+    by : (p : KeyProgress) → Waiting ≡ refused_if_waiting p → ⊥
     by Waiting is = cc
     by Reserved is = cc
     by Joined is = cc
     by (Ended e) is = cc
 
-refused_not_reserved : (p : Progress) → is_reserved p ≡ false → is_reserved (refused_if_waiting p) ≡ false
+refused_not_reserved : (p : KeyProgress) → holds_reservation p ≡ false → holds_reservation (refused_if_waiting p) ≡ false
 refused_not_reserved Waiting is = refl
 refused_not_reserved Reserved is = is
 refused_not_reserved Joined is = refl
 refused_not_reserved (Ended e) is = refl
 
-refused_not_joined : (p : Progress) → is_joined p ≡ false → is_joined (refused_if_waiting p) ≡ false
+refused_not_joined : (p : KeyProgress) → waits_for_joined_load p ≡ false → waits_for_joined_load (refused_if_waiting p) ≡ false
 refused_not_joined Waiting is = refl
 refused_not_joined Reserved is = refl
 refused_not_joined Joined is = is
 refused_not_joined (Ended e) is = refl
 
-not_back : (p : Progress) → is_joined p ≡ false → is_held_back (refused_if_waiting p) ≡ true → ⊥
+not_back : (p : KeyProgress) → waits_for_joined_load p ≡ false → is_held_back (refused_if_waiting p) ≡ true → ⊥
 not_back Waiting j h = cc
 not_back Reserved j h = cc
 not_back Joined j h = cc
 not_back (Ended e) j h = cc
 
-refused_asked : (config : Config) (targets : List (Bytes × Op)) (rounds : List Round) (ps : List Progress) → HasAsked config targets rounds ps → HasAsked config targets rounds (map refused_if_waiting ps)
+refused_asked : (config : Config) (targets : List (Bytes × Op)) (rounds : List Round) (ps : List KeyProgress) → HasAskedSoFar config targets rounds ps → HasAskedSoFar config targets rounds (map refused_if_waiting ps)
 refused_asked config targets rounds ps a = record {
   asked = a.asked;
   over = λ place key op at among. let p = a.over place key op at among in (refused_if_waiting p.0, map_there ps place p.0 p.1, still p.0 p.2);
 }
   where
-    still : (p : Progress) → is_held_back p ≡ false → is_held_back (refused_if_waiting p) ≡ false
+    still : (p : KeyProgress) → is_held_back p ≡ false → is_held_back (refused_if_waiting p) ≡ false
     still Waiting is = refl
     still Reserved is = refl
     still Joined is = is
@@ -332,28 +332,28 @@ pub refused_over : (call later : BulkCall) → later.progress.items ≡ map refu
 refused_over call later is place waits = none_waits call.progress.items place (ap (λ qs. slice_get qs place) (sym is) ∙ waits)
 
 module _ {I J : Type 0} {D : I → Type 0} {E : J → Type 0} where
-  refused_goes : (cache : CacheState) (past : Past) (session : Session I J D E) (call : BulkCall) → IsBetween cache past session call → GoesOn session.seats.items session.seats.items call.progress.items (map refused_if_waiting call.progress.items)
+  refused_goes : (cache : CacheState) (past : CallPast) (session : Session I J D E) (call : BulkCall) → IsBetween cache past session call → KeysAdvance session.seats.items session.seats.items call.progress.items (map refused_if_waiting call.progress.items)
   refused_goes cache past session call between = record {
     stay = refused_stay call.progress.items;
     grown = λ i. grown_itself (view_at session.seats.items i);
     held = λ place p there is.
         let from = map_from call.progress.items place p there in
-        absurd (not_back from.0 (none_in is_joined _ (ops_of call.targets.now) call.progress.items between.on.under.so_far.many between.on.under.joins_are place from.0 from.1) (ap is_held_back (sym from.2) ∙ is));
+        absurd (not_back from.0 (none_in waits_for_joined_load _ (ops_of call.targets.now) call.progress.items between.on.under.so_far.many between.on.under.joins_are place from.0 from.1) (ap is_held_back (sym from.2) ∙ is));
   }
 
   -- a key that waits was not asked for
-  refused_here : (cache : CacheState) (past : Past) (session : Session I J D E) (call : BulkCall) → (past.rounds ≡ [] → ⊥) → EachTakesMemory cache.config (ops_of call.targets.now) → IsBetween cache past session call → (place : ℕ) (key : Bytes) (op : Op) (p : Progress) → slice_get (ops_of call.targets.now) place ≡ Some (key, op) → slice_get call.progress.items place ≡ Some p
+  refused_here : (cache : CacheState) (past : CallPast) (session : Session I J D E) (call : BulkCall) → (past.rounds ≡ [] → ⊥) → EachTakesMemory cache.config (ops_of call.targets.now) → IsBetween cache past session call → (place : ℕ) (key : Bytes) (op : Op) (p : KeyProgress) → slice_get (ops_of call.targets.now) place ≡ Some (key, op) → slice_get call.progress.items place ≡ Some p
       → IsAt cache.config past.caller past.rounds (view_of cache.config.stripes past.first key) (view_of cache.config.stripes session.seats.items key) key op (refused_if_waiting p)
   refused_here cache past session call some takes between place key op p at there = by p there (between.on.under.so_far.each place key op p at there)
     where
-      by : (p : Progress) → slice_get call.progress.items place ≡ Some p → IsAt cache.config past.caller past.rounds (view_of cache.config.stripes past.first key) (view_of cache.config.stripes session.seats.items key) key op p
+      by : (p : KeyProgress) → slice_get call.progress.items place ≡ Some p → IsAt cache.config past.caller past.rounds (view_of cache.config.stripes past.first key) (view_of cache.config.stripes session.seats.items key) key op p
           → IsAt cache.config past.caller past.rounds (view_of cache.config.stripes past.first key) (view_of cache.config.stripes session.seats.items key) key op (refused_if_waiting p)
       by Waiting there so = (so, unasked_at cache.config (ops_of call.targets.now) past.rounds call.progress.items place key op Waiting at there refl between.on.asked, inl (refl, some, takes place key op at))
       by Reserved there so = so
       by Joined there so = so
       by (Ended e) there so = so
 
-  pub refused_call : (cache : CacheState) (past : Past) (session : Session I J D E) (call later : BulkCall) → later ≡ record call { progress = later.progress; cause = later.cause } → later.progress.items ≡ map refused_if_waiting call.progress.items
+  pub refused_call : (cache : CacheState) (past : CallPast) (session : Session I J D E) (call later : BulkCall) → later ≡ record call { progress = later.progress; cause = later.cause } → later.progress.items ≡ map refused_if_waiting call.progress.items
       → IsNoted call.cause (failures later.progress.items) later.cause → (past.rounds ≡ [] → ⊥) → EachTakesMemory cache.config (ops_of call.targets.now) → IsBetween cache past session call → IsBetween cache past session later
   refused_call cache past session call later rest is noted some takes between =
       let u = between.on.under in
@@ -381,12 +381,12 @@ module _ {I J : Type 0} {D : I → Type 0} {E : J → Type 0} where
                   subst (IsAt cache.config past.caller past.rounds (view_of n past.first key) (view_of n session.seats.items key) key op) (sym from.2) (refused_here cache past session call some takes between place key op from.0 at from.1);
               others = u.so_far.others;
             };
-            calls_are = none_are is_reserved (IsTicketFor past.caller cache.config) ops (map refused_if_waiting ps)
-                (λ i r there. let from = map_from ps i r there in ap is_reserved from.2 ∙ refused_not_reserved from.0 (none_in is_reserved (IsTicketFor past.caller cache.config) ops ps u.so_far.many u.calls_are i from.0 from.1));
-            joins_are = none_are is_joined (λ key op join. IsJoinFor past.caller (view_of n past.first key) key op join) ops (map refused_if_waiting ps)
-                (λ i r there. let from = map_from ps i r there in ap is_joined from.2 ∙ refused_not_joined from.0 (none_in is_joined (λ key op join. IsJoinFor past.caller (view_of n past.first key) key op join) ops ps u.so_far.many u.joins_are i from.0 from.1));
+            calls_are = none_are holds_reservation (IsTicketFor past.caller cache.config) ops (map refused_if_waiting ps)
+                (λ i r there. let from = map_from ps i r there in ap holds_reservation from.2 ∙ refused_not_reserved from.0 (none_in holds_reservation (IsTicketFor past.caller cache.config) ops ps u.so_far.many u.calls_are i from.0 from.1));
+            joins_are = none_are waits_for_joined_load (λ key op join. IsJoinFor past.caller (view_of n past.first key) key op join) ops (map refused_if_waiting ps)
+                (λ i r there. let from = map_from ps i r there in ap waits_for_joined_load from.2 ∙ refused_not_joined from.0 (none_in waits_for_joined_load (λ key op join. IsJoinFor past.caller (view_of n past.first key) key op join) ops ps u.so_far.many u.joins_are i from.0 from.1));
           });
-          asked = subst (HasAsked cache.config ops past.rounds) (sym is) (refused_asked cache.config ops past.rounds ps between.on.asked);
+          asked = subst (HasAskedSoFar cache.config ops past.rounds) (sym is) (refused_asked cache.config ops past.rounds ps between.on.asked);
           met = cause_met later.cause later.progress.items (faults_in past.rounds) cause;
           tickets_room = between.on.tickets_room;
           most = between.on.most;
@@ -397,22 +397,22 @@ module _ {I J : Type 0} {D : I → Type 0} {E : J → Type 0} where
         cause = cause;
       })
 
-  pub refused_round : (cache : CacheState) (past : Past) (session : Session I J D E) (call later : BulkCall) → later.progress.items ≡ map refused_if_waiting call.progress.items → IsBetween cache past session call
+  pub refused_round : (cache : CacheState) (past : CallPast) (session : Session I J D E) (call later : BulkCall) → later.progress.items ≡ map refused_if_waiting call.progress.items → IsBetween cache past session call
       → IsRound past.caller cache.config.stripes (ops_of call.targets.now) session.seats.items session.seats.items call.progress.items later.progress.items []
   refused_round cache past session call later is between =
-      let goes = subst (GoesOn session.seats.items session.seats.items call.progress.items) (sym is) (refused_goes cache past session call between) in
+      let goes = subst (KeysAdvance session.seats.items session.seats.items call.progress.items) (sym is) (refused_goes cache past session call between) in
       record {
         few = omega arith;
         goes = goes;
         held = λ place less key op p at there back.
             let from = map_from call.progress.items place p (ap (λ qs. slice_get qs place) (sym is) ∙ there) in
-            absurd (not_back from.0 (none_in is_joined _ (ops_of call.targets.now) call.progress.items between.on.under.so_far.many between.on.under.joins_are place from.0 from.1) (ap is_held_back (sym from.2) ∙ back));
+            absurd (not_back from.0 (none_in waits_for_joined_load _ (ops_of call.targets.now) call.progress.items between.on.under.so_far.many between.on.under.joins_are place from.0 from.1) (ap is_held_back (sym from.2) ∙ back));
         waited = λ place key op at asked. absurd (true≢false (sym asked));
       }
 
   -- 5. The call
 
-  pub carried_out : (cache : CacheState) (past : Past) (old new : Session I J D E) (call : BulkCall) → past.caller ≡ (next_call old).agent.caller → past.first ≡ old.seats.items → IsOver call → new.agent ≡ record (next_call old).agent { counts = new.agent.counts; hands = new.agent.hands }
+  pub carried_out : (cache : CacheState) (past : CallPast) (old new : Session I J D E) (call : BulkCall) → past.caller ≡ (next_call old).agent.caller → past.first ≡ old.seats.items → IsOver call → new.agent ≡ record (next_call old).agent { counts = new.agent.counts; hands = new.agent.hands }
       → HasRun cache past new call
       → (carried : IsCarriedOut cache old (ops_of call.targets.now) (key_ends (ops_of call.targets.now) call.progress.items) past.rounds new)
       × IsFirst cache.config (next_call old).agent.caller (ops_of call.targets.now) old.seats.items [] carried.started.ends call.cause
@@ -421,25 +421,25 @@ module _ {I J : Type 0} {D : I → Type 0} {E : J → Type 0} where
       let ops = ops_of call.targets.now in
       let ps = call.progress.items in
       let n = cache.config.stripes in
-      let over : (i : ℕ) (p : Progress) → slice_get ps i ≡ Some p → (ended : Result Reply Refusal) × (p ≡ Ended ended) =
-      λ i p there. is_over p (λ waits. late i (there ∙ ap Some waits)) (none_in is_reserved _ ops ps u.so_far.many u.calls_are i p there) (none_in is_joined _ ops ps u.so_far.many u.joins_are i p there) in
+      let over : (i : ℕ) (p : KeyProgress) → slice_get ps i ≡ Some p → (ended : Result Reply Refusal) × (p ≡ Ended ended) =
+      λ i p there. is_over p (λ waits. late i (there ∙ ap Some waits)) (none_in holds_reservation _ ops ps u.so_far.many u.calls_are i p there) (none_in waits_for_joined_load _ ops ps u.so_far.many u.joins_are i p there) in
       let each : (i : ℕ) (key : Bytes) (op : Op) (ended : Result Reply Refusal) → slice_get ops i ≡ Some (key, op) → slice_get ps i ≡ Some (Ended ended)
-      → HasEnded cache.config (next_call old).agent.caller past.rounds (view_of n old.seats.items key) (view_of n new.seats.items key) key op ended =
+      → EndsKey cache.config (next_call old).agent.caller past.rounds (view_of n old.seats.items key) (view_of n new.seats.items key) key op ended =
       λ i key op ended at there.
-      subst (λ (s : List Seated). HasEnded cache.config (next_call old).agent.caller past.rounds (view_of n s key) (view_of n new.seats.items key) key op ended) first_is
-      (subst (λ (c : Caller). HasEnded cache.config c past.rounds (view_of n past.first key) (view_of n new.seats.items key) key op ended) caller_is (u.so_far.each i key op (Ended ended) at there)) in
+      subst (λ (s : List Seated). EndsKey cache.config (next_call old).agent.caller past.rounds (view_of n s key) (view_of n new.seats.items key) key op ended) first_is
+      (subst (λ (c : Caller). EndsKey cache.config c past.rounds (view_of n past.first key) (view_of n new.seats.items key) key op ended) caller_is (u.so_far.each i key op (Ended ended) at there)) in
       let started : (has : HasStartedAll (next_call old).agent.caller n ops old.seats.items new.seats.items past.rounds) × IsFirst cache.config (next_call old).agent.caller ops old.seats.items [] has.ends call.cause =
       subst (λ (s : List Seated). (has : HasStartedAll (next_call old).agent.caller n ops s new.seats.items past.rounds) × IsFirst cache.config (next_call old).agent.caller ops s [] has.ends call.cause) first_is
       (subst (λ (c : Caller). (has : HasStartedAll c n ops past.first new.seats.items past.rounds) × IsFirst cache.config c ops past.first [] has.ends call.cause) caller_is (run.started, run.first)) in (
         record {
           targets_are = ops_are ops ps u.so_far.many over;
           grown = subst (λ (s : List Seated). (i : ℕ) → HasGrown (view_at s i) (view_at new.seats.items i)) first_is u.so_far.grown;
-          phases = subst (λ (s : List Seated). (i : ℕ) → OnlyPhases (next_call old).agent.caller (λ key. is_due n ops key i ≡ true) (view_at s i) (view_at new.seats.items i)) first_is
-              (subst (λ (c : Caller). (i : ℕ) → OnlyPhases c (λ key. is_due n ops key i ≡ true) (view_at past.first i) (view_at new.seats.items i)) caller_is u.so_far.phases);
-          each = all_ended (λ key op ended. HasEnded cache.config (next_call old).agent.caller past.rounds (view_of n old.seats.items key) (view_of n new.seats.items key) key op ended) ops ps each;
+          phases = subst (λ (s : List Seated). (i : ℕ) → OnlyPhases (next_call old).agent.caller (λ key. is_target_of n ops key i ≡ true) (view_at s i) (view_at new.seats.items i)) first_is
+              (subst (λ (c : Caller). (i : ℕ) → OnlyPhases c (λ key. is_target_of n ops key i ≡ true) (view_at past.first i) (view_at new.seats.items i)) caller_is u.so_far.phases);
+          each = all_ended (λ key op ended. EndsKey cache.config (next_call old).agent.caller past.rounds (view_of n old.seats.items key) (view_of n new.seats.items key) key op ended) ops ps each;
           refused = all_ended (λ key op ended. ended ≡ Err HistoryFull → WasNearFull (next_call old).agent.caller (view_of n old.seats.items key) (view_of n new.seats.items key)) ops ps
               (λ i key op ended at there. refused_near cache.config (next_call old).agent.caller past.rounds (view_of n old.seats.items key) (view_of n new.seats.items key) key op ended (each i key op ended at there));
-          others = subst (λ (c : Caller). (key : Bytes) (i : ℕ) → is_due n ops key i ≡ false → steps_of c key (view_at new.seats.items i).own ≡ []) caller_is u.so_far.others;
+          others = subst (λ (c : Caller). (key : Bytes) (i : ℕ) → is_target_of n ops key i ≡ false → steps_of c key (view_at new.seats.items i).own ≡ []) caller_is u.so_far.others;
           former = subst (λ (s : List Seated). (i : ℕ) → former_steps (next_call old).agent.caller (view_at new.seats.items i).own ≡ former_steps (next_call old).agent.caller (view_at s i).own) first_is
               (subst (λ (c : Caller). (i : ℕ) → former_steps c (view_at new.seats.items i).own ≡ former_steps c (view_at past.first i).own) caller_is u.so_far.former);
           asked = run.between.on.asked.asked;

@@ -1,5 +1,5 @@
 -- The outside answers for the keys that a round has reserved.
---     key_of            the key of an ask
+--     asked_key         the key of an ask
 --     RunState          a reservation, and the answers of its run
 --     key_run           the run, by its key
 --     done_of           the done value of the run, in a live cache
@@ -40,15 +40,15 @@ use Rattle.jc_stripe.specs.Tickets.{Claim, asks_loader, asks_processor, asks_wri
 use Rattle.jc_session.specs.declared.counts.Counted.TheVariants.{Committed}
 use Rattle.jc_session.specs.declared.session.Session.{Session}
 use Rattle.jc_cache.specs.Caches.{CacheState}
-use Rattle.jc_rounds.specs.declared.answers.Answers.{Answers}
-use Rattle.jc_rounds.specs.declared.answers.Answers.TheVariants as answers
+use Rattle.jc_rounds.specs.declared.answers.RoundAnswers.{RoundAnswers}
+use Rattle.jc_rounds.specs.declared.answers.RoundAnswers.TheVariants as answers
 use Rattle.jc_rounds.specs.KeyPhases.{IsKeyPhase}
 use Rattle.jc_rounds.specs.Keys.{IsCommitted}
 use Rattle.jc_rounds.specs.Rounds.{IsAnswer, KeyRun, LoadAll, ProcessAll, ProcessRound, Round, WriteAll, answer_by, change_of, keys_asked}
 use Rattle.jc_rounds.specs.Seats.{view_of}
 
-abbrev pub key_of : Claim → Bytes
-key_of ask = ask.reservation.key
+abbrev pub asked_key : Claim → Bytes
+asked_key ask = ask.reservation.key
 
 -- 1. Runs of a processor.
 
@@ -85,7 +85,7 @@ abbrev pub claims_after : Bool → Bool → List RunState → List Claim
 claims_after through deletes runs = filter_map (claim_after through deletes) runs
 
 abbrev pub reports : Bool → Bool → (Bytes → WriteAnswer) → List RunState → List (WriteResult Claim)
-reports through deletes said runs = writes_done key_of said (claims_after through deletes runs)
+reports through deletes said runs = writes_done asked_key said (claims_after through deletes runs)
 
 -- 2. Answers.
 
@@ -112,16 +112,16 @@ pub record TakesReport (through : Bool) (round : ProcessRound) (run : RunState) 
   pub written_are : reverse written ≡ reports through false round.written runs
   pub deleted_are : reverse deleted ≡ reports through true round.deleted runs
 
-abbrev pub done_room : Answers → ℕ
+abbrev pub done_room : RoundAnswers → ℕ
 done_room (answers.Loads done) = vec_capacity done
 done_room (answers.Writes done) = vec_capacity done
 done_room (answers.Processes done written deleted) = vec_capacity done
 
-abbrev pub AreAnswers : Config → Round → Answers → List Reservation → Type 0
+abbrev pub AreAnswers : Config → Round → RoundAnswers → List Reservation → Type 0
 AreAnswers config (LoadAll r) (answers.Loads done) calls =
-    (reverse done.items ≡ loads_done key_of r.said (map claim_of calls)) × AllByRecursion (IsToBeAnswered asks_loader (LoadAll r)) calls
+    (reverse done.items ≡ loads_done asked_key r.said (map claim_of calls)) × AllByRecursion (IsToBeAnswered asks_loader (LoadAll r)) calls
 AreAnswers config (WriteAll r) (answers.Writes done) calls =
-    (reverse done.items ≡ writes_done key_of r.said (map claim_of calls)) × AllByRecursion (IsToBeAnswered asks_writer (WriteAll r)) calls
+    (reverse done.items ≡ writes_done asked_key r.said (map claim_of calls)) × AllByRecursion (IsToBeAnswered asks_writer (WriteAll r)) calls
 AreAnswers config (ProcessAll r) (answers.Processes done written deleted) calls =
     AreProcessed config.write_through r (reverse done.items) (reverse written.items) (reverse deleted.items) calls × AllByRecursion (IsToBeAnswered asks_processor (ProcessAll r)) calls
 AreAnswers config (LoadAll r) (answers.Writes done) calls = ⊥
@@ -134,7 +134,7 @@ AreAnswers config (ProcessAll r) (answers.Writes done) calls = ⊥
 -- 3. The next of them.
 
 module _ {I J : Type 0} {D : I → Type 0} {E : J → Type 0} (cache : CacheState) (old : Session I J D E) (r : Reservation) where
-  abbrev pub CommitsNext : Answers → Session I J D E → Answers → Reply → Type 0
+  abbrev pub CommitsNext : RoundAnswers → Session I J D E → RoundAnswers → Reply → Type 0
   CommitsNext answers new left reply = (round : Round) (rest : List Reservation) → AreAnswers cache.config round answers (r ∷ rest)
       → AreAnswers cache.config round left rest
       × IsKeyPhase cache old r.key Committed new ((out : Out) × IsAnswer cache.config round r.key r.first out

@@ -1,9 +1,9 @@
 -- The keys for which a call asks outside.
---     reserved_keys  the keys of these reservations, in their order
---     AsksFor        a round asks only for keys of the call, and only for what their operations ask for
---     IsInOrder      a round asks for its keys in the order of the call's
---     AsksEachOnce   the rounds of a call that ask: each asks for at least one key, in order, and no key is asked for twice
---     HasAsked       as `AsksEachOnce`, for a call that is under way: each key that was asked for is reserved or has ended
+--     reserved_keys   the keys of these reservations, in their order
+--     AsksFor         a round asks only for keys of the call, and only for what their operations ask for
+--     IsInOrder       a round asks for its keys in the order of the call's
+--     AsksEachOnce    the rounds of a call that ask: each asks for at least one key, in order, and no key is asked for twice
+--     HasAskedSoFar   as `AsksEachOnce`, for a call that is under way: each key that was asked for is reserved or has ended
 use Rattle.std.specs.Prelude.{◌≡◌, ◌==◌, ℕ, List, [], All, true, false, Option, Some, slice_get, map}
 use Rattle.std.specs.List.{IsAmong, IsDistinct, filter}
 use Rattle.std.specs.Map.{keys_of}
@@ -17,7 +17,7 @@ use Rattle.jc_batch.specs.Changes.{changes_of}
 use Rattle.jc_stripe.specs.declared.ticket.Reservation.{Reservation}
 use Rattle.jc_stripe.specs.Refusals.{first_asked}
 use Rattle.jc_stripe.specs.Tickets.{asks_loader, asks_processor, change_asked}
-use Rattle.jc_rounds.specs.declared.progress.Progress.{Progress}
+use Rattle.jc_rounds.specs.declared.progress.KeyProgress.{KeyProgress}
 use Rattle.jc_rounds.specs.KeyProgress.{is_held_back}
 use Rattle.jc_rounds.specs.Rounds.{IsShown, KeyRun, LoadAll, ProcessAll, Round, WriteAll, asked_in, keys_asked}
 
@@ -41,7 +41,7 @@ pub record AsksEachOnce (config : Config) (targets : List (Bytes × Op)) (rounds
   pub once : IsDistinct (pointwise ◌==◌) (asked_in rounds)
   pub ordered : All (IsInOrder targets) rounds
 
-pub record HasAsked (config : Config) (targets : List (Bytes × Op)) (rounds : List Round) (progress : List Progress) : Type 0 where
+pub record HasAskedSoFar (config : Config) (targets : List (Bytes × Op)) (rounds : List Round) (progress : List KeyProgress) : Type 0 where
   pub asked : AsksEachOnce config targets rounds
   pub over : (place : ℕ) (key : Bytes) (op : Op) → slice_get targets place ≡ Some (key, op) → is_among (asked_in rounds) key ≡ true
-      → (p : Progress) × (slice_get progress place ≡ Some p) × (is_held_back p ≡ false)
+      → (p : KeyProgress) × (slice_get progress place ≡ Some p) × (is_held_back p ≡ false)

@@ -18,7 +18,7 @@ use Rattle.jc_model.specs.declared.event.Op.{Op}
 use Rattle.jc_model.specs.declared.event.Out.{Out}
 use Rattle.jc_model.specs.declared.event.Reply.TheVariants.{Fault}
 use Rattle.jc_lock.specs.declared.view.View.{View}
-use Rattle.jc_rounds.specs.Keys.{HasEnded}
+use Rattle.jc_rounds.specs.Keys.{EndsKey}
 use Rattle.jc_rounds.specs.Recorded.{steps_of}
 use Rattle.jc_rounds.specs.Rounds.{Round, faults_in}
 use Rattle.jc_rounds.specs.Seats.{view_of}
@@ -37,7 +37,7 @@ module _ (config : Config) (caller : Caller) (targets : List (Bytes × Op)) wher
   abbrev pub HasRefused : List (TableId × View) → List Round → List (TableId × View) → Refusal → Type 0
   HasRefused old rounds seats refusal =
       (key : Bytes) × (op : Op) × IsAmong targets (key, op)
-      × HasEnded config caller rounds (view_of config.stripes old key) (view_of config.stripes seats key) key op (Err refusal)
+      × EndsKey config caller rounds (view_of config.stripes old key) (view_of config.stripes seats key) key op (Err refusal)
 
   -- `before` are the calls outside of the rounds before these
   abbrev pub IsFirst : List (TableId × View) → List Round → List RoundEnd → Option Refusal → Type 0

@@ -14,8 +14,8 @@ use Rattle.jc_model.specs.declared.event.Op.{Op}
 use Rattle.jc_model.specs.declared.event.Reply.{Reply}
 use Rattle.jc_model.specs.declared.event.Reply.TheVariants as reply
 use Rattle.jc_model.specs.Cache.{Bytes}
-use Rattle.jc_rounds.specs.declared.progress.Progress.{Progress}
-use Rattle.jc_rounds.specs.declared.progress.Progress.TheVariants.{Waiting, Reserved, Joined, Ended}
+use Rattle.jc_rounds.specs.declared.progress.KeyProgress.{KeyProgress}
+use Rattle.jc_rounds.specs.declared.progress.KeyProgress.TheVariants.{Waiting, Reserved, Joined, Ended}
 use Rattle.jc_rounds.specs.KeyProgress.{refusal_in}
 
 pub record KeyEnd : Type 0 where
@@ -26,13 +26,13 @@ pub record KeyEnd : Type 0 where
 abbrev pub key_ops : List KeyEnd → List (Bytes × Op)
 key_ops ends = map (λ (e : KeyEnd). (e.key, e.op)) ends
 
-abbrev pub key_end : Bytes × Op → Progress → List KeyEnd
+abbrev pub key_end : Bytes × Op → KeyProgress → List KeyEnd
 key_end target Waiting = []
 key_end target Reserved = []
 key_end target Joined = []
 key_end target (Ended ended) = record { key = target.0; op = target.1; ended = ended } ∷ []
 
-abbrev pub key_ends : List (Bytes × Op) → List Progress → List KeyEnd
+abbrev pub key_ends : List (Bytes × Op) → List KeyProgress → List KeyEnd
 key_ends [] progress = []
 key_ends (target ∷ targets) [] = []
 key_ends (target ∷ targets) (p ∷ progress) = key_end target p ++ key_ends targets progress
@@ -46,7 +46,7 @@ reply_value (Ok (reply.Value value)) = value
 reply_value (Ok (reply.Flag flag)) = None
 reply_value (Ok reply.Unit) = None
 
-abbrev pub value_at : Progress → Option Bytes
+abbrev pub value_at : KeyProgress → Option Bytes
 value_at Waiting = None
 value_at Reserved = None
 value_at Joined = None

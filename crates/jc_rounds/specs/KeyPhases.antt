@@ -10,7 +10,7 @@ use Rattle.jc_cache.specs.Caches.{CacheState}
 use Rattle.jc_cache.specs.Sessions.{IsOf}
 use Rattle.jc_session.specs.declared.session.Session.{Session}
 use Rattle.jc_rounds.specs.Recorded.{steps_of}
-use Rattle.jc_rounds.specs.Seats.{Moves, view_of}
+use Rattle.jc_rounds.specs.Seats.{MovesAtKey, view_of}
 
 module _ {I J : Type 0} {D : I → Type 0} {E : J → Type 0} (cache : CacheState) (old : Session I J D E) (key : Bytes) where
   pub record MayStep : Type 0 where
@@ -20,5 +20,5 @@ module _ {I J : Type 0} {D : I → Type 0} {E : J → Type 0} (cache : CacheStat
   pub record IsKeyPhase (counted : Counted) (new : Session I J D E) (Made : Type 0) : Type 0 where
     pub own : IsOf cache new
     pub agent : new.agent ≡ record old.agent { counts = counts_after old.agent.counts counted }
-    pub moves : Moves old.agent.caller cache.config.stripes key old.seats.items new.seats.items
+    pub moves : MovesAtKey old.agent.caller cache.config.stripes key old.seats.items new.seats.items
     pub made : Made

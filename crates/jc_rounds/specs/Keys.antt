@@ -1,30 +1,29 @@
 -- The state of one key of a call with many keys, by what its session has seen of the key's stripe.
---     MadeOn         the entry of a step's key, in the state in which the step was made, fits this condition
---     IsTold         the outside answers of a step: no round asked for the key, and the entry asks nobody; or a round asked
---                    whoever the entry makes the call ask, and this was the answer; or the step shares another call's load, and
---                    no round asked for the key
---     HasStep        the call has exactly one step at this key, with this operation and reply and with outside answers that it
---                    was given; the step is in the front, which is the whole history of the noted state, behind the former front
---     WasRefused     the seat has found the stripe, between these views, in a state in which the call might begin at this key and
---                    this was its first refusal, and has left it so
---     TakesMemory    a later round of a call with this operation takes memory after one that has asked, in a cache of this shape:
---                    the operation may write through
---     HasEnded       the end of a key: the call has made its one step there; or the key was refused, has no step, and no round
---                    asked for it. A failed allocation comes only after a round that asked, in a call whose later rounds take
---                    memory
---     IsAt           the key is in this state: it has no step of the call yet, or has ended
---     IsEarly        the call's number isn't the last one
---     IsTicketFor    a reservation of the call for this key, which asks whoever the operation asks first, in a cache of this
---                    shape
---     IsJoinFor      a join of the call, a `Get`, at this key: a step of the call at the key may come after the former front
---     HasJoined      the seat has found the stripe, between these views, in a state in which the call might begin at this key,
---                    and has left it with one more join, of the call to another call's load
---     IsHeldBack     between these views the key was put off, or has joined a load
---     HasBegun       the state of the key after a first phase; a refusal is that of the state that the view notes
---     IsCommitted    the effect of a commit: the call's one step at the key of its reservation, with these outside answers; the
---                    entry that the key had makes the operation ask first whoever the reservation asked
---     IsPickedUp     a pick-up that wasn't too early
---     HasPicked      the state of the key after a pick-up
+--     MadeOn        the entry of a step's key, in the state in which the step was made, fits this condition
+--     IsStepTold    the outside answers of a step: no round asked for the key, and the entry asks nobody; or a round asked
+--                   whoever the entry makes the call ask, and this was the answer; or the step shares another call's load, and no
+--                   round asked for the key
+--     HasOneStep    the call has exactly one step at this key, with this operation and reply and with outside answers that it was
+--                   given; the step is in the front, which is the whole history of the noted state, behind the former front
+--     WasRefused    the seat has found the stripe, between these views, in a state in which the call might begin at this key and
+--                   this was its first refusal, and has left it so
+--     TakesMemory   a later round of a call with this operation takes memory after one that has asked, in a cache of this shape:
+--                   the operation may write through
+--     EndsKey       the end of a key: the call has made its one step there; or the key was refused, has no step, and no round
+--                   asked for it. A failed allocation comes only after a round that asked, in a call whose later rounds take
+--                   memory
+--     IsAt          the key is in this state: it has no step of the call yet, or has ended
+--     IsEarly       the call's number isn't the last one
+--     IsTicketFor   a reservation of the call for this key, which asks whoever the operation asks first, in a cache of this shape
+--     IsJoinFor     a join of the call, a `Get`, at this key: a step of the call at the key may come after the former front
+--     HasJoined     the seat has found the stripe, between these views, in a state in which the call might begin at this key, and
+--                   has left it with one more join, of the call to another call's load
+--     IsHeldBack    between these views the key was put off, or has joined a load
+--     HasBegun      the state of the key after a first phase; a refusal is that of the state that the view notes
+--     IsCommitted   the effect of a commit: the call's one step at the key of its reservation, with these outside answers; the
+--                   entry that the key had makes the operation ask first whoever the reservation asked
+--     IsPickedUp    a pick-up that wasn't too early
+--     HasPicked     the state of the key after a pick-up
 use Rattle.std.specs.List.{IsAmong}
 use Rattle.std.specs.Prelude.{◌≡◌, ◌≤◌, ◌⊎◌, ℕ, List, [], ◌∷◌, length, Bool, true, false, Option, None, Some, Result, Ok, Err, slice_get, nat_lt}
 use mathlib.Core.List.{IsPrefix}
@@ -57,8 +56,8 @@ use Rattle.jc_stripe.specs.Polled as polled
 use Rattle.jc_lock.specs.declared.view.View.{View}
 use Rattle.jc_engine.specs.MadeIn.{IsNext}
 use Rattle.jc_cache.specs.Fronts.{HasAllSeen}
-use Rattle.jc_rounds.specs.declared.progress.Progress.{Progress}
-use Rattle.jc_rounds.specs.declared.progress.Progress.TheVariants.{Waiting, Reserved, Joined, Ended}
+use Rattle.jc_rounds.specs.declared.progress.KeyProgress.{KeyProgress}
+use Rattle.jc_rounds.specs.declared.progress.KeyProgress.TheVariants.{Waiting, Reserved, Joined, Ended}
 use Rattle.jc_rounds.specs.Recorded.{steps_of}
 use Rattle.jc_rounds.specs.Seats.{HasFound}
 use Rattle.jc_rounds.specs.Rounds.{Round, IsAnswer, asked_in, keys_asked}
@@ -73,17 +72,17 @@ pub record MadeOn (after : View) (key : Bytes) (place : ℕ) (Entry : Option Byt
   pub next : IsNext decided key place after.front
   pub entry : Entry (entry_at decided.cache key)
 
-abbrev pub IsTold : Config → List Round → View → Bytes → Op → ℕ → Option ℕ → Out → Type 0
-IsTold config rounds after key op place None out =
+abbrev pub IsStepTold : Config → List Round → View → Bytes → Op → ℕ → Option ℕ → Out → Type 0
+IsStepTold config rounds after key op place None out =
     ((is_among (asked_in rounds) key ≡ false) × (out ≡ nothing_said) × MadeOn after key place (λ entry. first_asked config op entry ≡ Nobody))
     ⊎ ((round : Round) × IsAmong rounds round × (is_among (keys_asked round) key ≡ true) × MadeOn after key place (λ entry. IsAnswer config round key (first_asked config op entry) out))
-IsTold config rounds after key op place (Some load) out = (is_among (asked_in rounds) key ≡ false) × (op ≡ Get)
+IsStepTold config rounds after key op place (Some load) out = (is_among (asked_in rounds) key ≡ false) × (op ≡ Get)
 
-pub record HasStep (config : Config) (caller : Caller) (rounds : List Round) (before after : View) (key : Bytes) (op : Op) (reply : Reply) : Type 0 where
+pub record HasOneStep (config : Config) (caller : Caller) (rounds : List Round) (before after : View) (key : Bytes) (op : Op) (reply : Reply) : Type 0 where
   pub out : Out
   pub shared_with : Option ℕ
   pub place : ℕ
-  pub told : IsTold config rounds after key op place shared_with out
+  pub told : IsStepTold config rounds after key op place shared_with out
   pub one : steps_of caller key after.own ≡ Step caller op key out shared_with reply ∷ []
   pub all : HasAllSeen after
   pub there : slice_get after.front place ≡ Some (Step caller op key out shared_with reply)
@@ -106,19 +105,19 @@ pub record TakesMemory (config : Config) (op : Op) : Type 0 where
   pub not_load : (replace : Bool) → op ≡ LoadAll replace → ⊥
   pub not_clear : op ≡ Clear → ⊥
 
-abbrev pub HasEnded : Config → Caller → List Round → View → View → Bytes → Op → Result Reply Refusal → Type 0
-HasEnded config caller rounds before after key op (Ok reply) = HasStep config caller rounds before after key op reply
-HasEnded config caller rounds before after key op (Err refusal) =
+abbrev pub EndsKey : Config → Caller → List Round → View → View → Bytes → Op → Result Reply Refusal → Type 0
+EndsKey config caller rounds before after key op (Ok reply) = HasOneStep config caller rounds before after key op reply
+EndsKey config caller rounds before after key op (Err refusal) =
     (steps_of caller key after.own ≡ []) × (is_among (asked_in rounds) key ≡ false)
     × ((refusal ≡ OutOfMemory) × (rounds ≡ [] → ⊥) × TakesMemory config op ⊎ ((refusal ≡ HistoryFull) × WasRefused caller before after key op refusal))
 
 -- 2. On the way.
 
-abbrev pub IsAt : Config → Caller → List Round → View → View → Bytes → Op → Progress → Type 0
+abbrev pub IsAt : Config → Caller → List Round → View → View → Bytes → Op → KeyProgress → Type 0
 IsAt config caller rounds before after key op Waiting = steps_of caller key after.own ≡ []
 IsAt config caller rounds before after key op Reserved = steps_of caller key after.own ≡ []
 IsAt config caller rounds before after key op Joined = steps_of caller key after.own ≡ []
-IsAt config caller rounds before after key op (Ended ended) = HasEnded config caller rounds before after key op ended
+IsAt config caller rounds before after key op (Ended ended) = EndsKey config caller rounds before after key op ended
 
 abbrev pub IsEarly : Caller → Type 0
 IsEarly caller = nat_lt caller.call last_number ≡ true
@@ -156,7 +155,7 @@ IsHeldBack caller before after key op = ((refusal : Refusal) × (is_put_off refu
 -- 3. Phases. `before` is the view from before the phase.
 
 abbrev pub HasBegun : Caller → Config → View → View → Bytes → Op → Begun → Type 0
-HasBegun caller config before after key op (begun.Done done) = HasStep config caller [] before after key op done.reply
+HasBegun caller config before after key op (begun.Done done) = HasOneStep config caller [] before after key op done.reply
 HasBegun caller config before after key op (begun.Refused refusal) =
     (steps_of caller key after.own ≡ []) × ((is_put_off refusal ≡ true) ⊎ (refusal ≡ HistoryFull))
     × (first_refusal after.noted caller key op ≡ Some refusal) × WasRefused caller before after key op refusal
@@ -175,7 +174,7 @@ pub record IsCommitted (config : Config) (caller : Caller) (r : Reservation) (ou
 
 -- `first` is the view from before the call
 abbrev pub HasPicked : Config → Caller → View → View → Bytes → Op → Polled → Type 0
-HasPicked config caller first after key op (polled.Answer reply place shared_with) = HasStep config caller [] first after key op reply
+HasPicked config caller first after key op (polled.Answer reply place shared_with) = HasOneStep config caller [] first after key op reply
 HasPicked config caller first after key op polled.Again = steps_of caller key after.own ≡ []
 HasPicked config caller first after key op (polled.NotYet join) = ⊥
 

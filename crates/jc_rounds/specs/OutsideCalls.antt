@@ -31,13 +31,13 @@ use Rattle.jc_session.specs.Boxed.{boxed}
 use Rattle.jc_stripe.specs.Tickets.{Claim}
 use Rattle.jc_session.specs.declared.session.Session.{Session}
 use Rattle.jc_rounds.specs.declared.load_call.SpentLoads.{SpentLoads}
-use Rattle.jc_rounds.specs.Answers.{key_of}
+use Rattle.jc_rounds.specs.Answers.{asked_key}
 
 abbrev pub asked_keys : List Claim → List Bytes
-asked_keys asks = map key_of asks
+asked_keys asks = map asked_key asks
 
 abbrev pub wanted : List Claim → List (Bytes × Option Change)
-wanted asks = asked_changes key_of (λ (a : Claim). a.change) asks
+wanted asks = asked_changes asked_key (λ (a : Claim). a.change) asks
 
 abbrev pub is_delete : Batch → Bool
 is_delete (Writes batch) = false
@@ -76,7 +76,7 @@ pub record LoadCallAsked
     (old : Session I J D E) (items : List Claim) (done : List (LoadResult Claim)) (new : Session I J D E) : Type 0 where
   pub said : Bytes → LoadAnswer
   pub loads : LoadsAllOnce (boxed loads_all) (boxed load_state) old.agent.hands.outside.loader (asked_keys items) said new.agent.hands.outside.loader
-  pub done_are : reverse done ≡ loads_done key_of said items
+  pub done_are : reverse done ≡ loads_done asked_key said items
   pub loader_type : KeepsType old.agent.hands.outside.loader new.agent.hands.outside.loader
   pub writer : new.agent.hands.outside.writer ≡ old.agent.hands.outside.writer
 
@@ -110,6 +110,6 @@ pub record WriteCallAsked
     (old : Session I J D E) (deletes : Bool) (items : List Claim) (returned : Result (Unit {0}) ℕ) (done : List (WriteResult Claim)) (new : Session I J D E) : Type 0 where
   pub said : Bytes → WriteAnswer
   pub writes : WritesBatch (boxed writes_all) (boxed deletes_all) (boxed write_state) deletes (wanted items) old.agent.hands.outside.writer returned said new.agent.hands.outside.writer
-  pub done_are : reverse done ≡ writes_done key_of said items
+  pub done_are : reverse done ≡ writes_done asked_key said items
   pub writer_type : KeepsType old.agent.hands.outside.writer new.agent.hands.outside.writer
   pub loader : new.agent.hands.outside.loader ≡ old.agent.hands.outside.loader

@@ -1,8 +1,8 @@
 -- Rounds of a call, with their calls outside.
 --     KeepsTickets   the tickets stand for the same reservations, with as much room for them
 --     HasReserved    a round has reserved keys, and nobody was asked for them yet
---     IsTold         a round asked this outside for the keys that it has reserved, and these are the answers
---     Ran            rounds of a call, with these calls outside: the call goes on, and of its session only seats, counts and
+--     IsRoundTold    a round asked this outside for the keys that it has reserved, and these are the answers
+--     RunsRounds     rounds of a call, with these calls outside: the call goes on, and of its session only seats, counts and
 --                    hands have changed
 use Rattle.std.specs.Prelude.{◌≡◌, List, [], map, Option, vec_capacity}
 use Rattle.std.specs.Global.{Vec}
@@ -11,21 +11,21 @@ use Rattle.jc_stripe.specs.Tickets.{TicketClaim}
 use Rattle.jc_cache.specs.Caches.{CacheState}
 use Rattle.jc_cache.specs.Sessions.{IsOf}
 use Rattle.jc_session.specs.declared.session.Session.{Session}
-use Rattle.jc_rounds.specs.declared.answers.Answers.{Answers}
+use Rattle.jc_rounds.specs.declared.answers.RoundAnswers.{RoundAnswers}
 use Rattle.jc_rounds.specs.declared.bulk_call.BulkCall.{BulkCall}
 use Rattle.jc_rounds.specs.Answers.{AreAnswers}
 use Rattle.jc_rounds.specs.Asking.{AsksFor, reserved_keys}
 use Rattle.jc_rounds.specs.Rounds.{Round, keys_asked, round_fault}
 use Rattle.jc_rounds.specs.Running.{HasRun, with_rounds}
 use Rattle.jc_rounds.specs.Targets.{ops_of}
-use Rattle.jc_rounds.specs.Underway.{Advances, HasStarted, Past, reserved_by}
+use Rattle.jc_rounds.specs.Underway.{Advances, CallPast, HasStarted, reserved_by}
 
 pub record KeepsTickets (tickets tickets' : Vec TicketClaim) : Type 0 where
   pub reservations : map reserved_by tickets'.items ≡ map reserved_by tickets.items
   pub room : vec_capacity tickets' ≡ vec_capacity tickets
 
 -- `old` and `before` are the session and the call before the round
-pub record HasReserved {I J : Type 0} {D : I → Type 0} {E : J → Type 0} (cache : CacheState) (past : Past) (session : Session I J D E) (call : BulkCall) : Type 0 where
+pub record HasReserved {I J : Type 0} {D : I → Type 0} {E : J → Type 0} (cache : CacheState) (past : CallPast) (session : Session I J D E) (call : BulkCall) : Type 0 where
   pub old : Session I J D E
   pub before : BulkCall
   pub run : HasRun cache past old before
@@ -34,7 +34,7 @@ pub record HasReserved {I J : Type 0} {D : I → Type 0} {E : J → Type 0} (cac
   pub some : call.tickets.items ≡ [] → ⊥
 
 -- `asking` and `reserving` are the session and the call once the round has reserved its keys; `fault` is what the writer returned
-pub record IsTold {I J : Type 0} {D : I → Type 0} {E : J → Type 0} (cache : CacheState) (past : Past) (round : Round) (session : Session I J D E) (call : BulkCall) (answers : Answers) (fault : Option Refusal) : Type 0 where
+pub record IsRoundTold {I J : Type 0} {D : I → Type 0} {E : J → Type 0} (cache : CacheState) (past : CallPast) (round : Round) (session : Session I J D E) (call : BulkCall) (answers : RoundAnswers) (fault : Option Refusal) : Type 0 where
   pub asking : Session I J D E
   pub reserving : BulkCall
   pub reserved : HasReserved cache past asking reserving
@@ -47,7 +47,7 @@ pub record IsTold {I J : Type 0} {D : I → Type 0} {E : J → Type 0} (cache : 
   pub fault_is : fault ≡ round_fault round
   pub answered : AreAnswers cache.config round answers (map reserved_by reserving.tickets.items)
 
-pub record Ran {I J : Type 0} {D : I → Type 0} {E : J → Type 0} (Asked : List Round → Type 0) (cache : CacheState) (past : Past) (old : Session I J D E) (call : BulkCall) (new : Session I J D E) (later : BulkCall) : Type 0 where
+pub record RunsRounds {I J : Type 0} {D : I → Type 0} {E : J → Type 0} (Asked : List Round → Type 0) (cache : CacheState) (past : CallPast) (old : Session I J D E) (call : BulkCall) (new : Session I J D E) (later : BulkCall) : Type 0 where
   pub rounds : List Round
   pub asked : Asked rounds
   pub run : HasRun cache (with_rounds past rounds) new later

@@ -17,7 +17,7 @@
 --     IsAnswer         a step's outside answers are a round's answers for its key, and the round asked whoever the step asks
 --                      first
 --     round_returned   what the writer returned in a round that is one call of it; `Ok` in any other round
---     fault_of         the fault that a call of the writer returned, if it failed
+--     writer_failure   the fault that a call of the writer returned, if it failed
 --     round_fault      the fault that the writer returned in a round, if it failed; after a processor such a fault has no key,
 --                      and is dropped
 --     faults_in        the faults that the writer returned in these rounds
@@ -105,12 +105,12 @@ round_returned (LoadAll r) = Ok tt
 round_returned (WriteAll r) = r.returned
 round_returned (ProcessAll r) = Ok tt
 
-abbrev pub fault_of : Result (Unit {0}) ℕ → Option Refusal
-fault_of (Ok done) = None
-fault_of (Err code) = Some (WriterFailed code)
+abbrev pub writer_failure : Result (Unit {0}) ℕ → Option Refusal
+writer_failure (Ok done) = None
+writer_failure (Err code) = Some (WriterFailed code)
 
 abbrev pub round_fault : Round → Option Refusal
-round_fault round = fault_of (round_returned round)
+round_fault round = writer_failure (round_returned round)
 
 -- 3. All rounds.
 

@@ -30,41 +30,41 @@ use Rattle.jc_cache.specs.Caches.{CacheState}
 use Rattle.jc_session.specs.Sessions.{next_call}
 use Rattle.jc_session.specs.declared.session.Session.{Session}
 use Rattle.jc_rounds.specs.declared.bulk_call.BulkCall.{BulkCall}
-use Rattle.jc_rounds.specs.declared.progress.Progress.{Progress}
-use Rattle.jc_rounds.specs.declared.progress.Progress.TheVariants.{Waiting}
+use Rattle.jc_rounds.specs.declared.progress.KeyProgress.{KeyProgress}
+use Rattle.jc_rounds.specs.declared.progress.KeyProgress.TheVariants.{Waiting}
 use Rattle.jc_rounds.specs.Asking.{AsksEachOnce}
 use Rattle.jc_rounds.specs.Causes.{IsFirst}
 use Rattle.jc_rounds.specs.Ends.{KeyEnd, key_ops}
-use Rattle.jc_rounds.specs.Keys.{HasEnded, TakesMemory}
+use Rattle.jc_rounds.specs.Keys.{EndsKey, TakesMemory}
 use Rattle.jc_rounds.specs.Lendings.{OnlyPhases}
 use Rattle.jc_rounds.specs.Recorded.{former_steps, steps_of}
 use Rattle.jc_rounds.specs.Rounds.{Round, asked_in}
 use Rattle.jc_rounds.specs.Seats.{HasFound, HasGrown, view_at, view_of}
-use Rattle.jc_rounds.specs.SoFar.{AreHeldBack, GoesOn, HaveNoStep, is_due}
+use Rattle.jc_rounds.specs.SoFar.{AreHeldBack, HaveNoStep, KeysAdvance, is_target_of}
 use Rattle.jc_rounds.specs.Starting.{AsksAtMostOnce, HasStartedAll, IsFull, RoundEnd}
 use Rattle.jc_rounds.specs.Targets.{ops_of}
-use Rattle.jc_rounds.specs.Underway.{IsBetween, Past}
+use Rattle.jc_rounds.specs.Underway.{CallPast, IsBetween}
 
 -- 1. Rounds.
 
 module _ (caller : Caller) (stripes : ℕ) (targets : List (Bytes × Op)) where
-  abbrev pub HeldInEach : List (TableId × View) → List RoundEnd → List Progress → Type 0
+  abbrev pub HeldInEach : List (TableId × View) → List RoundEnd → List KeyProgress → Type 0
   HeldInEach old [] progress = Unit {0}
   HeldInEach old (e ∷ es) progress =
       AreHeldBack (IsFull caller stripes targets old e.seats (length (asked_in e.calls))) (length targets) caller stripes targets old e.seats progress
       × HaveNoStep caller stripes targets e.seats progress × HeldInEach e.seats es progress
 
   -- `calls` is what it has asked outside
-  pub record IsRound (old new : List (TableId × View)) (progress later : List Progress) (calls : List Round) : Type 0 where
+  pub record IsRound (old new : List (TableId × View)) (progress later : List KeyProgress) (calls : List Round) : Type 0 where
     pub few : length calls ≤ 1
-    pub goes : GoesOn old new progress later
+    pub goes : KeysAdvance old new progress later
     pub held : AreHeldBack (IsFull caller stripes targets old new (length (asked_in calls))) (length targets) caller stripes targets old new later
     pub waited : (place : ℕ) (key : Bytes) (op : Op) → slice_get targets place ≡ Some (key, op) → is_among (asked_in calls) key ≡ true → slice_get progress place ≡ Some Waiting
 
-abbrev pub with_rounds : Past → List Round → Past
+abbrev pub with_rounds : CallPast → List Round → CallPast
 with_rounds past calls = record past { rounds = past.rounds ++ calls }
 
-pub record HasRun {I J : Type 0} {D : I → Type 0} {E : J → Type 0} (cache : CacheState) (past : Past) (session : Session I J D E) (call : BulkCall) : Type 0 where
+pub record HasRun {I J : Type 0} {D : I → Type 0} {E : J → Type 0} (cache : CacheState) (past : CallPast) (session : Session I J D E) (call : BulkCall) : Type 0 where
   pub between : IsBetween cache past session call
   pub started : HasStartedAll past.caller cache.config.stripes (ops_of call.targets.now) past.first session.seats.items past.rounds
   pub held : HeldInEach past.caller cache.config.stripes (ops_of call.targets.now) past.first started.ends call.progress.items
@@ -94,10 +94,10 @@ pub record WasNearFull (caller : Caller) (before after : View) : Type 0 where
 pub record IsCarriedOut {I J : Type 0} {D : I → Type 0} {E : J → Type 0} (cache : CacheState) (old : Session I J D E) (targets : List (Bytes × Op)) (ends : List KeyEnd) (rounds : List Round) (new : Session I J D E) : Type 0 where
   pub targets_are : key_ops ends ≡ targets
   pub grown : (i : ℕ) → HasGrown (view_at old.seats.items i) (view_at new.seats.items i)
-  pub phases : (i : ℕ) → OnlyPhases (next_call old).agent.caller (λ key. is_due cache.config.stripes targets key i ≡ true) (view_at old.seats.items i) (view_at new.seats.items i)
-  pub each : All (λ (e : KeyEnd). HasEnded cache.config (next_call old).agent.caller rounds (view_of cache.config.stripes old.seats.items e.key) (view_of cache.config.stripes new.seats.items e.key) e.key e.op e.ended) ends
+  pub phases : (i : ℕ) → OnlyPhases (next_call old).agent.caller (λ key. is_target_of cache.config.stripes targets key i ≡ true) (view_at old.seats.items i) (view_at new.seats.items i)
+  pub each : All (λ (e : KeyEnd). EndsKey cache.config (next_call old).agent.caller rounds (view_of cache.config.stripes old.seats.items e.key) (view_of cache.config.stripes new.seats.items e.key) e.key e.op e.ended) ends
   pub refused : All (λ (e : KeyEnd). e.ended ≡ Err HistoryFull → WasNearFull (next_call old).agent.caller (view_of cache.config.stripes old.seats.items e.key) (view_of cache.config.stripes new.seats.items e.key)) ends
-  pub others : (key : Bytes) (i : ℕ) → is_due cache.config.stripes targets key i ≡ false → steps_of (next_call old).agent.caller key (view_at new.seats.items i).own ≡ []
+  pub others : (key : Bytes) (i : ℕ) → is_target_of cache.config.stripes targets key i ≡ false → steps_of (next_call old).agent.caller key (view_at new.seats.items i).own ≡ []
   pub former : (i : ℕ) → former_steps (next_call old).agent.caller (view_at new.seats.items i).own ≡ former_steps (next_call old).agent.caller (view_at old.seats.items i).own
   pub asked : AsksEachOnce cache.config targets rounds
   pub started : HasStartedAll (next_call old).agent.caller cache.config.stripes targets old.seats.items new.seats.items rounds

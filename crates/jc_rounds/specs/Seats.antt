@@ -4,9 +4,10 @@
 --     view_of      the view at the key's stripe, in a cache of this number of stripes
 --     HasGrown     the front begins with the former one, the stripe is the same, its next reservation's number hasn't fallen, and
 --                  a front that is the whole history of the noted state is still so; there are these lendings more
---     HasFound     the seat has found the stripe in the first state and left it in the second one, in one lending between these views
+--     HasFound     the seat has found the stripe in the first state and left it in the second one, in one lending between these
+--                  views
 --     is_at        this is the key, and it is of the stripe with this number
---     Moves        one phase of the call at this key: every front may have grown; what was known of any other key still holds,
+--     MovesAtKey   one phase of the call at this key: every front may have grown; what was known of any other key still holds,
 --                  and so do the steps of former calls; the stripes have changed only by phases at this key
 --     AreBefore    each step that the session has made is of this call or of a former one
 use Rattle.std.specs.Prelude.{◌≡◌, ◌≤◌, ◌==◌, ◌&&◌, ℕ, zero, suc, List, [], ◌∷◌, ◌++◌, Bool, true, false}
@@ -49,7 +50,7 @@ abbrev pub is_at : ℕ → Bytes → Bytes → ℕ → Bool
 is_at stripes key other i = pointwise ◌==◌ key other && (stripe_of key stripes == i)
 
 -- `stripes` is how many stripes there are
-pub record Moves (caller : Caller) (stripes : ℕ) (key : Bytes) (old new : List (TableId × View)) : Type 0 where
+pub record MovesAtKey (caller : Caller) (stripes : ℕ) (key : Bytes) (old new : List (TableId × View)) : Type 0 where
   pub grown : (i : ℕ) → HasGrown (view_at old i) (view_at new i)
   pub others : (other : Bytes) (i : ℕ) → is_at stripes key other i ≡ false → steps_of caller other (view_at new i).own ≡ steps_of caller other (view_at old i).own
   pub former : (i : ℕ) → former_steps caller (view_at new i).own ≡ former_steps caller (view_at old i).own

@@ -1,20 +1,21 @@
 -- A round starts every key that it can.
---     IsRoomFor       room for all these keys, or for one more than all stripes may have out
---     AreManyJoined   between these views more keys have joined loads than all stripes together may have joiners
---     IsFull          a round has asked for more keys than all stripes may have reserved, or `AreManyJoined`
---     HaveJoined      each key that has joined a load has done so between these views
---     IsPutOff        a key that a round leaves waiting: it was put off in the round, or has joined a load that was withdrawn, or
---                     the round was full
---     RoundEnd        the call outside of a round, if it made one, and what the session has seen of each stripe after the round
---     calls_of        the calls outside of these rounds
---     seats_after     what the session has seen after these rounds
---     StartsAll       a round starts all it can: it has put off each key for which these later rounds ask. After it there is a
---                     step of the call at each key for which it has asked, and none at the later rounds' keys
---     EachStartsAll   each of these rounds starts all it can
---     HasStartedAll   the calls outside of a call were made in such rounds
---     IsLeftAlone     none of the keys met another call's reservation or load, or a stripe with as many calls under way as it may
---                     have
---     AsksAtMostOnce  a call that was left alone, with no more keys than all stripes may have reserved, asks outside once, if at all
+--     IsRoomFor        room for all these keys, or for one more than all stripes may have out
+--     AreManyJoined    between these views more keys have joined loads than all stripes together may have joiners
+--     IsFull           a round has asked for more keys than all stripes may have reserved, or `AreManyJoined`
+--     HaveJoined       each key that has joined a load has done so between these views
+--     IsPutOff         a key that a round leaves waiting: it was put off in the round, or has joined a load that was withdrawn,
+--                      or the round was full
+--     RoundEnd         the call outside of a round, if it made one, and what the session has seen of each stripe after the round
+--     rounds_asked     the calls outside of these rounds
+--     seats_after      what the session has seen after these rounds
+--     StartsAll        a round starts all it can: it has put off each key for which these later rounds ask. After it there is a
+--                      step of the call at each key for which it has asked, and none at the later rounds' keys
+--     EachStartsAll    each of these rounds starts all it can
+--     HasStartedAll    the calls outside of a call were made in such rounds
+--     IsLeftAlone      none of the keys met another call's reservation or load, or a stripe with as many calls under way as it
+--                      may have
+--     AsksAtMostOnce   a call that was left alone, with no more keys than all stripes may have reserved, asks outside once, if at
+--                      all
 use Rattle.std.specs.Prelude.{◌≡◌, ◌==◌, ◌≤◌, ◌<◌, ◌*◌, ◌⊎◌, ℕ, List, [], ◌∷◌, length, true, Some, slice_get}
 use Rattle.std.specs.List.{AllByRecursion, IsAmong, IsDistinct, flat_map}
 use Rattle.std.specs.Cmp.Lexicographic.{pointwise}
@@ -26,8 +27,8 @@ use Rattle.jc_model.specs.Cache.{Bytes}
 use Rattle.jc_model.specs.declared.event.Op.{Op}
 use Rattle.jc_model.specs.declared.event.Op.TheVariants.{Get}
 use Rattle.jc_lock.specs.declared.view.View.{View}
-use Rattle.jc_rounds.specs.declared.progress.Progress.{Progress}
-use Rattle.jc_rounds.specs.declared.progress.Progress.TheVariants.{Joined}
+use Rattle.jc_rounds.specs.declared.progress.KeyProgress.{KeyProgress}
+use Rattle.jc_rounds.specs.declared.progress.KeyProgress.TheVariants.{Joined}
 use Rattle.jc_rounds.specs.Keys.{HasJoined, IsHeldBack}
 use Rattle.jc_rounds.specs.Recorded.{steps_of}
 use Rattle.jc_rounds.specs.Rounds.{Round, asked_in}
@@ -47,7 +48,7 @@ pub record AreManyJoined (caller : Caller) (stripes : ℕ) (targets : List (Byte
 abbrev pub IsFull : Caller → ℕ → List (Bytes × Op) → List (TableId × View) → List (TableId × View) → ℕ → Type 0
 IsFull caller stripes targets old new asked = (RESERVATIONS_MAX * stripes < asked) ⊎ AreManyJoined caller stripes targets old new
 
-abbrev pub HaveJoined : Caller → ℕ → List (Bytes × Op) → List (TableId × View) → List (TableId × View) → List Progress → Type 0
+abbrev pub HaveJoined : Caller → ℕ → List (Bytes × Op) → List (TableId × View) → List (TableId × View) → List KeyProgress → Type 0
 HaveJoined caller stripes targets old new progress = (place : ℕ) (key : Bytes) (op : Op) → slice_get targets place ≡ Some (key, op) → slice_get progress place ≡ Some Joined
     → (op ≡ Get) × HasJoined caller (view_of stripes old key) (view_of stripes new key) key op
 
@@ -55,8 +56,8 @@ pub record RoundEnd : Type 0 where
   pub calls : List Round
   pub seats : List (TableId × View)
 
-abbrev pub calls_of : List RoundEnd → List Round
-calls_of ends = flat_map (λ (e : RoundEnd). e.calls) ends
+abbrev pub rounds_asked : List RoundEnd → List Round
+rounds_asked ends = flat_map (λ (e : RoundEnd). e.calls) ends
 
 abbrev pub seats_after : List (TableId × View) → List RoundEnd → List (TableId × View)
 seats_after old [] = old
@@ -76,11 +77,11 @@ module _ (caller : Caller) (stripes : ℕ) (targets : List (Bytes × Op)) where
 
   abbrev pub EachStartsAll : List (TableId × View) → List RoundEnd → Type 0
   EachStartsAll old [] = Unit {0}
-  EachStartsAll old (e ∷ es) = StartsAll old e (calls_of es) × EachStartsAll e.seats es
+  EachStartsAll old (e ∷ es) = StartsAll old e (rounds_asked es) × EachStartsAll e.seats es
 
   pub record HasStartedAll (old new : List (TableId × View)) (rounds : List Round) : Type 0 where
     pub ends : List RoundEnd
-    pub calls_are : calls_of ends ≡ rounds
+    pub calls_are : rounds_asked ends ≡ rounds
     pub seats_are : seats_after old ends ≡ new
     pub each : EachStartsAll old ends
 

@@ -1,29 +1,31 @@
 -- A call with many keys, between its phases.
---     Past          the past of a call: its caller, what the session had seen of each stripe before it, and its rounds that asked
---     with_round    the past with one round more
---     reserved_by   a ticket's reservation
---     IsFresh       a ticket for which nobody was asked, of a key for which none of these rounds asked
---     are_fresh     each of these tickets is fresh
---     AreRooms      the memory of the rounds of a call with this number of keys, none of which was started
---     IsNew         a call for these keys before its first round, with room for its rounds
---     IsOn          the session's current call, with this past, which has these tickets and joins out
---     IsBetween     the call with nothing out, as between two rounds: its cause is one of the faults and refusals that it has met
+--     CallPast           the past of a call: its caller, what the session had seen of each stripe before it, and its rounds that
+--                        asked
+--     with_round         the past with one round more
+--     reserved_by        a ticket's reservation
+--     IsFresh            a ticket for which nobody was asked, of a key for which none of these rounds asked
+--     are_fresh          each of these tickets is fresh
+--     AreRooms           the memory of the rounds of a call with this number of keys, none of which was started
+--     IsNew              a call for these keys before its first round, with room for its rounds
+--     IsOn               the session's current call, with this past, which has these tickets and joins out
+--     IsBetween          the call with nothing out, as between two rounds: its cause is one of the faults and refusals that it
+--                        has met
 --     IsPickingNext      as `IsPicking`, with the next join taken out
---     Advances      phases of the call: what has ended stays ended, and a cause that was noted stays; of the session only its
---                   seats and its counts have changed
+--     Advances           phases of the call: what has ended stays ended, and a cause that was noted stays; of the session only
+--                        its seats and its counts have changed
 --     AdvancesUnnoted    as `Advances`, before the faults that they have met are noted
---     HasStarted    the first phases of a round were made: each key that waits was put off, and nobody was asked yet
---     IsStarting    the first phases are being made, and this place is next
---     IsAnswered    the tickets' asks were answered in a round of the call
---     IsCommitting  the last phases are being made, and this place is next
+--     HasStarted         the first phases of a round were made: each key that waits was put off, and nobody was asked yet
+--     IsStarting         the first phases are being made, and this place is next
+--     IsAnswered         the tickets' asks were answered in a round of the call
+--     IsCommitting       the last phases are being made, and this place is next
 --     IsCommittingNext   as `IsCommitting`, with the next ticket taken out
---     HasCommitted  the last phases were made: no key is reserved
---     IsPicking     the pick-ups are being made, and this place is next
---     HasNoRoom     there is no room for one more ticket, or for one more join
---     KeepsJoined   a first phase: each key that has joined a load has done so since before the round
---     HasRoom       there is room for one more ticket and for one more join
---     KeepsRoom     only the tickets and the joins have changed, and there is as much room for them
---     IsOver        no key waits
+--     HasCommitted       the last phases were made: no key is reserved
+--     IsPicking          the pick-ups are being made, and this place is next
+--     HasNoRoom          there is no room for one more ticket, or for one more join
+--     KeepsJoined        a first phase: each key that has joined a load has done so since before the round
+--     HasRoom            there is room for one more ticket and for one more join
+--     KeepsRoom          only the tickets and the joins have changed, and there is as much room for them
+--     IsOver             no key waits
 use Rattle.std.specs.Prelude.{◌≡◌, ◌==◌, ◌⊎◌, ◌≤◌, ◌<◌, ℕ, List, [], ◌∷◌, ◌++◌, length, map, reverse, true, false, None, nat_lt, vec_capacity}
 use Rattle.std.specs.List.{AllByRecursion, IsAmong, IsDistinct}
 use Rattle.std.specs.Map.{keys_of}
@@ -38,25 +40,25 @@ use Rattle.jc_stripe.specs.declared.ticket.Reservation.{Reservation}
 use Rattle.jc_lock.specs.declared.view.View.{View}
 use Rattle.jc_cache.specs.Caches.{CacheState}
 use Rattle.jc_session.specs.declared.session.Session.{Session}
-use Rattle.jc_rounds.specs.declared.answers.Answers.{Answers}
+use Rattle.jc_rounds.specs.declared.answers.RoundAnswers.{RoundAnswers}
 use Rattle.jc_rounds.specs.declared.bulk_call.BulkCall.{BulkCall}
 use Rattle.jc_rounds.specs.declared.bulk_call.Rooms.{Rooms}
 use Rattle.jc_rounds.specs.declared.targets.Targets.{Targets}
 use Rattle.jc_rounds.specs.Answers.{AreAnswers}
-use Rattle.jc_rounds.specs.Asking.{HasAsked}
-use Rattle.jc_rounds.specs.KeyProgress.{IsCauseIn, IsMet, KeepsCause, StillWaits, all_waiting, failures, is_joined, is_reserved}
+use Rattle.jc_rounds.specs.Asking.{HasAskedSoFar}
+use Rattle.jc_rounds.specs.KeyProgress.{IsCauseIn, IsMet, KeepsCause, StillWaits, all_waiting, failures, holds_reservation, waits_for_joined_load}
 use Rattle.jc_rounds.specs.Rounds.{Round, asked_in, faults_in}
-use Rattle.jc_rounds.specs.SoFar.{AreHeldBack, AreSettledFrom, AreUnder, GoesOn, IsUnderway}
+use Rattle.jc_rounds.specs.SoFar.{AreHeldBack, AreSettledFrom, AreUnder, IsUnderway, KeysAdvance}
 use Rattle.jc_rounds.specs.Seats.{HasGrown, view_at}
 use Rattle.jc_rounds.specs.Starting.{HaveJoined, IsFull, IsRoomFor}
 use Rattle.jc_rounds.specs.Targets.{ops_of}
 
-pub record Past : Type 0 where
+pub record CallPast : Type 0 where
   pub caller : Caller
   pub first : List (TableId × View)
   pub rounds : List Round
 
-abbrev pub with_round : Past → Round → Past
+abbrev pub with_round : CallPast → Round → CallPast
 with_round past round = record past { rounds = past.rounds ++ round ∷ [] }
 
 abbrev pub reserved_by : TicketClaim → Reservation
@@ -86,11 +88,11 @@ pub record IsNew (targets : Targets) (stripes : ℕ) (call : BulkCall) : Type 0 
   pub most : IsRoomFor RESERVATIONS_MAX (length (ops_of targets)) stripes call.most
   pub joins_room : IsRoomFor JOINERS_MAX (length (ops_of targets)) stripes (vec_capacity call.joins)
 
-module _ {I J : Type 0} {D : I → Type 0} {E : J → Type 0} (cache : CacheState) (past : Past) where
+module _ {I J : Type 0} {D : I → Type 0} {E : J → Type 0} (cache : CacheState) (past : CallPast) where
   pub record IsOn (session : Session I J D E) (call : BulkCall) (tickets : List TicketClaim) (joins : List JoinClaim) : Type 0 where
     pub distinct : IsDistinct (pointwise ◌==◌) (keys_of (ops_of call.targets.now))
     pub under : IsUnderway cache past.caller (ops_of call.targets.now) past.rounds past.first session call.progress.items (map reserved_by tickets) joins
-    pub asked : HasAsked cache.config (ops_of call.targets.now) past.rounds call.progress.items
+    pub asked : HasAskedSoFar cache.config (ops_of call.targets.now) past.rounds call.progress.items
     pub met : IsMet call.cause call.progress.items (faults_in past.rounds)
     pub tickets_room : call.most ≤ vec_capacity call.tickets
     pub most : IsRoomFor RESERVATIONS_MAX (length (ops_of call.targets.now)) cache.config.stripes call.most
@@ -118,23 +120,23 @@ module _ {I J : Type 0} {D : I → Type 0} {E : J → Type 0} (cache : CacheStat
 
   -- 2. Last phases. The tickets stand in the other order.
 
-  pub record IsAnswered (round : Round) (session : Session I J D E) (call : BulkCall) (answers : Answers) : Type 0 where
+  pub record IsAnswered (round : Round) (session : Session I J D E) (call : BulkCall) (answers : RoundAnswers) : Type 0 where
     pub on : IsOn session call call.tickets.items call.joins.items
     pub among : IsAmong past.rounds round
     pub answered : AreAnswers cache.config round answers (map reserved_by call.tickets.items)
 
-  pub record IsCommitting (round : Round) (session : Session I J D E) (call : BulkCall) (answers : Answers) (place : ℕ) : Type 0 where
+  pub record IsCommitting (round : Round) (session : Session I J D E) (call : BulkCall) (answers : RoundAnswers) (place : ℕ) : Type 0 where
     pub on : IsOn session call (reverse call.tickets.items) call.joins.items
     pub among : IsAmong past.rounds round
     pub answered : AreAnswers cache.config round answers (map reserved_by (reverse call.tickets.items))
-    pub committed : AreUnder is_reserved place call.progress.items
+    pub committed : AreUnder holds_reservation place call.progress.items
 
   -- the next of the tickets is taken out
-  pub record IsCommittingNext (round : Round) (session : Session I J D E) (call : BulkCall) (ticket : TicketClaim) (answers : Answers) (place : ℕ) : Type 0 where
+  pub record IsCommittingNext (round : Round) (session : Session I J D E) (call : BulkCall) (ticket : TicketClaim) (answers : RoundAnswers) (place : ℕ) : Type 0 where
     pub on : IsOn session call (ticket ∷ reverse call.tickets.items) call.joins.items
     pub among : IsAmong past.rounds round
     pub answered : AreAnswers cache.config round answers (map reserved_by (ticket ∷ reverse call.tickets.items))
-    pub committed : AreUnder is_reserved place call.progress.items
+    pub committed : AreUnder holds_reservation place call.progress.items
 
   pub record HasCommitted (session : Session I J D E) (call : BulkCall) : Type 0 where
     pub on : IsOn session call [] call.joins.items
@@ -145,16 +147,16 @@ module _ {I J : Type 0} {D : I → Type 0} {E : J → Type 0} (cache : CacheStat
   pub record IsPicking (session : Session I J D E) (call : BulkCall) (place : ℕ) : Type 0 where
     pub on : IsOn session call [] (reverse call.joins.items)
     pub no_tickets : call.tickets.items ≡ []
-    pub picked : AreUnder is_joined place call.progress.items
+    pub picked : AreUnder waits_for_joined_load place call.progress.items
 
   -- the next of the joins is taken out
   pub record IsPickingNext (session : Session I J D E) (call : BulkCall) (join : JoinClaim) (place : ℕ) : Type 0 where
     pub on : IsOn session call [] (join ∷ reverse call.joins.items)
     pub no_tickets : call.tickets.items ≡ []
-    pub picked : AreUnder is_joined place call.progress.items
+    pub picked : AreUnder waits_for_joined_load place call.progress.items
 
 pub record Advances {I J : Type 0} {D : I → Type 0} {E : J → Type 0} (old new : Session I J D E) (call later : BulkCall) : Type 0 where
-  pub goes : GoesOn old.seats.items new.seats.items call.progress.items later.progress.items
+  pub goes : KeysAdvance old.seats.items new.seats.items call.progress.items later.progress.items
   pub agent : new.agent ≡ record old.agent { counts = new.agent.counts }
   pub targets : later.targets ≡ call.targets
   pub most : later.most ≡ call.most

@@ -15,7 +15,7 @@ use jc_stripe::{Ask, LoadDone, ProcDone, Ticket, WriteDone};
 use std::sync::Wait;
 
 /// The outside answers for the keys that a round has reserved, the last key's first. They can't be dropped.
-pub enum Answers {
+pub enum RoundAnswers {
     /// Answers of the loader.
     Loads(Vec<LoadDone<Ask>>),
     /// Answers of the writer.
@@ -25,7 +25,7 @@ pub enum Answers {
     Processes(Vec<ProcDone<Ask>>, Vec<WriteDone<Ask>>, Vec<WriteDone<Ask>>),
 }
 
-impl Answers {
+impl RoundAnswers {
     /// Makes the last phase of the session's current call at the first key that was answered. The step's reply is written to
     /// `reply`.
     ///
@@ -49,19 +49,19 @@ impl Answers {
         is_uniform();
         own_steps();
         match self {
-            Answers::Loads(done) => match done.pop() {
+            RoundAnswers::Loads(done) => match done.pop() {
                 Some(done) => {
                     cache.commit_load(rt, session, ticket, done, reply);
                 }
                 None => unreachable!(),
             },
-            Answers::Writes(done) => match done.pop() {
+            RoundAnswers::Writes(done) => match done.pop() {
                 Some(done) => {
                     cache.commit_write(rt, session, ticket, done, reply);
                 }
                 None => unreachable!(),
             },
-            Answers::Processes(done, written, deleted) => match done.pop() {
+            RoundAnswers::Processes(done, written, deleted) => match done.pop() {
                 Some(done) => {
                     let through = cache.config().write_through;
                     let report = next_report(through, &done, written, deleted);
@@ -79,13 +79,13 @@ impl Answers {
         ensures room { vec_capacity result ≡ done_room self }
     {
         match self {
-            Answers::Processes(done, written, deleted) => {
+            RoundAnswers::Processes(done, written, deleted) => {
                 written.destroy_empty();
                 deleted.destroy_empty();
                 done
             }
-            Answers::Loads(_done) => unreachable!(),
-            Answers::Writes(_done) => unreachable!(),
+            RoundAnswers::Loads(_done) => unreachable!(),
+            RoundAnswers::Writes(_done) => unreachable!(),
         }
     }
 
@@ -94,9 +94,9 @@ impl Answers {
         requires { (config : Config) × (round : Round) × AreAnswers config round self [] }
     {
         match self {
-            Answers::Loads(done) => done.destroy_empty(),
-            Answers::Writes(done) => done.destroy_empty(),
-            Answers::Processes(done, written, deleted) => {
+            RoundAnswers::Loads(done) => done.destroy_empty(),
+            RoundAnswers::Writes(done) => done.destroy_empty(),
+            RoundAnswers::Processes(done, written, deleted) => {
                 done.destroy_empty();
                 written.destroy_empty();
                 deleted.destroy_empty();

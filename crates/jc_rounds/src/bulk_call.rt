@@ -8,9 +8,9 @@ ghost use Rattle.jc_types.specs.declared.limits.TheConstants.{JOINERS_MAX, RESER
 ghost use Rattle.jc_rounds.specs.KeyProgress.{IsNoted, StillWaits, all_waiting, failures, first_of, refused_if_waiting};
 ghost use Rattle.jc_rounds.specs.Starting.{IsRoomFor};
 ghost use Rattle.jc_rounds.specs.Targets.{ops_of};
-ghost use Rattle.jc_rounds.specs.Underway.{AreRooms, IsBetween, IsNew, IsOver, Past};
+ghost use Rattle.jc_rounds.specs.Underway.{AreRooms, CallPast, IsBetween, IsNew, IsOver};
 
-use crate::progress::Progress;
+use crate::progress::KeyProgress;
 use crate::targets::Targets;
 use jc_cache::{Cache, Session};
 use jc_model::Reply;
@@ -24,7 +24,7 @@ pub struct BulkCall<'a> {
     /// Its keys, and the operation at each of them.
     pub(crate) targets: &'a Targets<'a>,
     /// The state of each key.
-    pub(crate) progress: Vec<Progress>,
+    pub(crate) progress: Vec<KeyProgress>,
     /// The number of keys that a round may reserve.
     pub(crate) most: usize,
     /// The tickets of the keys that a round has reserved, in their order. Each is used for one call outside.
@@ -90,7 +90,7 @@ impl<'a> BulkCall<'a> {
     ///
     /// Condition: nothing of the call is out.
     pub fn wait<R: Wait>(&self, rt: &R, cache: &Cache, session: &Session) -> bool
-        requires { (past : Past) × IsBetween cache.now past session.now self.now }
+        requires { (past : CallPast) × IsBetween cache.now past session.now self.now }
         ensures over { result ≡ false → IsOver self.now }
         ensures waits { result ≡ true → (place : ℕ) × StillWaits self.now.progress.items place }
     {
@@ -116,7 +116,7 @@ impl<'a> BulkCall<'a> {
     }
 
     /// Ends a call that has nothing out. It returns the state of each key, and the first fault or refusal that the call has met.
-    pub fn end(self) -> (Vec<Progress>, Option<Refusal>)
+    pub fn end(self) -> (Vec<KeyProgress>, Option<Refusal>)
         requires { (self.tickets.items ≡ []) × (self.joins.items ≡ []) }
         ensures { (result.0 ≡ self.entry.progress) × (result.1 ≡ self.entry.cause) }
     {
@@ -136,7 +136,7 @@ impl<'a> BulkCall<'a> {
 
 /// The memory that the rounds of a call take before its first phase, without that for their calls outside. It can't be dropped.
 pub struct Rooms {
-    progress: Vec<Progress>,
+    progress: Vec<KeyProgress>,
     most: usize,
     tickets: Vec<Ticket>,
     joins: Vec<Join>,
@@ -202,24 +202,24 @@ fn room_for(most: usize, keys: usize, stripes: usize) -> usize
 }
 
 /// The states of all keys before the first round: each key waits.
-fn all_waiting(alloc: Global, keys: usize) -> Result<Vec<Progress>, AllocError>
+fn all_waiting(alloc: Global, keys: usize) -> Result<Vec<KeyProgress>, AllocError>
     ensures { IfOk result (λ progress. progress.items ≡ all_waiting keys) }
 {
     let _types: Option<&(Reply, Refusal, Value)> = None;
     let mut progress = Vec::with_capacity(alloc, keys)?;
     for place in 0..keys {
-        progress.push_reserved(Progress::Waiting);
+        progress.push_reserved(KeyProgress::Waiting);
     }
     Ok(progress)
 }
 
 /// The place of the first key that waits, if one does.
-fn first_waiting(progress: &[Progress]) -> Option<usize>
+fn first_waiting(progress: &[KeyProgress]) -> Option<usize>
     ensures none { IfNone result ((place : ℕ) → StillWaits progress.now place → ⊥) }
     ensures first { IfSome result (λ place. StillWaits progress.now place) }
 {
     for place in 0..progress.len() {
-        if progress[place].is_waiting() {
+        if progress[place].waits_for_round() {
             return Some(place);
         }
     }
@@ -227,7 +227,7 @@ fn first_waiting(progress: &[Progress]) -> Option<usize>
 }
 
 /// The first of the faults and refusals that keys have ended in, if there is one.
-fn first_failure(progress: &[Progress]) -> Option<Refusal>
+fn first_failure(progress: &[KeyProgress]) -> Option<Refusal>
     ensures { result ≡ first_of (failures progress.now) }
 {
     for one in progress {

@@ -1,14 +1,14 @@
 //! The last phases of a round of a call with many keys, once the outside answers are there.
 ghost use Rattle.std.specs.Prelude.{◌≡◌, ◌<◌, ◌+◌, [], length, slice_get, reverse, Some, ◌∷◌};
-ghost use Rattle.jc_rounds.specs.declared.progress.Progress.TheVariants.{Reserved};
+ghost use Rattle.jc_rounds.specs.declared.progress.KeyProgress.TheVariants.{Reserved};
 ghost use Rattle.jc_rounds.specs.Answers.{AreAnswers, done_room};
 ghost use Rattle.jc_rounds.specs.Rounds.{Round};
 ghost use Rattle.jc_rounds.specs.KeyProgress.{IsNoted, failures};
-ghost use Rattle.jc_rounds.specs.Underway.{Advances, AdvancesUnnoted, HasCommitted, IsAnswered, IsCommitting, IsCommittingNext, Past};
+ghost use Rattle.jc_rounds.specs.Underway.{Advances, AdvancesUnnoted, CallPast, HasCommitted, IsAnswered, IsCommitting, IsCommittingNext};
 
-use crate::answers::Answers;
+use crate::answers::RoundAnswers;
 use crate::bulk_call::BulkCall;
-use crate::progress::Progress;
+use crate::progress::KeyProgress;
 use jc_cache::{Cache, Session};
 use jc_model::Reply;
 use jc_stripe::Ticket;
@@ -24,14 +24,14 @@ impl<'a> BulkCall<'a> {
         rt: &R,
         cache: &Cache,
         session: &mut Session,
-        answers: Answers,
-    ) -> Answers
-        requires answered { (past : Past) × (round : Round) × IsAnswered cache.now past round session.old self.old answers }
+        answers: RoundAnswers,
+    ) -> RoundAnswers
+        requires answered { (past : CallPast) × (round : Round) × IsAnswered cache.now past round session.old self.old answers }
         ensures advances { Advances session.old session.new self.old self.new }
         ensures cause { IsNoted self.old.cause (failures self.new.progress.items) self.new.cause }
-        ensures committed { (past : Past) (round : Round) → IsAnswered cache.now past round session.old self.old answers
+        ensures committed { (past : CallPast) (round : Round) → IsAnswered cache.now past round session.old self.old answers
             → HasCommitted cache.now past session.new self.new }
-        ensures spent { (past : Past) (round : Round) → IsAnswered cache.now past round session.old self.old answers
+        ensures spent { (past : CallPast) (round : Round) → IsAnswered cache.now past round session.old self.old answers
             → AreAnswers cache.now.config round result [] }
         ensures room { done_room result ≡ done_room answers }
     {
@@ -52,18 +52,18 @@ impl<'a> BulkCall<'a> {
         cache: &Cache,
         session: &mut Session,
         place: usize,
-        answers: &mut Answers,
+        answers: &mut RoundAnswers,
     )
         requires place { place < length self.old.progress.items }
-        requires answered { (past : Past) × (round : Round)
+        requires answered { (past : CallPast) × (round : Round)
             × IsCommitting cache.now past round session.old self.old answers.old place }
         ensures advances { AdvancesUnnoted session.old session.new self.old self.new }
-        ensures committed { (past : Past) (round : Round)
+        ensures committed { (past : CallPast) (round : Round)
             → IsCommitting cache.now past round session.old self.old answers.old place
             → IsCommitting cache.now past round session.new self.new answers.new (place + 1) }
         ensures room { done_room answers.new ≡ done_room answers.old }
     {
-        if self.progress[place].is_reserved() {
+        if self.progress[place].holds_reservation() {
             match self.tickets.pop() {
                 Some(ticket) => self.commit_ticket(rt, cache, session, place, ticket, answers),
                 None => unreachable!(),
@@ -79,13 +79,13 @@ impl<'a> BulkCall<'a> {
         session: &mut Session,
         place: usize,
         ticket: Ticket,
-        answers: &mut Answers,
+        answers: &mut RoundAnswers,
     )
         requires there { slice_get self.old.progress.items place ≡ Some Reserved }
-        requires answered { (past : Past) × (round : Round)
+        requires answered { (past : CallPast) × (round : Round)
             × IsCommittingNext cache.now past round session.old self.old ticket answers.old place }
         ensures advances { AdvancesUnnoted session.old session.new self.old self.new }
-        ensures committed { (past : Past) (round : Round)
+        ensures committed { (past : CallPast) (round : Round)
             → IsCommittingNext cache.now past round session.old self.old ticket answers.old place
             → IsCommitting cache.now past round session.new self.new answers.new (place + 1) }
         ensures room { done_room answers.new ≡ done_room answers.old }
@@ -93,6 +93,6 @@ impl<'a> BulkCall<'a> {
         let _types: Option<&(Reply, Value)> = None;
         let mut reply = Reply::Unit;
         answers.commit_next(rt, cache, session, ticket, &mut reply);
-        self.progress[place] = Progress::Ended(Ok(reply));
+        self.progress[place] = KeyProgress::Ended(Ok(reply));
     }
 }

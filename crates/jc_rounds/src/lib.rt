@@ -30,9 +30,9 @@ mod starting;
 mod targets;
 mod write_call;
 
-pub use answers::{Answers, change_after};
+pub use answers::{RoundAnswers, change_after};
 pub use bulk_call::{BulkCall, Rooms};
 pub use load_call::{LoadCall, SpentLoads};
-pub use progress::Progress;
+pub use progress::KeyProgress;
 pub use targets::Targets;
 pub use write_call::WriteCall;

@@ -4,7 +4,7 @@ ghost use Rattle.jc_model.specs.Batches.{is_among};
 ghost use Rattle.jc_cache.specs.Sessions.{HasAsked, HoldsNothing};
 ghost use Rattle.jc_rounds.specs.OutsideCalls.{AreSpent, LoadCallAsked, asked_keys, no_loads, with_load};
 
-use crate::answers::Answers;
+use crate::answers::RoundAnswers;
 use jc_batch::LoadBatch;
 use jc_cache::Session;
 use jc_outside::Ask as OutsideAsk;
@@ -115,7 +115,7 @@ impl SpentLoads {
     /// takes no memory.
     ///
     /// Condition: none of the answers is left, and there was room for them.
-    pub fn again(self, answers: Answers) -> LoadCall
+    pub fn again(self, answers: RoundAnswers) -> LoadCall
         requires spent { AreSpent self }
         requires answers { (config : Config) × (round : LoadRound) × AreAnswers config (LoadAll round) answers [] }
         requires room { self.batch.room ≤ done_room answers }
@@ -123,9 +123,9 @@ impl SpentLoads {
     {
         let SpentLoads { asks, batch } = self;
         match answers {
-            Answers::Loads(done) => LoadCall { asks, batch, done },
-            Answers::Writes(_done) => unreachable!(),
-            Answers::Processes(_done, _written, _deleted) => unreachable!(),
+            RoundAnswers::Loads(done) => LoadCall { asks, batch, done },
+            RoundAnswers::Writes(_done) => unreachable!(),
+            RoundAnswers::Processes(_done, _written, _deleted) => unreachable!(),
         }
     }
 }

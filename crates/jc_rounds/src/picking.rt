@@ -1,15 +1,15 @@
 //! The pick-ups of a round of a call with many keys.
 ghost use Rattle.std.specs.Prelude.{◌≡◌, ◌<◌, ◌+◌, length, slice_get, Some, []};
-ghost use Rattle.jc_rounds.specs.declared.progress.Progress.TheVariants.{Joined};
+ghost use Rattle.jc_rounds.specs.declared.progress.KeyProgress.TheVariants.{Joined};
 ghost use Rattle.jc_stripe.specs.Phases.{polled_with};
 ghost use Rattle.jc_rounds.specs.Keys.{IsPickedUp};
 ghost use Rattle.jc_rounds.specs.SoFar.{IsPicked};
 ghost use Rattle.jc_rounds.specs.KeyProgress.{IsNoted, failures};
-ghost use Rattle.jc_rounds.specs.Underway.{Advances, AdvancesUnnoted, HasCommitted, IsBetween, IsPicking, IsPickingNext, Past};
+ghost use Rattle.jc_rounds.specs.Underway.{Advances, AdvancesUnnoted, CallPast, HasCommitted, IsBetween, IsPicking, IsPickingNext};
 
 use crate::bulk_call::BulkCall;
 use crate::key::pick_key;
-use crate::progress::Progress;
+use crate::progress::KeyProgress;
 use jc_cache::{Cache, Session};
 use jc_model::Reply;
 use jc_stripe::{Join, Picked};
@@ -22,10 +22,10 @@ impl<'a> BulkCall<'a> {
     ///
     /// Conditions: the call is the session's current one, and no key of it is reserved.
     pub(crate) fn pick_up<R: Wait>(&mut self, rt: &R, cache: &Cache, session: &mut Session)
-        requires committed { (past : Past) × HasCommitted cache.now past session.old self.old }
+        requires committed { (past : CallPast) × HasCommitted cache.now past session.old self.old }
         ensures advances { Advances session.old session.new self.old self.new }
         ensures cause { IsNoted self.old.cause (failures self.new.progress.items) self.new.cause }
-        ensures between { (past : Past) → HasCommitted cache.now past session.old self.old
+        ensures between { (past : CallPast) → HasCommitted cache.now past session.old self.old
             → IsBetween cache.now past session.new self.new }
     {
         self.joins.reverse();
@@ -39,12 +39,12 @@ impl<'a> BulkCall<'a> {
     /// last in the list.
     fn pick_at<R: Wait>(&mut self, rt: &R, cache: &Cache, session: &mut Session, place: usize)
         requires place { place < length self.old.progress.items }
-        requires picking { (past : Past) × IsPicking cache.now past session.old self.old place }
+        requires picking { (past : CallPast) × IsPicking cache.now past session.old self.old place }
         ensures advances { AdvancesUnnoted session.old session.new self.old self.new }
-        ensures picking { (past : Past) → IsPicking cache.now past session.old self.old place
+        ensures picking { (past : CallPast) → IsPicking cache.now past session.old self.old place
             → IsPicking cache.now past session.new self.new (place + 1) }
     {
-        if self.progress[place].is_joined() {
+        if self.progress[place].waits_for_joined_load() {
             match self.joins.pop() {
                 Some(join) => self.pick_join(rt, cache, session, place, join),
                 None => unreachable!(),
@@ -62,9 +62,9 @@ impl<'a> BulkCall<'a> {
         join: Join,
     )
         requires there { slice_get self.old.progress.items place ≡ Some Joined }
-        requires picking { (past : Past) × IsPickingNext cache.now past session.old self.old join place }
+        requires picking { (past : CallPast) × IsPickingNext cache.now past session.old self.old join place }
         ensures advances { AdvancesUnnoted session.old session.new self.old self.new }
-        ensures picking { (past : Past) → IsPickingNext cache.now past session.old self.old join place
+        ensures picking { (past : CallPast) → IsPickingNext cache.now past session.old self.old join place
             → IsPicking cache.now past session.new self.new (place + 1) }
     {
         let _types: Option<&(Reply, Value)> = None;
@@ -75,7 +75,7 @@ impl<'a> BulkCall<'a> {
 }
 
 /// The state of a key after a pick-up that wasn't too early. If it answered, `reply` is the answer.
-fn after_pick_up(picked: Picked, reply: &Reply) -> Progress
+fn after_pick_up(picked: Picked, reply: &Reply) -> KeyProgress
     requires { IsPickedUp (polled_with picked reply.now) }
     ensures { IsPicked (polled_with picked reply.now) result }
 {
@@ -83,8 +83,8 @@ fn after_pick_up(picked: Picked, reply: &Reply) -> Progress
         Picked::Answer {
             place: _,
             shared_with: _,
-        } => Progress::Ended(Ok(*reply)),
-        Picked::Again => Progress::Waiting,
+        } => KeyProgress::Ended(Ok(*reply)),
+        Picked::Again => KeyProgress::Waiting,
         Picked::NotYet(_join) => unreachable!(),
     }
 }

@@ -1,13 +1,13 @@
 //! The state of one key of a call with many keys.
 ghost use Rattle.std.specs.Prelude.{◌≡◌};
-ghost use Rattle.jc_rounds.specs.KeyProgress.{failure_at, is_joined, is_reserved, is_waiting, refused_if_waiting};
+ghost use Rattle.jc_rounds.specs.KeyProgress.{failure_at, holds_reservation, refused_if_waiting, waits_for_joined_load, waits_for_round};
 
 use jc_model::Reply;
 use jc_types::Refusal;
 
 /// The state of one key of a call with many keys.
 #[derive(Clone, Copy)]
-pub enum Progress {
+pub enum KeyProgress {
     /// The key waits for a round: its first phase hasn't been made yet, or has put it off.
     Waiting,
     /// The key is reserved, and the loader, the writer or a processor is to be asked, or has been.
@@ -18,34 +18,34 @@ pub enum Progress {
     Ended(Result<Reply, Refusal>),
 }
 
-impl Progress {
+impl KeyProgress {
     /// Whether the key waits for a round.
-    pub(crate) fn is_waiting(&self) -> bool
-        ensures { result ≡ is_waiting self.now }
+    pub(crate) fn waits_for_round(&self) -> bool
+        ensures { result ≡ waits_for_round self.now }
     {
         match self {
-            Progress::Waiting => true,
-            Progress::Reserved | Progress::Joined | Progress::Ended(_) => false,
+            KeyProgress::Waiting => true,
+            KeyProgress::Reserved | KeyProgress::Joined | KeyProgress::Ended(_) => false,
         }
     }
 
     /// Whether the key is reserved.
-    pub(crate) fn is_reserved(&self) -> bool
-        ensures { result ≡ is_reserved self.now }
+    pub(crate) fn holds_reservation(&self) -> bool
+        ensures { result ≡ holds_reservation self.now }
     {
         match self {
-            Progress::Reserved => true,
-            Progress::Waiting | Progress::Joined | Progress::Ended(_) => false,
+            KeyProgress::Reserved => true,
+            KeyProgress::Waiting | KeyProgress::Joined | KeyProgress::Ended(_) => false,
         }
     }
 
     /// Whether the key has joined a load.
-    pub(crate) fn is_joined(&self) -> bool
-        ensures { result ≡ is_joined self.now }
+    pub(crate) fn waits_for_joined_load(&self) -> bool
+        ensures { result ≡ waits_for_joined_load self.now }
     {
         match self {
-            Progress::Joined => true,
-            Progress::Waiting | Progress::Reserved | Progress::Ended(_) => false,
+            KeyProgress::Joined => true,
+            KeyProgress::Waiting | KeyProgress::Reserved | KeyProgress::Ended(_) => false,
         }
     }
 
@@ -54,10 +54,10 @@ impl Progress {
         ensures { result ≡ failure_at self.now }
     {
         match self {
-            Progress::Ended(Err(refusal)) => Some(*refusal),
-            Progress::Ended(Ok(Reply::Fault(fault))) => Some(*fault),
-            Progress::Ended(Ok(Reply::Value(_) | Reply::Flag(_) | Reply::Unit)) => None,
-            Progress::Waiting | Progress::Reserved | Progress::Joined => None,
+            KeyProgress::Ended(Err(refusal)) => Some(*refusal),
+            KeyProgress::Ended(Ok(Reply::Fault(fault))) => Some(*fault),
+            KeyProgress::Ended(Ok(Reply::Value(_) | Reply::Flag(_) | Reply::Unit)) => None,
+            KeyProgress::Waiting | KeyProgress::Reserved | KeyProgress::Joined => None,
         }
     }
 
@@ -66,8 +66,8 @@ impl Progress {
         ensures { self.new ≡ refused_if_waiting self.old }
     {
         match self {
-            Progress::Waiting => *self = Progress::Ended(Err(Refusal::OutOfMemory)),
-            Progress::Reserved | Progress::Joined | Progress::Ended(_) => {}
+            KeyProgress::Waiting => *self = KeyProgress::Ended(Err(Refusal::OutOfMemory)),
+            KeyProgress::Reserved | KeyProgress::Joined | KeyProgress::Ended(_) => {}
         }
     }
 }

@@ -2,11 +2,11 @@
 ghost use Rattle.std.specs.Prelude.{◌≡◌, [], true, false};
 ghost use Rattle.jc_rounds.specs.Answers.{AreAnswers, done_room};
 ghost use Rattle.jc_rounds.specs.Rounds.{Round};
-ghost use Rattle.jc_rounds.specs.Ran.{HasReserved, IsTold};
+ghost use Rattle.jc_rounds.specs.Ran.{HasReserved, IsRoundTold};
 ghost use Rattle.jc_rounds.specs.Running.{HasRun};
-ghost use Rattle.jc_rounds.specs.Underway.{Advances, IsOver, Past, with_round};
+ghost use Rattle.jc_rounds.specs.Underway.{Advances, CallPast, IsOver, with_round};
 
-use crate::answers::Answers;
+use crate::answers::RoundAnswers;
 use crate::bulk_call::BulkCall;
 use jc_cache::{Cache, Session};
 use jc_types::Refusal;
@@ -21,12 +21,12 @@ impl<'a> BulkCall<'a> {
     ///
     /// Conditions: the call is the session's current one, and has nothing out.
     pub fn reserve<R: Wait>(&mut self, rt: &R, cache: &Cache, session: &mut Session) -> bool
-        requires run { (past : Past) × HasRun cache.now past session.old self.old }
+        requires run { (past : CallPast) × HasRun cache.now past session.old self.old }
         ensures advances { Advances session.old session.new self.old self.new }
-        ensures reserved { result ≡ true → (past : Past) → HasRun cache.now past session.old self.old
+        ensures reserved { result ≡ true → (past : CallPast) → HasRun cache.now past session.old self.old
             → HasReserved cache.now past session.new self.new }
         ensures over { result ≡ false → IsOver self.new }
-        ensures run { result ≡ false → (past : Past) → HasRun cache.now past session.old self.old
+        ensures run { result ≡ false → (past : CallPast) → HasRun cache.now past session.old self.old
             → HasRun cache.now past session.new self.new }
     {
         for _ in rt.forever() {
@@ -51,14 +51,14 @@ impl<'a> BulkCall<'a> {
         rt: &R,
         cache: &Cache,
         session: &mut Session,
-        answers: Answers,
+        answers: RoundAnswers,
         fault: Option<Refusal>,
-    ) -> Answers
-        requires told { (past : Past) × (round : Round) × IsTold cache.now past round session.old self.old answers fault }
+    ) -> RoundAnswers
+        requires told { (past : CallPast) × (round : Round) × IsRoundTold cache.now past round session.old self.old answers fault }
         ensures advances { Advances session.old session.new self.old self.new }
-        ensures run { (past : Past) (round : Round) → IsTold cache.now past round session.old self.old answers fault
+        ensures run { (past : CallPast) (round : Round) → IsRoundTold cache.now past round session.old self.old answers fault
             → HasRun cache.now (with_round past round) session.new self.new }
-        ensures spent { (past : Past) (round : Round) → IsTold cache.now past round session.old self.old answers fault
+        ensures spent { (past : CallPast) (round : Round) → IsRoundTold cache.now past round session.old self.old answers fault
             → AreAnswers cache.now.config round result [] }
         ensures room { done_room result ≡ done_room answers }
     {

@@ -1,15 +1,15 @@
 //! The first phases of a round of a call with many keys.
 ghost use Rattle.std.specs.Prelude.{◌≡◌, ◌⊎◌, ◌<◌, ◌≤◌, ◌+◌, true, false, length, slice_get, vec_capacity, Some};
-ghost use Rattle.jc_rounds.specs.declared.progress.Progress.TheVariants.{Waiting};
+ghost use Rattle.jc_rounds.specs.declared.progress.KeyProgress.TheVariants.{Waiting};
 ghost use Rattle.jc_stripe.specs.Phases.{begun_with};
 ghost use Rattle.jc_rounds.specs.SoFar.{IsHeldAt, IsKept};
 ghost use Rattle.jc_rounds.specs.Targets.{ops_of};
 ghost use Rattle.jc_rounds.specs.KeyProgress.{IsNoted, StillWaits, failures};
-ghost use Rattle.jc_rounds.specs.Underway.{Advances, AdvancesUnnoted, HasNoRoom, HasRoom, HasStarted, IsBetween, IsStarting, KeepsJoined, KeepsRoom, Past};
+ghost use Rattle.jc_rounds.specs.Underway.{Advances, AdvancesUnnoted, CallPast, HasNoRoom, HasRoom, HasStarted, IsBetween, IsStarting, KeepsJoined, KeepsRoom};
 
 use crate::bulk_call::BulkCall;
 use crate::key::start_key;
-use crate::progress::Progress;
+use crate::progress::KeyProgress;
 use jc_cache::{Cache, Session};
 use jc_model::Reply;
 use jc_stripe::Started;
@@ -22,10 +22,10 @@ impl<'a> BulkCall<'a> {
     ///
     /// Conditions: the call is the session's current one, and has nothing out.
     pub(crate) fn start<R: Wait>(&mut self, rt: &R, cache: &Cache, session: &mut Session)
-        requires between { (past : Past) × IsBetween cache.now past session.old self.old }
+        requires between { (past : CallPast) × IsBetween cache.now past session.old self.old }
         ensures advances { Advances session.old session.new self.old self.new }
         ensures cause { IsNoted self.old.cause (failures self.new.progress.items) self.new.cause }
-        ensures started { (past : Past) → IsBetween cache.now past session.old self.old
+        ensures started { (past : CallPast) → IsBetween cache.now past session.old self.old
             → HasStarted cache.now past session.old session.new self.new }
     {
         for place in 0..self.progress.len() {
@@ -38,9 +38,9 @@ impl<'a> BulkCall<'a> {
     /// joined a load.
     fn start_at<R: Wait>(&mut self, rt: &R, cache: &Cache, session: &mut Session, place: usize)
         requires place { place < length self.old.progress.items }
-        requires starting { (past : Past) × IsStarting cache.now past session.old self.old place }
+        requires starting { (past : CallPast) × IsStarting cache.now past session.old self.old place }
         ensures advances { AdvancesUnnoted session.old session.new self.old self.new }
-        ensures starting { (past : Past) → IsStarting cache.now past session.old self.old place
+        ensures starting { (past : CallPast) → IsStarting cache.now past session.old self.old place
             → IsStarting cache.now past session.new self.new (place + 1)
             × (length self.old.tickets.items ≤ length self.new.tickets.items)
             × IsHeldAt (StillWaits self.new.progress.items place × HasNoRoom self.new)
@@ -48,7 +48,7 @@ impl<'a> BulkCall<'a> {
             session.old.seats.items session.new.seats.items self.new.progress.items
             × KeepsJoined past.caller cache.now session.old session.new self.old self.new }
     {
-        if self.progress[place].is_waiting() {
+        if self.progress[place].waits_for_round() {
             if self.has_room() {
                 self.start_waiting(rt, cache, session, place);
             }
@@ -59,9 +59,9 @@ impl<'a> BulkCall<'a> {
     fn start_waiting<R: Wait>(&mut self, rt: &R, cache: &Cache, session: &mut Session, place: usize)
         requires waits { slice_get self.old.progress.items place ≡ Some Waiting }
         requires room { HasRoom self.old }
-        requires starting { (past : Past) × IsStarting cache.now past session.old self.old place }
+        requires starting { (past : CallPast) × IsStarting cache.now past session.old self.old place }
         ensures advances { AdvancesUnnoted session.old session.new self.old self.new }
-        ensures starting { (past : Past) → IsStarting cache.now past session.old self.old place
+        ensures starting { (past : CallPast) → IsStarting cache.now past session.old self.old place
             → IsStarting cache.now past session.new self.new (place + 1)
             × (length self.old.tickets.items ≤ length self.new.tickets.items)
             × IsHeldAt ⊥ place past.caller cache.now.config.stripes (ops_of self.new.targets.now)
@@ -86,7 +86,7 @@ impl<'a> BulkCall<'a> {
     }
 
     /// The state of a key after its first phase. Its ticket or join, if there is one, is kept in the call.
-    fn keep(&mut self, started: Started, reply: &Reply) -> Progress
+    fn keep(&mut self, started: Started, reply: &Reply) -> KeyProgress
         requires tickets { length self.old.tickets.items < vec_capacity self.old.tickets }
         requires joins { length self.old.joins.items < vec_capacity self.old.joins }
         ensures kept { IsKept (begun_with started reply.now) result self.old.tickets.items self.new.tickets.items
@@ -94,21 +94,21 @@ impl<'a> BulkCall<'a> {
         ensures rest { KeepsRoom self.old self.new }
     {
         match started {
-            Started::Done(_step) => Progress::Ended(Ok(*reply)),
+            Started::Done(_step) => KeyProgress::Ended(Ok(*reply)),
             Started::Refused(refusal) => {
                 if refusal.is_put_off() {
-                    Progress::Waiting
+                    KeyProgress::Waiting
                 } else {
-                    Progress::Ended(Err(refusal))
+                    KeyProgress::Ended(Err(refusal))
                 }
             }
             Started::Asks(ticket) => {
                 self.tickets.push_reserved(ticket);
-                Progress::Reserved
+                KeyProgress::Reserved
             }
             Started::Joined(join) => {
                 self.joins.push_reserved(join);
-                Progress::Joined
+                KeyProgress::Joined
             }
         }
     }

@@ -28,15 +28,15 @@ pub use Rattle.jc_script.specs.LineEvents.{bulk_call, end_of_act, event_at, even
 pub use Rattle.jc_script.specs.Lines.{are_words, is_callable, is_plain, read_line}
 pub use Rattle.jc_script.specs.Places.{Explains, bad_from, complaint, repeat_from, start_from}
 pub use Rattle.jc_script.specs.Printing.{answer_text, answers_text, audit_text, entry_text, event_text, fails_text, fault_line, key_text, piece_text, reported_line, texts, value_or_none_text, value_text}
-pub use Rattle.jc_script.specs.ProcessWords.{Calls, are_calls, are_calls_from, begins_with, call_of, call_text, calls_from, calls_of, fail_words, has_process_shape, is_call, is_fail, source_of, source_words, without_load}
+pub use Rattle.jc_script.specs.ProcessWords.{Calls, are_calls, are_calls_from, begins_with, call_of, call_text, calls_from, calls_of, fail_words, has_process_shape, is_call_word, is_fail, source_of, source_words, without_load}
 pub use Rattle.jc_script.specs.Spelled.{AreDistinctPairs, AreKeyWords, AreLeftKeys, HasKeys, IsAct, IsEntryCall, IsKey, IsNumber, IsOperation, IsOptionalCode, IsPair, IsSession, IsShape, IsSource, IsSpellable, IsValue, IsValueOrNone, LinesAreSpelled, LinesReadBack, SaysWords, act_words, bulk_words, flag_words, left_words, line_words, load_word, operation_words, pair_text, session_text, shape_words, spelling}
 pub use Rattle.jc_script.specs.Transcript.{Audited, EndsScript, IsTranscript, OpenedWorld, Plays, PlaysAct, PlaysBegin, PlaysEvents, PlaysOne, PlaysRead, Prints, Transcript, fault_of, fault_read, opened_world, pieces_of}
 pub use Rattle.jc_script.specs.Words.{Pairs, caller_of, digits_from, distinct_keys_of, distinct_pairs_from, distinct_pairs_of, is_digit, is_letter, is_text, key_of, keys_from, names_key, number_of, pairs_from, pairs_of, said, said_after, some_value, value_of, value_or_none_of, words_of, ◌>>=◌}
 pub use Rattle.jc_script.specs.declared.read.commands.Form.{Form}
 pub use Rattle.jc_script.specs.declared.fault.Fault.{Fault}
 pub use Rattle.jc_script.specs.declared.fault.Fault.TheVariants.{BadByte, BadCaller, BadKey, BadLine, BadNumber, BadValue, LineTooLong, RepeatedKey, SetTooLate}
-pub use Rattle.jc_script.specs.declared.read.line.Act.{Act}
-pub use Rattle.jc_script.specs.declared.read.line.Act.TheVariants.{Apply, ApplyFail, ApplyLie, Drop, End, More, Process, Read, ReadFail, Say, Take}
+pub use Rattle.jc_script.specs.declared.read.line.ScriptAct.{ScriptAct}
+pub use Rattle.jc_script.specs.declared.read.line.ScriptAct.TheVariants.{Apply, ApplyFail, ApplyLie, Drop, End, More, Process, Read, ReadFail, Say, Take}
 pub use Rattle.jc_script.specs.declared.read.line.BulkLine.{BulkLine}
 pub use Rattle.jc_script.specs.declared.read.line.Line.{Line}
 pub use Rattle.jc_script.specs.declared.read.line.Line.TheVariants.{Audit, Begin, BeginBulk, Foreign, OfCall, Open, Reopen, Set}
@@ -48,10 +48,10 @@ pub use Rattle.jc_types.specs.declared.limits.TheConstants.{CAPACITY_MAX, HISTOR
 pub use Rattle.jc_types.specs.declared.refusal.Refusal.TheVariants.{BadConfig, TooManyKeys, WriterFailed}
 pub use Rattle.jc_world.specs.Calls.{CallState, SweepState, Task, at_each, has_number, has_too_many_keys, new_call, op_at, open_keys, over_of, put_each_of}
 pub use Rattle.jc_world.specs.Determinism.{RunsAreDetermined, cause_has_memory, eviction_has_memory, has_memory, have_memory}
-pub use Rattle.jc_world.specs.Events.{AllFit, Ends, Happens, Picks, Run, Starts, Step, after_report, after_reports, all_fit, is_fit, keys_reported, not_over, reported_at, reported_now, shown_begun, with_call, with_met_by}
-pub use Rattle.jc_world.specs.Fits.{fits, is_asked, is_free, is_new, is_playable, is_single, may_change, may_leave, may_look, may_report, may_start}
+pub use Rattle.jc_world.specs.Events.{AllFit, Ends, Happens, Picks, Run, StartsAs, Step, after_report, after_reports, all_fit, is_fit, keys_reported, not_over, reported_at, reported_now, shown_begun, with_call, with_met_by}
+pub use Rattle.jc_world.specs.Fits.{fits, is_being_written, is_free, is_new, is_playable, is_single, may_change, may_leave, may_look, may_report, may_start}
 pub use Rattle.jc_world.specs.Together.{BeginFits, FitTogether, at_call, key_at, looks, looks_of, opening_events}
-pub use Rattle.jc_world.specs.World.{WorldState, has_progress, is_answered, is_busy, is_joined, is_untouched, join_cmp, of_call, open_call, part_of, start, waits_for_load, waits_for_process, waits_for_report, with_stored}
+pub use Rattle.jc_world.specs.World.{WorldState, has_progress, is_all_answered, is_busy, is_joined, is_untouched, join_cmp, of_call, open_call, part_of, start, waits_for_load, waits_for_process, waits_for_report, with_stored}
 pub use Rattle.jc_world.specs.declared.command.Command.{Command}
 pub use Rattle.jc_world.specs.declared.event.Outcome.{Outcome}
 pub use Rattle.jc_world.specs.declared.event.Part.{Part}

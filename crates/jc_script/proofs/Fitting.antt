@@ -1,5 +1,5 @@
 -- The events of a line about a call under way fit, if it is the time for it.
-use Rattle.jc_script.proofs.Common.{◌≡◌, ◌==◌, ◌∙◌, ◌&&◌, ◌||◌, ◌++◌, ◌+◌, ◌<◌, ℕ, Bool, true, false, not, List, [], ◌∷◌, Option, None, Some, find, is_none, is_some, length, filter, get_or, map, option_to_list, take, cond, refl, sym, ap, subst, append-nil, arith, zero, suc, inl, inr, pointwise, and_from, and_parts, or_parts, nat_eq_equiv, nat_list_eq_equiv, map-append, take_more, filter-append, is_among, Bytes, is_load_given, Part, CallState, op_at, open_keys, WorldState, is_joined, open_call, part_of, fits, is_asked, is_free, may_change, may_report, may_start, AllFit, is_fit, Shown, Config, at_call, key_at, looks, FitTogether, Act, Read, ReadFail, Say, Apply, ApplyFail, ApplyLie, End, Drop, More, Take, Process, said_after, event_at, events_of_act, is_meant, is_started, is_time, key_events, keys_of_act, leaves, left_keys}
+use Rattle.jc_script.proofs.Common.{◌≡◌, ◌==◌, ◌∙◌, ◌&&◌, ◌||◌, ◌++◌, ◌+◌, ◌<◌, ℕ, Bool, true, false, not, List, [], ◌∷◌, Option, None, Some, find, is_none, is_some, length, filter, get_or, map, option_to_list, take, cond, refl, sym, ap, subst, append-nil, arith, zero, suc, inl, inr, pointwise, and_from, and_parts, or_parts, nat_eq_equiv, nat_list_eq_equiv, map-append, take_more, filter-append, is_among, Bytes, is_load_given, Part, CallState, op_at, open_keys, WorldState, is_joined, open_call, part_of, fits, is_being_written, is_free, may_change, may_report, may_start, AllFit, is_fit, Shown, Config, at_call, key_at, looks, FitTogether, ScriptAct, Read, ReadFail, Say, Apply, ApplyFail, ApplyLie, End, Drop, More, Take, Process, said_after, event_at, events_of_act, is_meant, is_started, is_time, key_events, keys_of_act, leaves, left_keys}
 use Rattle.std.specs.List.{AllByRecursion, IsDistinct, list_all, list_any}
 use Rattle.std.proofs.lemmas.Map.Keys.{apart_from_distinct, IsDistinct-cons, IsDistinct-head, IsDistinct-tail}
 use Rattle.jc_model.specs.declared.event.LoadAnswer.{LoadAnswer}
@@ -47,30 +47,30 @@ said_given (pair ∷ pairs) key answer given =
     (elim (pointwise ◌==◌ pair.0 key) as (λ b. is_load_given (cond b (Found pair.1) answer) ≡ true) [ true ↦ refl | false ↦ given ])
 
 -- an act whose events are at the call's keys, and no changes of the store
-abbrev IsQuiet : ℕ → Act → Type 0
+abbrev IsQuiet : ℕ → ScriptAct → Type 0
 IsQuiet call act = (key : Bytes) → key_at call (event_at call act key) ≡ Some key
 
 -- the events at the keys of such an act
-keys_fit : (w : WorldState) → FitTogether w → (call : ℕ) (act : Act) → IsQuiet call act → (keys : List Bytes) → IsDistinct (pointwise ◌==◌) keys → list_all (fits w) (key_events w call act keys) ≡ true
+keys_fit : (w : WorldState) → FitTogether w → (call : ℕ) (act : ScriptAct) → IsQuiet call act → (keys : List Bytes) → IsDistinct (pointwise ◌==◌) keys → list_all (fits w) (key_events w call act keys) ≡ true
     → AllFit w (key_events w call act keys)
 keys_fit w together call act quiet keys differ fit = together.events call (event_at call act) (filter (is_meant w call act) keys) quiet (kept_differ (is_meant w call act) keys differ) fit
 
 -- and nothing after them
-alone_fit : (w : WorldState) → FitTogether w → (call : ℕ) (act : Act) → IsQuiet call act → (keys : List Bytes) → IsDistinct (pointwise ◌==◌) keys → list_all (fits w) (key_events w call act keys) ≡ true
+alone_fit : (w : WorldState) → FitTogether w → (call : ℕ) (act : ScriptAct) → IsQuiet call act → (keys : List Bytes) → IsDistinct (pointwise ◌==◌) keys → list_all (fits w) (key_events w call act keys) ≡ true
     → AllFit w (key_events w call act keys ++ [])
 alone_fit w together call act quiet keys differ fit = subst (AllFit w) (sym (append-nil (key_events w call act keys))) (keys_fit w together call act quiet keys differ fit)
 
 -- the writer may return if it is asked for an open key
-report_fits : (w : WorldState) (call : ℕ) (u : CallState) (left : List Bytes) (fault : Option ℕ) → open_call w call ≡ Some u → list_any (is_asked w call) (open_keys u) ≡ true → fits w (event.Report call left fault) ≡ true
+report_fits : (w : WorldState) (call : ℕ) (u : CallState) (left : List Bytes) (fault : Option ℕ) → open_call w call ≡ Some u → list_any (is_being_written w call) (open_keys u) ≡ true → fits w (event.Report call left fault) ≡ true
 report_fits w call u left fault here asked = ap (may_report w call) here ∙ (λ i. list_any (λ key. may_change w call key (sym here i)) (open_keys u)) ∙ asked
 
 -- the writer's changes, and its return
 writer_fit : (w : WorldState) → FitTogether w → (call : ℕ) (p : Bytes → Bool) (u : CallState) (keys left : List Bytes) (fault : Option ℕ) → ((key : Bytes) → p key ≡ true → fits w (event.Change call key) ≡ true) → open_call w call ≡ Some u
-    → keys ≡ open_keys u → IsDistinct (pointwise ◌==◌) keys → list_any (is_asked w call) keys ≡ true → AllFit w (map (event.Change call) (filter p keys) ++ event.Report call left fault ∷ [])
+    → keys ≡ open_keys u → IsDistinct (pointwise ◌==◌) keys → list_any (is_being_written w call) keys ≡ true → AllFit w (map (event.Change call) (filter p keys) ++ event.Report call left fault ∷ [])
 writer_fit w together call p u keys left fault waits here is differ asked =
     together.report call (filter p keys) left fault (kept_differ p keys differ)
     (all_of_kept p (event.Change call) (fits w) waits keys)
-    (report_fits w call u left fault here (ap (list_any (is_asked w call)) (sym is) ∙ asked))
+    (report_fits w call u left fault here (ap (list_any (is_being_written w call)) (sym is) ∙ asked))
 
 -- a weaker test
 all_from_more : (q : Bytes → Bool) (r : Bytes → Bool) (keys : List Bytes) → ((key : Bytes) → q key ≡ true → r key ≡ true) → list_all q keys ≡ true → list_all r keys ≡ true
@@ -105,7 +105,7 @@ reserved_or_free w call (key ∷ keys) free =
         go false = h
 
 -- the events at one key more
-pub key_events-more : (w : WorldState) (call : ℕ) (act : Act) (keys : List Bytes) (i : ℕ) (key : Bytes) → i < length keys → key ≡ get_or keys i key
+pub key_events-more : (w : WorldState) (call : ℕ) (act : ScriptAct) (keys : List Bytes) (i : ℕ) (key : Bytes) → i < length keys → key ≡ get_or keys i key
     → key_events w call act (take (i + 1) keys) ≡ key_events w call act (take i keys) ++ key_events w call act (key ∷ [])
 key_events-more w call act keys i key lt is =
     ap (key_events w call act) (take_more keys i key lt ∙ ap (λ k. take i keys ++ k ∷ []) (sym is))
@@ -167,15 +167,15 @@ pub first_differs : (p : Bytes → Bool) (keys : List Bytes) → IsDistinct (poi
 first_differs p keys = one_differs (find p keys)
 
 -- the events of an act fit if it is the time for it
-pub act_fits : (w : WorldState) → FitTogether w → (call : ℕ) (act : Act) (u : CallState) (keys : List Bytes) → open_call w call ≡ Some u → keys ≡ keys_of_act w call act u → IsDistinct (pointwise ◌==◌) keys
+pub act_fits : (w : WorldState) → FitTogether w → (call : ℕ) (act : ScriptAct) (u : CallState) (keys : List Bytes) → open_call w call ≡ Some u → keys ≡ keys_of_act w call act u → IsDistinct (pointwise ◌==◌) keys
     → is_time w call act keys (key_events w call act keys) ≡ true → AllFit w (events_of_act w call act keys)
 act_fits w together call Read u keys here is differ time = alone_fit w together call Read (own call) keys differ (all_of_kept _ (event_at call Read) (fits w) (λ key h. h) keys)
 act_fits w together call (ReadFail code) u keys here is differ time = alone_fit w together call (ReadFail code) (own call) keys differ (all_of_kept _ (event_at call (ReadFail code)) (fits w) (λ key h. h) keys)
 act_fits w together call (Say pairs) u keys here is differ time = alone_fit w together call (Say pairs) (own call) keys differ (all_of_kept _ (event_at call (Say pairs)) (fits w) (λ key h. and_from _ _ (said_given pairs key Nothing refl) h) keys)
 act_fits w together call (Apply left) u keys here is differ time =
-    writer_fit w together call (is_meant w call (Apply left)) u keys (left_keys w call (Apply left) keys) None (λ key h. (and_parts (is_asked w call key) (not (leaves (Apply left) key)) h).0) here is differ time
+    writer_fit w together call (is_meant w call (Apply left)) u keys (left_keys w call (Apply left) keys) None (λ key h. (and_parts (is_being_written w call key) (not (leaves (Apply left) key)) h).0) here is differ time
 act_fits w together call (ApplyFail code left) u keys here is differ time =
-    writer_fit w together call (is_meant w call (ApplyFail code left)) u keys (left_keys w call (ApplyFail code left) keys) (Some code) (λ key h. (and_parts (is_asked w call key) (not (leaves (ApplyFail code left) key)) h).0) here is differ time
+    writer_fit w together call (is_meant w call (ApplyFail code left)) u keys (left_keys w call (ApplyFail code left) keys) (Some code) (λ key h. (and_parts (is_being_written w call key) (not (leaves (ApplyFail code left) key)) h).0) here is differ time
 act_fits w together call (ApplyLie code) u keys here is differ time = writer_fit w together call (is_meant w call (ApplyLie code)) u keys (left_keys w call (ApplyLie code) keys) (Some code) (λ key h. h) here is differ time
 act_fits w together call End u keys here is differ time = alone_fit w together call End (own call) keys differ (and_parts _ _ time).1
 act_fits w together call Drop u keys here is differ time =

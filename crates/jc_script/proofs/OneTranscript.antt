@@ -5,7 +5,7 @@
 --                        two ways to play the line have printed the same and leave the same world
 --     transcript_same    and so have two ways to play a script
 --     printed_same, runs_same     so have two transcripts, and two runs, if what they print tells nothing of memory
-use Rattle.jc_script.proofs.Common.{◌≡◌, ◌∙◌, ◌+◌, ◌++◌, ◌&&◌, ℕ, Bool, true, false, not, if◌then◌else◌, List, [], ◌∷◌, Option, None, Some, Result, Ok, Err, is_some, refl, sym, ap, subst, inl, inr, append-nil, true≢false, entries, and_parts, list_all-append, Bytes, Cache, CallState, SweepState, Task, at_each, put_each_of, new_call, Command, Shown, WorldEvent, RunsAreDetermined, has_memory, have_memory, Run, Step, with_call, shown_begun, fits, is_new, is_playable, is_session, looks, looks_of, opening_events, WorldState, is_busy, open_call, Fault, Act, BulkLine, Line, Open, Set, Begin, BeginBulk, OfCall, Foreign, Reopen, Audit, RunEnd, PrintedMemoryDetermines, RunsWriteTheSame, shown_at_begin, shown_by_act, shown_by_one, shown_by_line, shown_by_read, shown_in, bulk_call, events_of_act, keys_of_act, load_code, single, start_events, read_line, audit_text, event_text, fails_text, fault_line, texts, IsTranscript, pieces_of, Audited, EndsScript, OpenedWorld, Plays, PlaysAct, PlaysBegin, PlaysOne, PlaysRead, Transcript, fault_read}
+use Rattle.jc_script.proofs.Common.{◌≡◌, ◌∙◌, ◌+◌, ◌++◌, ◌&&◌, ℕ, Bool, true, false, not, if◌then◌else◌, List, [], ◌∷◌, Option, None, Some, Result, Ok, Err, is_some, refl, sym, ap, subst, inl, inr, append-nil, true≢false, entries, and_parts, list_all-append, Bytes, Cache, CallState, SweepState, Task, at_each, put_each_of, new_call, Command, Shown, WorldEvent, RunsAreDetermined, has_memory, have_memory, Run, Step, with_call, shown_begun, fits, is_new, is_playable, is_session, looks, looks_of, opening_events, WorldState, is_busy, open_call, Fault, ScriptAct, BulkLine, Line, Open, Set, Begin, BeginBulk, OfCall, Foreign, Reopen, Audit, RunEnd, PrintedMemoryDetermines, RunsWriteTheSame, shown_at_begin, shown_by_act, shown_by_one, shown_by_line, shown_by_read, shown_in, bulk_call, events_of_act, keys_of_act, load_code, single, start_events, read_line, audit_text, event_text, fails_text, fault_line, texts, IsTranscript, pieces_of, Audited, EndsScript, OpenedWorld, Plays, PlaysAct, PlaysBegin, PlaysOne, PlaysRead, Transcript, fault_read}
 use Rattle.jc_model.specs.declared.event.Op.TheVariants as op
 use Rattle.jc_model.proofs.CallerLemmas.{same_cache}
 use Rattle.jc_world.specs.Audit.{differing}
@@ -115,7 +115,7 @@ bulk_same law w number session call c d x y n m named too a b p q =
 
 -- 4. Other lines.
 
-act_same : RunsAreDetermined → (w : WorldState) (number : ℕ) (act : Act) (u : Option CallState) (x y : List ℕ) (n m : OpenedWorld)
+act_same : RunsAreDetermined → (w : WorldState) (number : ℕ) (act : ScriptAct) (u : Option CallState) (x y : List ℕ) (n m : OpenedWorld)
     → (a : PlaysAct w number act u x n) (b : PlaysAct w number act u y m)
     → have_memory (shown_by_act w number act u x n a) ≡ true → have_memory (shown_by_act w number act u y m b) ≡ true
     → (x ≡ y) × (n ≡ m)

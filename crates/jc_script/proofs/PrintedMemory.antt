@@ -2,14 +2,14 @@
 --     before_it, behind_it    a text with such a line before or behind another has it
 --     event_tells             an event that shows such an eviction prints it
 --     transcript_tells        and so does a transcript
-use Rattle.jc_script.proofs.Common.{◌≡◌, ◌∙◌, ◌+◌, ◌++◌, ◌&&◌, ℕ, Bool, true, false, cond, List, [], ◌∷◌, Option, None, Some, Result, Ok, Err, refl, sym, ap, subst, inl, inr, append_assoc, append-nil, true≢false, ◌⊎◌, codes, list_all-append, Bytes, CallState, has_too_many_keys, new_call, over_of, TooManyKeys, Command, Outcome, Shown, WorldEvent, LoadSource, cause_has_memory, eviction_has_memory, has_memory, have_memory, Happens, Run, Step, not_over, shown_begun, opening_events, WorldState, open_call, Fault, Act, Line, Open, Set, Begin, BeginBulk, OfCall, Foreign, Reopen, Audit, RunEnd, TellsOfMemory, shown_at_begin, shown_by_act, shown_by_one, shown_by_line, shown_by_read, shown_in, events_of_act, keys_of_act, load_code, single, start_events, read_line, OpenedWorld, Plays, PlaysAct, PlaysBegin, PlaysOne, PlaysRead, Transcript}
+use Rattle.jc_script.proofs.Common.{◌≡◌, ◌∙◌, ◌+◌, ◌++◌, ◌&&◌, ℕ, Bool, true, false, cond, List, [], ◌∷◌, Option, None, Some, Result, Ok, Err, refl, sym, ap, subst, inl, inr, append_assoc, append-nil, true≢false, ◌⊎◌, codes, list_all-append, Bytes, CallState, has_too_many_keys, new_call, over_of, TooManyKeys, Command, Outcome, Shown, WorldEvent, LoadSource, cause_has_memory, eviction_has_memory, has_memory, have_memory, Happens, Run, Step, not_over, shown_begun, opening_events, WorldState, open_call, Fault, ScriptAct, Line, Open, Set, Begin, BeginBulk, OfCall, Foreign, Reopen, Audit, RunEnd, TellsOfMemory, shown_at_begin, shown_by_act, shown_by_one, shown_by_line, shown_by_read, shown_in, events_of_act, keys_of_act, load_code, single, start_events, read_line, OpenedWorld, Plays, PlaysAct, PlaysBegin, PlaysOne, PlaysRead, Transcript}
 use Rattle.jc_model.specs.declared.event.Cause.{Cause}
 use Rattle.jc_model.specs.declared.event.Cause.TheVariants.{Full, Memory}
 use Rattle.jc_stripe.specs.declared.begun.Eviction.{Eviction}
 use Rattle.jc_world.specs.declared.event.Outcome.TheVariants as outcome
 use Rattle.jc_world.specs.declared.event.Stepped.{Stepped}
 use Rattle.jc_world.specs.declared.event.WorldEvent.TheVariants as event
-use Rattle.jc_script.specs.Printing.{end_text, event_text, evict_line, evicted_text, fails_text, outcome_text, process_text, shown_text, stepped_text, texts, told, victim_text}
+use Rattle.jc_script.specs.Printing.{end_text, event_text, evict_line, evicted_text, fails_text, outcome_text, process_outcome_text, shown_text, stepped_text, texts, told, victim_text}
 
 -- 1. Texts.
 
@@ -52,7 +52,7 @@ shown_tells : (call : ℕ) (key : Bytes) (o : Outcome) → has_memory o ≡ fals
 shown_tells call key (outcome.Stepped seen) h = stepped_tells call key seen h
 shown_tells call key o h = absurd (true≢false h)
 
-process_tells : (call : ℕ) (key : Bytes) (source : LoadSource) (o : Outcome) → has_memory o ≡ false → TellsOfMemory (process_text call key source o)
+process_tells : (call : ℕ) (key : Bytes) (source : LoadSource) (o : Outcome) → has_memory o ≡ false → TellsOfMemory (process_outcome_text call key source o)
 process_tells call key source (outcome.Stepped seen) h = stepped_tells call key seen h
 process_tells call key source o h = absurd (true≢false h)
 
@@ -119,7 +119,7 @@ begin_tells w number session c x n a h = subst TellsOfMemory (sym a.text_is) (go
     go (inl here) = before_it a.opening a.started (printed_tells w a.begun (opening_events number session c w.config.stripes) a.opens.seen a.opening a.opens.runs a.opens.text_is here)
     go (inr there) = behind_it a.opening a.started (printed_tells a.begun a.after (start_events a.begun number (open_call a.begun number)) a.starts.seen a.started a.starts.runs a.starts.text_is there)
 
-act_tells : (w : WorldState) (number : ℕ) (act : Act) (u : Option CallState) (x : List ℕ) (n : OpenedWorld) (a : PlaysAct w number act u x n)
+act_tells : (w : WorldState) (number : ℕ) (act : ScriptAct) (u : Option CallState) (x : List ℕ) (n : OpenedWorld) (a : PlaysAct w number act u x n)
     → have_memory (shown_by_act w number act u x n a) ≡ false → TellsOfMemory x
 act_tells w number act None x n a h = absurd a
 act_tells w number act (Some u) x n a h =

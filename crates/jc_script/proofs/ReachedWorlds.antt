@@ -10,7 +10,7 @@
 --     no_event, some_events     a line that makes no event leads on, and so does one that makes some
 --     piece_stays     each line without a fault leads on, by its bytes
 --     script_stays    and so do the lines of a script, one after another
-use Rattle.jc_script.proofs.Common.{arith, ◌+◌, ◌≡◌, ◌∙◌, option_map, ◌++◌, ◌&&◌, ℕ, Bool, true, false, cond, List, [], ◌∷◌, Option, None, Some, Result, Ok, Err, is_some, find, refl, sym, ap, subst, subst₂, inl, inr, append_assoc, append-nil, true≢false, and_from, list_all-append, empty, get, get-empty, Config, BadConfig, WriterFailed, check, is_between, STRIPES_MAX, CAPACITY_MAX, HISTORY_MIN, HISTORY_MAX, Op, Bytes, key_cmp, is_load_given, Outcome, Part, Shown, WorldEvent, CallState, has_number, after_report, after_reports, keys_reported, reported_now, with_met_by, reported_at, all_fit, is_fit, Ends, Happens, Picks, Run, Starts, fits, may_change, may_leave, may_look, may_report, may_start, opening_events, WorldState, join_cmp, start, has_progress, of_call, open_call, part_of, waits_for_load, waits_for_process, waits_for_report, is_answered, is_untouched, with_stored, Command, Fault, SetTooLate, Act, events_of_act, keys_of_act, load_code, single, start_events, Line, Open, Set, Begin, BeginBulk, OfCall, Foreign, Reopen, Audit, read_line, event_text, fails_text, texts, RunEnd, OpenedWorld, Plays, PlaysAct, PlaysBegin, PlaysOne, PlaysRead, Prints, Transcript}
+use Rattle.jc_script.proofs.Common.{arith, ◌+◌, ◌≡◌, ◌∙◌, option_map, ◌++◌, ◌&&◌, ℕ, Bool, true, false, cond, List, [], ◌∷◌, Option, None, Some, Result, Ok, Err, is_some, find, refl, sym, ap, subst, subst₂, inl, inr, append_assoc, append-nil, true≢false, and_from, list_all-append, empty, get, get-empty, Config, BadConfig, WriterFailed, check, is_between, STRIPES_MAX, CAPACITY_MAX, HISTORY_MIN, HISTORY_MAX, Op, Bytes, key_cmp, is_load_given, Outcome, Part, Shown, WorldEvent, CallState, has_number, after_report, after_reports, keys_reported, reported_now, with_met_by, reported_at, all_fit, is_fit, Ends, Happens, Picks, Run, StartsAs, fits, may_change, may_leave, may_look, may_report, may_start, opening_events, WorldState, join_cmp, start, has_progress, of_call, open_call, part_of, waits_for_load, waits_for_process, waits_for_report, is_all_answered, is_untouched, with_stored, Command, Fault, SetTooLate, ScriptAct, events_of_act, keys_of_act, load_code, single, start_events, Line, Open, Set, Begin, BeginBulk, OfCall, Foreign, Reopen, Audit, read_line, event_text, fails_text, texts, RunEnd, OpenedWorld, Plays, PlaysAct, PlaysBegin, PlaysOne, PlaysRead, Prints, Transcript}
 use Rattle.std.proofs.Math.Bool.{and-false}
 use Rattle.jc_types.specs.declared.caller.Caller.{Caller}
 use Rattle.jc_types.specs.declared.config.Field.TheVariants.{Stripes, Capacity, History}
@@ -22,7 +22,7 @@ use Rattle.jc_world.specs.declared.event.WorldEvent.TheVariants as event
 use Rattle.jc_world.specs.Headline.{start_with, Reaches, StartsOpen}
 use Rattle.jc_world.specs.Premises.{report_for}
 use Rattle.jc_script.specs.Faults.{config_fault, state_fault}
-use Rattle.jc_script.specs.ReachedWorlds.{EndsAt, IsBeside, IsReachedBy, LeadsOn, LeadsToEnd}
+use Rattle.jc_script.specs.ReachedWorlds.{EndsAtLine, IsBeside, IsReachedBy, LeadsOn, LeadsToEnd}
 
 -- 1. Runs one after another.
 
@@ -43,7 +43,7 @@ abbrev fresh : WorldState → Bool
 fresh w = w.is_fresh
 
 -- a first phase
-starts_fresh : (w new : WorldState) (caller : Caller) (key : Bytes) (op : Op) (from to : State) (seen : Outcome) → Starts w caller key op from to seen new → fresh new ≡ fresh w
+starts_fresh : (w new : WorldState) (caller : Caller) (key : Bytes) (op : Op) (from to : State) (seen : Outcome) → StartsAs w caller key op from to seen new → fresh new ≡ fresh w
 starts_fresh w new caller key op from to (outcome.Refused refusal) h = ap fresh h.1
 starts_fresh w new caller key op from to (outcome.PutOff refusal) h = ap fresh h.1
 starts_fresh w new caller key op from to (outcome.Stepped x) h = ap fresh h.2
@@ -137,7 +137,7 @@ idle_unfit w idle (event.Say call key answer) other = ap (λ p. is_load_given an
 idle_unfit w idle (event.Change call key) other = ap (may_change w call key) (none_open w call idle)
 idle_unfit w idle (event.Report call left fault) other = ap (may_report w call) (none_open w call idle)
 idle_unfit w idle (event.Process call key source calls fail) other = ap (has_progress waits_for_process) (none_part w call key idle)
-idle_unfit w idle (event.Commit call key) other = ap (has_progress is_answered) (none_part w call key idle)
+idle_unfit w idle (event.Commit call key) other = ap (has_progress is_all_answered) (none_part w call key idle)
 idle_unfit w idle (event.Withdraw call key) other = ap (has_progress is_untouched) (none_part w call key idle)
 idle_unfit w idle (event.Leave call) other = ap (may_leave w call) (none_open w call idle)
 idle_unfit w idle (event.PickUp call key) other = ap (λ joins. is_some (get joins (call, key))) idle.joins ∙ ap is_some (get-empty join_cmp (call, key))
@@ -239,7 +239,7 @@ begin_stays es ss w number session command text new reached h =
     h.text_is ∙ both ∙ sym (texts_on w h.begun opening starting h.opens.seen h.starts.seen h.opens.runs) ∙ sym (append-nil (texts (opening ++ starting) seen)) in
     some_events es ss w h.after text new (opening ++ starting) seen [] reached (run_on w h.begun h.after opening starting h.opens.seen h.starts.seen h.opens.runs h.starts.runs) fit told (nothing_beside new) h.new_is
 
-act_stays : (es : List WorldEvent) (ss : List Shown) (w : WorldState) (number : ℕ) (act : Act) (u : Option CallState) (text : List ℕ) (new : OpenedWorld) → IsReachedBy es ss (Some w) → PlaysAct w number act u text new → LeadsOn es ss text new
+act_stays : (es : List WorldEvent) (ss : List Shown) (w : WorldState) (number : ℕ) (act : ScriptAct) (u : Option CallState) (text : List ℕ) (new : OpenedWorld) → IsReachedBy es ss (Some w) → PlaysAct w number act u text new → LeadsOn es ss text new
 act_stays es ss w number act None text new reached h = absurd h
 act_stays es ss w number act (Some u) text new reached h =
     let fault = fails_text number (load_code act) in
@@ -291,7 +291,7 @@ script_stays starts es ss old n (last ∷ []) out end reached h =
       new = old;
       pieces_are = refl;
       leads = (refl, refl);
-      ends = subst (λ m. EndsAt old m (last ∷ []) out end) (omega arith) h;
+      ends = subst (λ m. EndsAtLine old m (last ∷ []) out end) (omega arith) h;
       out_is = refl;
     }
 script_stays starts es ss old n (line ∷ next ∷ more) out end reached (inl (text, rest, mid, prints, left, out_is)) =
@@ -305,7 +305,7 @@ script_stays starts es ss old n (line ∷ next ∷ more) out end reached (inl (t
       new = r.new;
       pieces_are = ap (λ (xs : List (List ℕ)). line ∷ xs) r.pieces_are;
       leads = (text, r.printed, mid, prints, on, r.leads, refl);
-      ends = subst (λ m. EndsAt r.new m r.others r.last end) (omega arith) r.ends;
+      ends = subst (λ m. EndsAtLine r.new m r.others r.last end) (omega arith) r.ends;
       out_is = out_is ∙ ap (λ (t : List ℕ). text ++ t) r.out_is ∙ sym (append_assoc text r.printed r.last);
     }
 script_stays starts es ss old n (line ∷ next ∷ more) out end reached (inr h) =
@@ -317,6 +317,6 @@ script_stays starts es ss old n (line ∷ next ∷ more) out end reached (inr h)
       new = old;
       pieces_are = refl;
       leads = (refl, refl);
-      ends = subst (λ m. EndsAt old m (line ∷ next ∷ more) out end) (omega arith) h;
+      ends = subst (λ m. EndsAtLine old m (line ∷ next ∷ more) out end) (omega arith) h;
       out_is = refl;
     }

@@ -1,5 +1,5 @@
 -- Lines that are read are spelled as what they ask for.
-use Rattle.jc_script.proofs.Common.{◌≡◌, ◌++◌, ◌∙◌, ◌==◌, ℕ, ◌≤◌, Bool, true, false, not, cond, List, [], ◌∷◌, length, Option, None, Some, Result, Ok, Err, refl, sym, ap, subst, arith, IfOk, IfSome, decimal, codes, nat_lt, nat_le, ◌&&◌, ◌||◌, list_all, join_with_byte, bytes_eq, ltb-true, leb-true, ltb-false, and_parts, bytes_eq-Decides, length-map, common_steps, join_with_byte-slice_split, Bytes, Config, Fault, LineTooLong, BadByte, BadLine, Line, BulkLine, Form, Act, Read, ReadFail, ApplyLie, End, Drop, More, Take, Op, value_text, words_of, number_of, caller_of, key_of, value_of, value_or_none_of, pairs_of, distinct_pairs_of, distinct_keys_of, IsNumber, IsShape, IsSession, session_text, IsValue, IsKey, AreKeyWords, AreLeftKeys, HasKeys, IsOperation, IsAct, SaysWords, IsSpellable, LinesAreSpelled, spelling, line_words, operation_words, load_word, bulk_words, act_words, left_words, pair_text, flag_words, shape_words, without_load, has_process_shape, source_of, calls_of, source_words}
+use Rattle.jc_script.proofs.Common.{◌≡◌, ◌++◌, ◌∙◌, ◌==◌, ℕ, ◌≤◌, Bool, true, false, not, cond, List, [], ◌∷◌, length, Option, None, Some, Result, Ok, Err, refl, sym, ap, subst, arith, IfOk, IfSome, decimal, codes, nat_lt, nat_le, ◌&&◌, ◌||◌, list_all, join_with_byte, bytes_eq, ltb-true, leb-true, ltb-false, and_parts, bytes_eq-Decides, length-map, common_steps, join_with_byte-slice_split, Bytes, Config, Fault, LineTooLong, BadByte, BadLine, Line, BulkLine, Form, ScriptAct, Read, ReadFail, ApplyLie, End, Drop, More, Take, Op, value_text, words_of, number_of, caller_of, key_of, value_of, value_or_none_of, pairs_of, distinct_pairs_of, distinct_keys_of, IsNumber, IsShape, IsSession, session_text, IsValue, IsKey, AreKeyWords, AreLeftKeys, HasKeys, IsOperation, IsAct, SaysWords, IsSpellable, LinesAreSpelled, spelling, line_words, operation_words, load_word, bulk_words, act_words, left_words, pair_text, flag_words, shape_words, without_load, has_process_shape, source_of, calls_of, source_words}
 use Rattle.jc_script.specs.declared.read.line.Operation.{Operation}
 use Rattle.jc_script.specs.declared.read.commands.Bare.{Bare}
 use Rattle.jc_script.specs.declared.read.commands.Bare.TheVariants as bare
@@ -204,12 +204,12 @@ number_alone_read : (words : List (List ℕ)) → IfOk (number_alone words) (λ 
 number_alone_read (n ∷ []) = ok_weaker (number_of n) (SaysNumber n) (λ m. IsNumber m × (n ∷ [] ≡ decimal m ∷ [])) (λ m known. (known.0, rw known.1 refl)) (number_read n)
 number_alone_read words = tt
 
-lone_read : (act : Act) (first : List ℕ) (words : List (List ℕ)) → IsAct act → ((call : ℕ) → first ∷ decimal call ∷ [] ≡ act_words call act)
+lone_read : (act : ScriptAct) (first : List ℕ) (words : List (List ℕ)) → IsAct act → ((call : ℕ) → first ∷ decimal call ∷ [] ≡ act_words call act)
     → IfOk (lone_of act words) (SaysLine (first ∷ words))
 lone_read act first words known spelled =
     ok_then (number_alone words) _ (λ n. IsNumber n × (words ≡ decimal n ∷ [])) (SaysLine (first ∷ words)) (number_alone_read words) (λ call a. rw a.1 ((a.0, known), spelled call))
 
-coded_read : (act : ℕ → Act) (first : List ℕ) (words : List (List ℕ)) → ((code : ℕ) → IsNumber code → IsAct (act code))
+coded_read : (act : ℕ → ScriptAct) (first : List ℕ) (words : List (List ℕ)) → ((code : ℕ) → IsNumber code → IsAct (act code))
     → ((call code : ℕ) → first ∷ decimal call ∷ decimal code ∷ [] ≡ act_words call (act code)) → IfOk (coded_of act words) (SaysLine (first ∷ words))
 unfolding coded_of
 coded_read act first [] known spelled = tt

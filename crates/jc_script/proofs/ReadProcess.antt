@@ -1,7 +1,7 @@
 -- The words of a `process` line that are read are spelled as what they say.
 --     SaysSource, source_read     how the loader answers, and the words after it
 --     SaysCalls, calls_read       the calls, and the code
-use Rattle.jc_script.proofs.Common.{◌≡◌, ◌∙◌, ℕ, Bool, true, false, cond, List, [], ◌∷◌, ◌++◌, length, map, take, drop, None, Some, Result, Ok, Err, refl, sym, ap, append_assoc, IfOk, codes, ◌||◌, All, bytes_eq, and_parts, bytes_eq-Decides, All-nil, All-cons, All-same, EntryCall, LoadSource, Store, Stated, Failing, Fault, ◌>>=◌, number_of, value_of, value_or_none_of, Calls, begins_with, is_call, is_fail, are_calls_from, without_load, source_of, call_of, calls_from, calls_of, source_words, call_text, fail_words, IsSource, IsEntryCall, IsOptionalCode}
+use Rattle.jc_script.proofs.Common.{◌≡◌, ◌∙◌, ℕ, Bool, true, false, cond, List, [], ◌∷◌, ◌++◌, length, map, take, drop, None, Some, Result, Ok, Err, refl, sym, ap, append_assoc, IfOk, codes, ◌||◌, All, bytes_eq, and_parts, bytes_eq-Decides, All-nil, All-cons, All-same, EntryCall, LoadSource, Store, Stated, Failing, Fault, ◌>>=◌, number_of, value_of, value_or_none_of, Calls, begins_with, is_call_word, is_fail, are_calls_from, without_load, source_of, call_of, calls_from, calls_of, source_words, call_text, fail_words, IsSource, IsEntryCall, IsOptionalCode}
 use Rattle.std.proofs.lemmas.List.{take-append-drop, append-nil}
 use Rattle.jc_model.specs.declared.processor.EntryCall.TheVariants as entry
 use Rattle.jc_script.proofs.Given.{ok_then, ok_weaker}
@@ -38,7 +38,7 @@ source_read (w ∷ ws) = by (begins_with (codes "loadfail=") w) (begins_with (co
 abbrev SaysCall : List ℕ → EntryCall → Type 0
 SaysCall w call = IsEntryCall call × (w ≡ call_text call)
 
-call_read : (w : List ℕ) → is_call w ≡ true → IfOk (call_of w) (SaysCall w)
+call_read : (w : List ℕ) → is_call_word w ≡ true → IfOk (call_of w) (SaysCall w)
 call_read w e =
     by (bytes_eq w (codes "get")) (bytes_eq w (codes "exists")) (bytes_eq w (codes "remove")) (begins_with (codes "set=") w)
     (bytes_eq-Decides w (codes "get")).0 (bytes_eq-Decides w (codes "exists")).0 (bytes_eq-Decides w (codes "remove")).0 (begun_word (codes "set=") w) e
@@ -93,16 +93,16 @@ one_read before w ws (Ok call) k again =
       (λ i. k.1 i ∷ h.4 i),
     )) (again call)
 
-more_read : (before : List EntryCall) (w : List ℕ) (ws : List (List ℕ)) (fails : Bool) → (fails ≡ true → w ≡ codes "fail=" ++ drop 5 w) → (is_call w || fails) ≡ true → are_calls_from fails ws ≡ true
+more_read : (before : List EntryCall) (w : List ℕ) (ws : List (List ℕ)) (fails : Bool) → (fails ≡ true → w ≡ codes "fail=" ++ drop 5 w) → (is_call_word w || fails) ≡ true → are_calls_from fails ws ≡ true
     → ((call : EntryCall) → are_calls_from false ws ≡ true → IfOk (calls_from (before ++ (call ∷ [])) None ws) (SaysMore (before ++ (call ∷ [])) ws))
     → IfOk (cond fails (number_of (drop 5 w) >>= with_code before) (call_of w >>= with_call before) >>= following ws) (SaysMore before (w ∷ ws))
 more_read before w ws true f one rest again = rw (last_word ws rest) (code_read before w (number_of (drop 5 w)) (f refl) (number_read (drop 5 w)))
-more_read before w ws false f one rest again = one_read before w ws (call_of w) (call_read w (either (is_call w) one)) (λ call. again call rest)
+more_read before w ws false f one rest again = one_read before w ws (call_of w) (call_read w (either (is_call_word w) one)) (λ call. again call rest)
 
 calls_onto_read : (before : List EntryCall) (ws : List (List ℕ)) → are_calls_from false ws ≡ true → IfOk (calls_from before None ws) (SaysMore before ws)
 calls_onto_read before [] e = ([], All-nil IsEntryCall, sym (append-nil before), tt, refl)
 calls_onto_read before (w ∷ ws) e =
-    let both = and_parts (is_call w || is_fail w) (are_calls_from (is_fail w) ws) e in
+    let both = and_parts (is_call_word w || is_fail w) (are_calls_from (is_fail w) ws) e in
     more_read before w ws (is_fail w) (begun_word (codes "fail=") w) both.0 both.1 (λ call rest. calls_onto_read (before ++ (call ∷ [])) ws rest)
 
 abbrev pub SaysCalls : List (List ℕ) → Calls → Type 0

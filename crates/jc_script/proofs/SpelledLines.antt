@@ -1,5 +1,5 @@
 -- Lines that are spelled are read as what they say.
-use Rattle.jc_script.proofs.Common.{◌≡◌, ℕ, ◌≤◌, Bool, true, false, List, [], ◌∷◌, ◌++◌, length, map, Option, None, Some, Ok, refl, sym, ap, subst, decimal, codes, All, and_from, lt-ltb, le-leb, length-map, Bytes, Config, Form, Op, Line, Open, Set, Begin, BeginBulk, OfCall, Foreign, Reopen, Audit, BulkLine, Act, Read, ReadFail, Say, Apply, ApplyFail, ApplyLie, End, Drop, More, Take, Process, source_words, call_text, fail_words, ◌>>=◌, Pairs, value_text, value_or_none_text, IsNumber, IsShape, IsSession, IsKey, IsValue, IsValueOrNone, IsPair, AreKeyWords, AreLeftKeys, HasKeys, IsOperation, IsAct, LinesReadBack, spelling, session_text, pair_text, flag_words, shape_words, operation_words, load_word, bulk_words, left_words}
+use Rattle.jc_script.proofs.Common.{◌≡◌, ℕ, ◌≤◌, Bool, true, false, List, [], ◌∷◌, ◌++◌, length, map, Option, None, Some, Ok, refl, sym, ap, subst, decimal, codes, All, and_from, lt-ltb, le-leb, length-map, Bytes, Config, Form, Op, Line, Open, Set, Begin, BeginBulk, OfCall, Foreign, Reopen, Audit, BulkLine, ScriptAct, Read, ReadFail, Say, Apply, ApplyFail, ApplyLie, End, Drop, More, Take, Process, source_words, call_text, fail_words, ◌>>=◌, Pairs, value_text, value_or_none_text, IsNumber, IsShape, IsSession, IsKey, IsValue, IsValueOrNone, IsPair, AreKeyWords, AreLeftKeys, HasKeys, IsOperation, IsAct, LinesReadBack, spelling, session_text, pair_text, flag_words, shape_words, operation_words, load_word, bulk_words, left_words}
 use Rattle.jc_script.specs.declared.read.commands.BulkName.TheVariants as name
 use Rattle.jc_script.specs.declared.read.commands.Form.TheVariants as form
 use Rattle.jc_model.specs.declared.event.Op.TheVariants as op
@@ -136,10 +136,10 @@ bulk_back call session (bulk.InvokeAll keys) n s known =
 
 -- 3. What happens next to a call.
 
-lone_back : (act : Act) (call : ℕ) → IsNumber call → lone_of act (decimal call ∷ []) ≡ Ok (OfCall call act)
+lone_back : (act : ScriptAct) (call : ℕ) → IsNumber call → lone_of act (decimal call ∷ []) ≡ Ok (OfCall call act)
 lone_back act call n = rw (number_back call n) refl
 
-coded_back : (act : ℕ → Act) (call code : ℕ) → IsNumber call → IsNumber code → coded_of act (decimal call ∷ decimal code ∷ []) ≡ Ok (OfCall call (act code))
+coded_back : (act : ℕ → ScriptAct) (call code : ℕ) → IsNumber call → IsNumber code → coded_of act (decimal call ∷ decimal code ∷ []) ≡ Ok (OfCall call (act code))
 unfolding coded_of
 coded_back act call code n c = rw (number_back call n, number_back code c) refl
 
@@ -174,7 +174,7 @@ say_back call pairs n known = rw (number_back call n, pairs_back pairs known) re
 abbrev IsReadBack : Line → Type 0
 IsReadBack line = length (spelling line) ≤ 65536 → read_line (spelling line) ≡ Ok (Some line)
 
-act_back : (call : ℕ) (act : Act) → IsNumber call → IsAct act → IsReadBack (OfCall call act)
+act_back : (call : ℕ) (act : ScriptAct) → IsNumber call → IsAct act → IsReadBack (OfCall call act)
 act_back call Read n a short = line_of_words (codes "read") (decimal call ∷ []) _ refl (and_from _ _ (number_word call n) refl) short (lone_back Read call n)
 act_back call (ReadFail code) n a short =
     line_of_words (codes "readfail") (decimal call ∷ decimal code ∷ []) _ refl (and_from _ _ (number_word call n) (and_from _ _ (number_word code a) refl)) short

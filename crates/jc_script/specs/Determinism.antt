@@ -25,14 +25,14 @@ use Rattle.jc_world.specs.declared.event.WorldEvent.TheVariants as event
 use Rattle.jc_world.specs.Determinism.{have_memory}
 use Rattle.jc_world.specs.World.{WorldState, open_call}
 use Rattle.jc_script.specs.declared.fault.Fault.{Fault}
-use Rattle.jc_script.specs.declared.read.line.Act.{Act}
+use Rattle.jc_script.specs.declared.read.line.ScriptAct.{ScriptAct}
 use Rattle.jc_script.specs.declared.read.line.Line.{Line}
 use Rattle.jc_script.specs.declared.read.line.Line.TheVariants.{Open, Set, Begin, BeginBulk, OfCall, Foreign, Reopen, Audit}
 use Rattle.jc_script.specs.declared.run.RunEnd.{RunEnd}
 use Rattle.jc_script.specs.LineEvents.{single}
 use Rattle.jc_script.specs.Lines.{read_line}
 use Rattle.jc_script.specs.Printing.{evict_line}
-use Rattle.jc_script.specs.Running.{Ran}
+use Rattle.jc_script.specs.Running.{RunsScript}
 use Rattle.jc_script.specs.Transcript.{OpenedWorld, Plays, PlaysAct, PlaysBegin, PlaysOne, PlaysRead, pieces_of, Transcript, IsTranscript}
 
 -- 1. What lines have shown.
@@ -41,7 +41,7 @@ abbrev pub shown_at_begin : (w : WorldState) (number session : ℕ) (command : C
     (new : OpenedWorld) → PlaysBegin w number session command text new → List Shown
 shown_at_begin w number session command text new h = h.opens.seen ++ h.starts.seen
 
-abbrev pub shown_by_act : (w : WorldState) (number : ℕ) (act : Act) (u : Option CallState) (text : List ℕ)
+abbrev pub shown_by_act : (w : WorldState) (number : ℕ) (act : ScriptAct) (u : Option CallState) (text : List ℕ)
     (new : OpenedWorld) → PlaysAct w number act u text new → List Shown
 shown_by_act w number act None text new h = []
 shown_by_act w number act (Some u) text new h = h.plays.seen
@@ -119,7 +119,7 @@ abbrev pub RunsWriteTheSame : Type 0
 RunsWriteTheSame =
     (script : List ℕ) (left rest old new before after : Option (List ℕ))
     (old_told told told_before told_after : List ℕ) (end last : RunEnd)
-    (h : Ran (Some script) left old new old_told told end)
-    (k : Ran (Some script) rest before after told_before told_after last)
+    (h : RunsScript (Some script) left old new old_told told end)
+    (k : RunsScript (Some script) rest before after told_before told_after last)
     → (TellsOfMemory h.out → ⊥) → (TellsOfMemory k.out → ⊥)
     → (h.out ≡ k.out) × (end ≡ last)

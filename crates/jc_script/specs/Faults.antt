@@ -21,7 +21,7 @@ use Rattle.jc_script.specs.declared.fault.Fault.{Fault}
 use Rattle.jc_script.specs.declared.fault.Fault.TheVariants.{CutLine, LineTooLong, BadByte, BadLine, BadNumber, BadCaller, BadKey, BadValue, RepeatedKey, NotOpen, OpenTwice, BadConfig, SetTooLate, NotRising, CallerBusy, NoSuchCall, NotNow}
 use Rattle.jc_script.specs.declared.read.line.Line.{Line}
 use Rattle.jc_script.specs.declared.read.line.Line.TheVariants.{Open, Set, Begin, BeginBulk, OfCall, Foreign, Reopen, Audit}
-use Rattle.jc_script.specs.declared.read.line.Act.{Act}
+use Rattle.jc_script.specs.declared.read.line.ScriptAct.{ScriptAct}
 
 abbrev pub text_of : Fault → List ℕ
 text_of CutLine = codes "cut line"
@@ -58,7 +58,7 @@ abbrev pub begin_fault : WorldState → ℕ → ℕ → Option Fault
 begin_fault w number session =
     if is_new w.last number then (if is_busy w session then Some CallerBusy else None) else Some NotRising
 
-abbrev pub act_fault : WorldState → ℕ → Act → Option CallState → Option Fault
+abbrev pub act_fault : WorldState → ℕ → ScriptAct → Option CallState → Option Fault
 act_fault w number act None = Some NoSuchCall
 act_fault w number act (Some u) =
     if has_but act && not (allows_but u) then Some NotNow

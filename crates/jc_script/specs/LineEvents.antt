@@ -37,11 +37,11 @@ use Rattle.jc_world.specs.Calls.{CallState, is_bulk, open_keys}
 use Rattle.jc_world.specs.declared.event.WorldEvent.{WorldEvent}
 use Rattle.jc_world.specs.declared.event.WorldEvent.TheVariants as event
 use Rattle.jc_world.specs.World.{WorldState, has_progress, is_joined, part_of, waits_for_load, waits_for_process}
-use Rattle.jc_world.specs.Fits.{fits, is_asked, passes_in}
+use Rattle.jc_world.specs.Fits.{fits, is_being_written, passes_in}
 use Rattle.jc_script.specs.declared.read.line.BulkLine.{BulkLine}
 use Rattle.jc_script.specs.declared.read.line.BulkLine.TheVariants as bulk
-use Rattle.jc_script.specs.declared.read.line.Act.{Act}
-use Rattle.jc_script.specs.declared.read.line.Act.TheVariants.{Read, ReadFail, Say, Apply, ApplyFail, ApplyLie, End, Drop, More, Take, Process}
+use Rattle.jc_script.specs.declared.read.line.ScriptAct.{ScriptAct}
+use Rattle.jc_script.specs.declared.read.line.ScriptAct.TheVariants.{Read, ReadFail, Say, Apply, ApplyFail, ApplyLie, End, Drop, More, Take, Process}
 use Rattle.jc_script.specs.Words.{said}
 
 abbrev pub single : Operation → Command
@@ -59,12 +59,12 @@ bulk_call (command.InvokeAll set) = Some (bulk.InvokeAll set.keys)
 
 -- 1. What an act does at the keys of its call.
 
-abbrev pub is_process : Act → Bool
+abbrev pub is_process : ScriptAct → Bool
 is_process (Process source calls fail) = true
 is_process other = false
 
 -- the processors of a call run one after the other, in the order of its keys
-abbrev pub keys_of_act : WorldState → ℕ → Act → CallState → List Bytes
+abbrev pub keys_of_act : WorldState → ℕ → ScriptAct → CallState → List Bytes
 keys_of_act w call act u =
     if is_process act then option_to_list (find (passes_in waits_for_process w.parts call) (open_keys u))
     else open_keys u
@@ -83,29 +83,29 @@ is_left_failing None key = true
 is_left_failing (Some keys) key = is_among keys key
 
 -- one that lies has changed the store at every key, and leaves each
-abbrev pub leaves : Act → Bytes → Bool
+abbrev pub leaves : ScriptAct → Bytes → Bool
 leaves (Apply left) key = is_listed left key
 leaves (ApplyFail code left) key = is_left_failing left key
 leaves (ApplyLie code) key = true
 leaves other key = false
 
-abbrev pub is_changed : WorldState → ℕ → Act → Bytes → Bool
-is_changed w call act key = is_asked w call key && not (leaves act key)
+abbrev pub is_changed : WorldState → ℕ → ScriptAct → Bytes → Bool
+is_changed w call act key = is_being_written w call key && not (leaves act key)
 
-abbrev pub is_meant : WorldState → ℕ → Act → Bytes → Bool
+abbrev pub is_meant : WorldState → ℕ → ScriptAct → Bytes → Bool
 is_meant w call Read key = has_progress waits_for_load (part_of w call key)
 is_meant w call (ReadFail code) key = has_progress waits_for_load (part_of w call key)
 is_meant w call (Say pairs) key = has_progress waits_for_load (part_of w call key)
 is_meant w call (Apply left) key = is_changed w call (Apply left) key
 is_meant w call (ApplyFail code left) key = is_changed w call (ApplyFail code left) key
-is_meant w call (ApplyLie code) key = is_asked w call key
+is_meant w call (ApplyLie code) key = is_being_written w call key
 is_meant w call End key = is_started w call key
 is_meant w call Drop key = is_started w call key
 is_meant w call More key = true
 is_meant w call Take key = is_joined w call key
 is_meant w call (Process source calls fail) key = has_progress waits_for_process (part_of w call key)
 
-abbrev pub event_at : ℕ → Act → Bytes → WorldEvent
+abbrev pub event_at : ℕ → ScriptAct → Bytes → WorldEvent
 event_at call Read key = event.Read call key
 event_at call (ReadFail code) key = event.Say call key (Failed code)
 event_at call (Say pairs) key = event.Say call key (said pairs key)
@@ -119,7 +119,7 @@ event_at call Take key = event.PickUp call key
 event_at call (Process source calls fail) key = event.Process call key source calls fail
 
 -- at each key that it is about, in the order of the call's keys
-abbrev pub key_events : WorldState → ℕ → Act → List Bytes → List WorldEvent
+abbrev pub key_events : WorldState → ℕ → ScriptAct → List Bytes → List WorldEvent
 key_events w call act keys = map (event_at call act) (filter (is_meant w call act) keys)
 
 -- as `more` does
@@ -127,13 +127,13 @@ abbrev pub start_events : WorldState → ℕ → Option CallState → List World
 start_events w number None = []
 start_events w number (Some u) = key_events w number More (open_keys u)
 
-abbrev pub is_left : WorldState → ℕ → Act → Bytes → Bool
-is_left w call act key = is_asked w call key && leaves act key
+abbrev pub is_left : WorldState → ℕ → ScriptAct → Bytes → Bool
+is_left w call act key = is_being_written w call key && leaves act key
 
-abbrev pub left_keys : WorldState → ℕ → Act → List Bytes → List Bytes
+abbrev pub left_keys : WorldState → ℕ → ScriptAct → List Bytes → List Bytes
 left_keys w call act keys = filter (is_left w call act) keys
 
-abbrev pub end_of_act : WorldState → ℕ → Act → List Bytes → List WorldEvent
+abbrev pub end_of_act : WorldState → ℕ → ScriptAct → List Bytes → List WorldEvent
 end_of_act w call (Apply left) keys =
     event.Report call (left_keys w call (Apply left) keys) None ∷ []
 end_of_act w call (ApplyFail code left) keys =
@@ -143,7 +143,7 @@ end_of_act w call (ApplyLie code) keys =
 end_of_act w call Drop keys = event.Leave call ∷ []
 end_of_act w call other keys = []
 
-abbrev pub events_of_act : WorldState → ℕ → Act → List Bytes → List WorldEvent
+abbrev pub events_of_act : WorldState → ℕ → ScriptAct → List Bytes → List WorldEvent
 events_of_act w call act keys = key_events w call act keys ++ end_of_act w call act keys
 
 abbrev pub is_about_one : List WorldEvent → Bool
@@ -153,25 +153,25 @@ is_about_one (e ∷ events) = true
 -- 2. When it is the time for an act.
 
 -- an outside answer and a processor's run fit at each key that they are about, and so does a pick-up
-abbrev pub is_time : WorldState → ℕ → Act → List Bytes → List WorldEvent → Bool
+abbrev pub is_time : WorldState → ℕ → ScriptAct → List Bytes → List WorldEvent → Bool
 is_time w call Read keys events = is_about_one events
 is_time w call (ReadFail code) keys events = is_about_one events
 is_time w call (Say pairs) keys events = is_about_one events
-is_time w call (Apply left) keys events = list_any (is_asked w call) keys
-is_time w call (ApplyFail code left) keys events = list_any (is_asked w call) keys
-is_time w call (ApplyLie code) keys events = list_any (is_asked w call) keys
+is_time w call (Apply left) keys events = list_any (is_being_written w call) keys
+is_time w call (ApplyFail code left) keys events = list_any (is_being_written w call) keys
+is_time w call (ApplyLie code) keys events = list_any (is_being_written w call) keys
 is_time w call End keys events = is_about_one events && list_all (fits w) events
 is_time w call Drop keys events = list_all (fits w) events && not (list_any (is_joined w call) keys)
 is_time w call More keys events = is_about_one events && list_all (fits w) events
 is_time w call Take keys events = is_about_one events && not (list_any (is_started w call) keys)
 is_time w call (Process source calls fail) keys events = is_about_one events
 
-abbrev pub is_time_for : WorldState → ℕ → Act → CallState → Bool
+abbrev pub is_time_for : WorldState → ℕ → ScriptAct → CallState → Bool
 is_time_for w call act u =
     let keys = keys_of_act w call act u in is_time w call act keys (key_events w call act keys)
 
 -- the keys that the writer leaves
-abbrev pub has_but : Act → Bool
+abbrev pub has_but : ScriptAct → Bool
 has_but (Apply left) = is_some left
 has_but (ApplyFail code left) = is_some left
 has_but other = false
@@ -181,6 +181,6 @@ abbrev pub allows_but : CallState → Bool
 allows_but u = is_bulk u.kind
 
 -- at all keys that the loader was asked for
-abbrev pub load_code : Act → Option ℕ
+abbrev pub load_code : ScriptAct → Option ℕ
 load_code (ReadFail code) = Some code
 load_code other = None

@@ -55,8 +55,8 @@ use Rattle.jc_script.specs.declared.read.line.Line.{Line}
 use Rattle.jc_script.specs.declared.read.line.Line.TheVariants.{Open, Set, Begin, BeginBulk, OfCall, Foreign, Reopen, Audit}
 use Rattle.jc_script.specs.declared.read.line.BulkLine.{BulkLine}
 use Rattle.jc_script.specs.declared.read.line.BulkLine.TheVariants as bulk
-use Rattle.jc_script.specs.declared.read.line.Act.{Act}
-use Rattle.jc_script.specs.declared.read.line.Act.TheVariants.{Read, ReadFail, Say, Apply, ApplyFail, ApplyLie, End, Drop, More, Take, Process}
+use Rattle.jc_script.specs.declared.read.line.ScriptAct.{ScriptAct}
+use Rattle.jc_script.specs.declared.read.line.ScriptAct.TheVariants.{Read, ReadFail, Say, Apply, ApplyFail, ApplyLie, End, Drop, More, Take, Process}
 use Rattle.jc_script.specs.declared.read.commands.Bare.{Bare}
 use Rattle.jc_script.specs.declared.read.commands.Bare.TheVariants as bare
 use Rattle.jc_script.specs.declared.read.commands.Valued.{Valued}
@@ -277,7 +277,7 @@ abbrev pub number_alone : List (List ℕ) → Result ℕ Fault
 number_alone (n ∷ []) = number_of n
 number_alone words = Err BadLine
 
-abbrev pub lone_act : Lone → Act
+abbrev pub lone_act : Lone → ScriptAct
 lone_act lone.Read = Read
 lone_act lone.End = End
 lone_act lone.Drop = Drop
@@ -285,15 +285,15 @@ lone_act lone.More = More
 lone_act lone.Take = Take
 
 -- a call's number alone
-abbrev pub lone_of : Act → List (List ℕ) → Result Line Fault
+abbrev pub lone_of : ScriptAct → List (List ℕ) → Result Line Fault
 lone_of act words = number_alone words >>= λ number. Ok (OfCall number act)
 
-abbrev pub coded_act : Coded → ℕ → Act
+abbrev pub coded_act : Coded → ℕ → ScriptAct
 coded_act coded.ReadFail code = ReadFail code
 coded_act coded.ApplyLie code = ApplyLie code
 
 -- a call's number, and a code
-unfoldable pub coded_of : (ℕ → Act) → List (List ℕ) → Result Line Fault
+unfoldable pub coded_of : (ℕ → ScriptAct) → List (List ℕ) → Result Line Fault
 coded_of act (n ∷ words) = do
   shaped ← (if length words == 1 then Ok true else Err BadLine)
   number ← number_of n

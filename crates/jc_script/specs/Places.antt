@@ -13,7 +13,7 @@
 --     repeat_from, repeated_word      the first word whose key isn't new, or is none: from a word on, and of a line
 --     word_meant       the word that a fault is about: of a state the one with the number, the session or what is asked for
 --     start_from, start_of      how many bytes of a line are before a word; behind the last word one more than the line has
---     is_begin         a line begins a call
+--     begins_call      a line begins a call
 --     shape_text, what_text     what is wrong: with the shape of a line, and of any fault that is about a word
 --     quoted           the word itself
 --     not_now_hint     when a line with this first word fits
@@ -38,8 +38,8 @@ use Rattle.jc_script.specs.declared.fault.Fault.TheVariants.{CutLine, LineTooLon
 use Rattle.jc_script.specs.declared.read.place.Kind.{Kind}
 use Rattle.jc_script.specs.declared.read.place.Kind.TheVariants as kind
 use Rattle.jc_script.specs.declared.read.place.Following.{Following}
-use Rattle.jc_script.specs.declared.read.place.Search.{Search}
-use Rattle.jc_script.specs.declared.read.place.Search.TheVariants.{Shape, Content}
+use Rattle.jc_script.specs.declared.read.place.WordSearch.{WordSearch}
+use Rattle.jc_script.specs.declared.read.place.WordSearch.TheVariants.{Shape, Content}
 use Rattle.jc_script.specs.declared.run.RunEnd.{RunEnd}
 use Rattle.jc_script.specs.declared.run.RunEnd.TheVariants.{Clean, LineFault}
 use Rattle.jc_script.specs.Faults.{text_of}
@@ -74,16 +74,16 @@ is_wrong kind.Pair word = not (is_ok (pair_onto [] word))
 is_wrong kind.Entry word = not (reads_entry_word word)
 is_wrong other word = false
 
-abbrev pub is_bad : Search → Kind → List ℕ → Bool
+abbrev pub is_bad : WordSearch → Kind → List ℕ → Bool
 is_bad Shape k word = (length word == 0) || is_unknown k word
 is_bad Content k word = is_wrong k word
 
-abbrev pub bad_from : Search → List Kind → Kind → ℕ → List (List ℕ) → ℕ
+abbrev pub bad_from : WordSearch → List Kind → Kind → ℕ → List (List ℕ) → ℕ
 bad_from search kinds rest at [] = at
 bad_from search kinds rest at (word ∷ words) =
     if is_bad search (kind_in kinds rest) word then at else bad_from search (drop 1 kinds) rest (at + 1) words
 
-abbrev pub bad_among : Search → List Kind → Kind → List (List ℕ) → ℕ
+abbrev pub bad_among : WordSearch → List Kind → Kind → List (List ℕ) → ℕ
 bad_among search kinds rest words = bad_from search kinds rest 0 words
 
 abbrev pub form_in : List (List ℕ) → Result Form Fault
@@ -106,18 +106,18 @@ operation_kinds (Ok (form.Bulk name.RemoveAll)) = after_name kind.Key kind.Key k
 operation_kinds (Ok (form.Bulk name.InvokeAll)) = after_name kind.Key kind.Key kind.Key kind.Key
 operation_kinds (Err e) = after_name kind.Nothing kind.Nothing kind.Nothing kind.Nothing
 
-abbrev pub bad_after : Search → Following → List (List ℕ) → ℕ
+abbrev pub bad_after : WordSearch → Following → List (List ℕ) → ℕ
 bad_after search f words =
     bad_among search (kind.First ∷ kind.Number ∷ kind.Caller ∷ kind.Operation ∷ f.first ∷ f.second ∷ f.third ∷ []) f.rest words
 
-abbrev pub bad_in_begin : Search → List (List ℕ) → ℕ
+abbrev pub bad_in_begin : WordSearch → List (List ℕ) → ℕ
 bad_in_begin search words = bad_after search (operation_kinds (form_in words)) words
 
 abbrev pub is_lone : List ℕ → Bool
 is_lone first =
     bytes_eq first (codes "read") || bytes_eq first (codes "end") || bytes_eq first (codes "drop") || bytes_eq first (codes "more") || bytes_eq first (codes "take")
 
-abbrev pub bad_in_line : Search → List ℕ → List (List ℕ) → ℕ
+abbrev pub bad_in_line : WordSearch → List ℕ → List (List ℕ) → ℕ
 bad_in_line search first words =
     if bytes_eq first (codes "begin") then bad_in_begin search words else
     if bytes_eq first (codes "open") || bytes_eq first (codes "reopen") then
@@ -134,7 +134,7 @@ bad_in_line search first words =
     if is_lone first then bad_among search (kind.First ∷ kind.Number ∷ []) kind.Nothing words else
     bad_among search [] kind.Nothing words
 
-abbrev pub bad_word : Search → List (List ℕ) → ℕ
+abbrev pub bad_word : WordSearch → List (List ℕ) → ℕ
 bad_word search [] = 0
 bad_word search (first ∷ words) = bad_in_line search first (first ∷ words)
 
@@ -178,9 +178,9 @@ start_from left at (b ∷ bs) = if left == 0 then at else start_from (if b == 32
 abbrev pub start_of : ℕ → List ℕ → ℕ
 start_of word line = start_from word 0 line
 
-abbrev pub is_begin : List (List ℕ) → Bool
-is_begin [] = false
-is_begin (first ∷ words) = bytes_eq first (codes "begin")
+abbrev pub begins_call : List (List ℕ) → Bool
+begins_call [] = false
+begins_call (first ∷ words) = bytes_eq first (codes "begin")
 
 -- of the words from this place on
 abbrev pub shape_text : (begins : Bool) (at : ℕ) → List (List ℕ) → List ℕ
@@ -191,7 +191,7 @@ shape_text begins at (word ∷ words) =
     if begins && (at == 3) then codes "unknown operation" else codes "unexpected word"
 
 abbrev pub what_text : Fault → ℕ → List (List ℕ) → List ℕ
-what_text BadLine at words = shape_text (is_begin words) at (drop at words)
+what_text BadLine at words = shape_text (begins_call words) at (drop at words)
 what_text fault at words = text_of fault
 
 abbrev pub quoted : List (List ℕ) → List ℕ

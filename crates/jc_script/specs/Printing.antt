@@ -1,50 +1,52 @@
 -- What is printed, as bytes. A name that ends in `_line` is of one whole line, and one that ends in `_text` of a part of a line, or
 -- of a line or more or none.
 --     value_text, value_or_none_text      a value, with a tilde for the empty one; the same, with a dash for none
---     coded_text, refusal_text       a fault's name and code; a refusal's name, with the code if it has one
---     flag_text, reply_text          a yes or no; a reply
---     place_text                     a stripe, and a place in its history
---     subject                        how a line of a call's key begins: the call's number and the key
---     piece_text                     a part of a line
---     cause_name                     the word for an eviction's cause
---     evict_line, victim_text, evicted_text      an eviction; the one directly before a step, if there is one; the one of a step's
---                                    own key, if there is one
---     outcome_text                   what a call's key is, and where
---     stepped_text                   a step, with the evictions before and after it
---     picked_line                    the answer of a load that the call had joined
+--     coded_text, refusal_text               a fault's name and code; a refusal's name, with the code if it has one
+--     flag_text, reply_text                  a yes or no; a reply
+--     place_text                             a stripe, and a place in its history
+--     subject                                how a line of a call's key begins: the call's number and the key
+--     piece_text                             a part of a line
+--     cause_name                             the word for an eviction's cause
+--     evict_line, victim_text, evicted_text      an eviction; the one directly before a step, if there is one; the one of a
+--                                            step's own key, if there is one
+--     outcome_text                           what a call's key is, and where
+--     stepped_text                           a step, with the evictions before and after it
+--     picked_line                            the answer of a load that the call had joined
 --     loads_line, write_line, delete_line, asks_text      that the loader is asked; that the writer is asked to write, and to
---                                    delete; either of these two
---     process_line                   that the processor is asked, on this entry
+--                                            delete; either of these two
+--     process_line                           that the processor is asked, on this entry
 --     joined_line, waits_line, again_line      that a call has joined, that its load isn't over, that it is told to retry
 --     dropped_line, refused_line, put_off_line     that a call has left; that it was refused; that a key is to be tried again
---     refused_whole_line             that a call was refused whole
---     cause_text                     the first fault or last refusal that a call has met, or that it has met none
---     over_line                      that a call of many keys is over, with its cause
---     fails_line, fails_text         a failure's code; the same, if there is one
---     answer_line, answer_text       a value or none that a loader read or said; any answer of a loader: one that fails says nothing
---                                    of its key
---     done_name, change_name         the word for a change that was made; the same, or that for one that wasn't
+--     refused_whole_line                     that a call was refused whole
+--     cause_text                             the first fault or last refusal that a call has met, or that it has met none
+--     over_line                              that a call of many keys is over, with its cause
+--     fails_line, fails_text                 a failure's code; the same, if there is one
+--     answer_line, answer_text               a value or none that a loader read or said; any answer of a loader: one that fails
+--                                            says nothing of its key
+--     done_name, change_name                 the word for a change that was made; the same, or that for one that wasn't
 --     reported_line, reported_text, returned_text      a key for which a writer returns; all of them, and its fault
---     got_line, exists_line          what a processor's `getValue` gave, and its `exists`
---     load_verb                      the word for a processor's loader
---     answers_text                   what a processor's calls were answered, with the line of its load before the first value
---     ready_line, due_text           that a processor has ended and no writer is asked; the same, or what the writer is asked for
---     processed_text, process_text   a processor's run; what is printed of it, from its outcome
---     shown_text                     what is printed of an outcome, for a call and a key
---     begun_text                     what is printed of the beginning of a call: nothing, unless it is refused whole
---     left_text                      a call that is given up
---     foreign_line                   a write or a delete of somebody else
---     key_text, keys_line            a key after a space; a word, and after it keys
---     reopened_text                  that the cache was opened again, with the keys that were dropped
---     told                           what is printed of an event, from its outcome
---     end_text                       that a call of many keys is over, and with which cause, if one is
---     event_text                     what is printed of an event, from what the world showed of it
---     texts                          the same of events one after another
---     entry_text, entries_line       an entry, and a line of entries, in an audit
---     coherence_text                 the keys that differ, or that there is none
---     legal_name, history_line       whether the history is legal; the same after the number of its events
---     audit_text                     what is printed of an audit
---     fault_line                     the line that ends a transcript
+--     got_line, exists_line                  what a processor's `getValue` gave, and its `exists`
+--     load_verb                              the word for a processor's loader
+--     answers_text                           what a processor's calls were answered, with the line of its load before the first
+--                                            value
+--     ready_line, due_text                   that a processor has ended and no writer is asked; the same, or what the writer is
+--                                            asked for
+--     processed_text, process_outcome_text   a processor's run; what is printed of it, from its outcome
+--     shown_text                             what is printed of an outcome, for a call and a key
+--     begun_text                             what is printed of the beginning of a call: nothing, unless it is refused whole
+--     left_text                              a call that is given up
+--     foreign_line                           a write or a delete of somebody else
+--     key_text, keys_line                    a key after a space; a word, and after it keys
+--     reopened_text                          that the cache was opened again, with the keys that were dropped
+--     told                                   what is printed of an event, from its outcome
+--     end_text                               that a call of many keys is over, and with which cause, if one is
+--     event_text                             what is printed of an event, from what the world showed of it
+--     texts                                  the same of events one after another
+--     entry_text, entries_line               an entry, and a line of entries, in an audit
+--     coherence_text                         the keys that differ, or that there is none
+--     legal_name, history_line               whether the history is legal; the same after the number of its events
+--     audit_text                             what is printed of an audit
+--     fault_line                             the line that ends a transcript
 use Rattle.std.specs.Prelude.{◌==◌, ℕ, ◌-◌, List, [], ◌∷◌, ◌++◌, length, codes, decimal, Bool, true, false, Option, None, Some, if◌then◌else◌}
 use Rattle.std.specs.List.{flat_map}
 use Rattle.jc_types.specs.declared.refusal.Refusal.{Refusal}
@@ -74,7 +76,7 @@ use Rattle.jc_world.specs.declared.reports.Reported.{Reported}
 use Rattle.jc_world.specs.declared.reports.ReportedKey.{ReportedKey}
 use Rattle.jc_world.specs.declared.process.LoadSource.{LoadSource}
 use Rattle.jc_world.specs.declared.process.LoadSource.TheVariants.{Store, Stated, Failing}
-use Rattle.jc_world.specs.declared.process.Processed.{Processed}
+use Rattle.jc_world.specs.declared.process.ShownRun.{ShownRun}
 use Rattle.jc_script.specs.declared.fault.Fault.{Fault}
 use Rattle.jc_script.specs.declared.print.Piece.{Piece}
 use Rattle.jc_script.specs.declared.print.Piece.TheVariants as piece
@@ -280,7 +282,7 @@ abbrev pub due_text : ℕ → Bytes → Option Change → List ℕ
 due_text call key None = ready_line call key
 due_text call key (Some change) = asks_text call key change
 
-unfoldable pub processed_text : ℕ → Bytes → List ℕ → Processed → List ℕ
+unfoldable pub processed_text : ℕ → Bytes → List ℕ → ShownRun → List ℕ
 processed_text call key verb seen =
     answers_text call (answer_text call key verb seen.load) seen.answers ++ fails_text call seen.fault ++ due_text call key seen.change
 
@@ -309,9 +311,9 @@ shown_text call key (outcome.Reopened keys) = []
 shown_text call key outcome.Unfit = []
 
 -- a run is printed with the word for its loader
-abbrev pub process_text : ℕ → Bytes → LoadSource → Outcome → List ℕ
-process_text call key source (outcome.Processed seen) = processed_text call key (load_verb source) seen
-process_text call key source seen = shown_text call key seen
+abbrev pub process_outcome_text : ℕ → Bytes → LoadSource → Outcome → List ℕ
+process_outcome_text call key source (outcome.Processed seen) = processed_text call key (load_verb source) seen
+process_outcome_text call key source seen = shown_text call key seen
 
 -- 3. What is printed of events.
 
@@ -349,7 +351,7 @@ told (event.Read call key) seen = shown_text call key seen
 told (event.Say call key answer) seen = shown_text call key seen
 told (event.Change call key) seen = shown_text call key seen
 told (event.Report call left fault) seen = returned_text call seen
-told (event.Process call key source calls fail) seen = process_text call key source seen
+told (event.Process call key source calls fail) seen = process_outcome_text call key source seen
 told (event.Commit call key) seen = shown_text call key seen
 told (event.Withdraw call key) seen = shown_text call key seen
 told (event.Leave call) seen = left_text call seen

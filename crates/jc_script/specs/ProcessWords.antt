@@ -1,7 +1,7 @@
 -- The words of a `process` line, after the call's number: how the loader answers, the processor's calls, and a code.
 --     Calls                     the calls of a processor so far, and the code with which it fails, if the line has one
 --     begins_with               a word begins with this text
---     is_load_word, is_call, is_fail
+--     is_load_word, is_call_word, is_fail
 --                               a word says how the loader answers; it is a call on the entry; it says that the processor fails
 --     are_calls_from, are_calls     no word but calls, and at the end a failure; the same, whether the end has come or not
 --     without_load              the words after the one for the loader, if there is one
@@ -34,15 +34,15 @@ begins_with text word = bytes_eq (take (length text) word) text
 abbrev pub is_load_word : List ℕ → Bool
 is_load_word word = begins_with (codes "loadfail=") word || begins_with (codes "loadsay=") word
 
-abbrev pub is_call : List ℕ → Bool
-is_call word = bytes_eq word (codes "get") || bytes_eq word (codes "exists") || bytes_eq word (codes "remove") || begins_with (codes "set=") word
+abbrev pub is_call_word : List ℕ → Bool
+is_call_word word = bytes_eq word (codes "get") || bytes_eq word (codes "exists") || bytes_eq word (codes "remove") || begins_with (codes "set=") word
 
 abbrev pub is_fail : List ℕ → Bool
 is_fail word = begins_with (codes "fail=") word
 
 abbrev pub are_calls_from : Bool → List (List ℕ) → Bool
 are_calls_from ended [] = true
-are_calls_from ended (word ∷ words) = not ended && (is_call word || is_fail word) && are_calls_from (is_fail word) words
+are_calls_from ended (word ∷ words) = not ended && (is_call_word word || is_fail word) && are_calls_from (is_fail word) words
 
 abbrev pub are_calls : List (List ℕ) → Bool
 are_calls words = are_calls_from false words
@@ -77,7 +77,7 @@ with_word calls fail word =
     (call_of word >>= λ call. Ok (calls ++ call ∷ [], fail))
 
 abbrev pub is_entry_word : List ℕ → Bool
-is_entry_word word = is_load_word word || is_call word || is_fail word
+is_entry_word word = is_load_word word || is_call_word word || is_fail word
 
 -- a word of that shape
 abbrev pub reads_entry_word : List ℕ → Bool

@@ -8,7 +8,7 @@
 --     LinesStayReached     a line without a fault leads on so from each world that is reached
 --     LeadThrough          lines one after another, none of which has a fault: each leads on so, from the world that those before
 --                          it leave
---     EndsAt               how a script ends at a line: it has a fault, or it is the last piece
+--     EndsAtLine           how a script ends at a line: it has a fault, or it is the last piece
 --     LeadsToEnd           pieces of a script: the lines before that at which it ends lead on so, and the others aren't played
 --     TranscriptsStayReached      so it is with each transcript
 use Rattle.std.specs.Prelude.{◌≡◌, ◌⊎◌, ◌+◌, ℕ, List, [], ◌∷◌, ◌++◌, length, codes, true, None, Some}
@@ -67,10 +67,10 @@ LeadThrough events seen old (line ∷ lines) out new =
     × (out ≡ text ++ rest)
 
 -- at the first of these pieces, whose line has this number
-abbrev pub EndsAt : OpenedWorld → ℕ → List (List ℕ) → List ℕ → RunEnd → Type 0
-EndsAt w n [] out end = ⊥
-EndsAt w n (last ∷ []) out end = EndsScript n last out end
-EndsAt w n (line ∷ next ∷ more) out end =
+abbrev pub EndsAtLine : OpenedWorld → ℕ → List (List ℕ) → List ℕ → RunEnd → Type 0
+EndsAtLine w n [] out end = ⊥
+EndsAtLine w n (last ∷ []) out end = EndsScript n last out end
+EndsAtLine w n (line ∷ next ∷ more) out end =
     (fault : Fault) × (fault_of w line ≡ Some fault) × (out ≡ fault_line n fault) × (end ≡ LineFault n)
 
 -- from a world that these events have reached, and the line with this number
@@ -82,7 +82,7 @@ pub record LeadsToEnd (events : List WorldEvent) (seen : List Shown) (old : Open
   pub new : OpenedWorld
   pub pieces_are : pieces ≡ lines ++ others
   pub leads : LeadThrough events seen old lines printed new
-  pub ends : EndsAt new (n + length lines) others last end
+  pub ends : EndsAtLine new (n + length lines) others last end
   pub out_is : out ≡ printed ++ last
 
 abbrev pub TranscriptsStayReached : Type 0

@@ -1,7 +1,7 @@
 -- Runs: from what a reader gives to what a writer takes.
---     ReadsAll     all the bytes of a reader were taken, and they are these, within the limit
---     Ran          the input was read to its end, its transcript written, and what is said of its end told
---     Broke        the same, up to a write that failed
+--     ReadsAll           all the bytes of a reader were taken, and they are these, within the limit
+--     RunsScript         the input was read to its end, its transcript written, and what is said of its end told
+--     BreaksOffScript    the same, up to a write that failed
 use Rattle.std.specs.Prelude.{◌≤◌, ℕ, List, take, length, Option}
 use Rattle.std.specs.Io.KnownBytes.{Appends, Consumes, IsAtEnd}
 use Rattle.jc_script.specs.declared.run.RunEnd.{RunEnd}
@@ -14,7 +14,7 @@ pub record ReadsAll (before after : Option (List ℕ)) (input : List ℕ) : Type
   pub at_end : IsAtEnd after
   pub fits : length input ≤ SCRIPT_MAX
 
-pub record Ran (before after old new : Option (List ℕ)) (old_told told : List ℕ) (end : RunEnd) : Type 0 where
+pub record RunsScript (before after old new : Option (List ℕ)) (old_told told : List ℕ) (end : RunEnd) : Type 0 where
   pub input : List ℕ
   pub read : ReadsAll before after input
   pub out : List ℕ
@@ -22,7 +22,7 @@ pub record Ran (before after old new : Option (List ℕ)) (old_told told : List 
   pub written : Appends old new out
   pub explained : Explains input out old_told told end
 
-pub record Broke (before after old new : Option (List ℕ)) : Type 0 where
+pub record BreaksOffScript (before after old new : Option (List ℕ)) : Type 0 where
   pub input : List ℕ
   pub read : ReadsAll before after input
   pub out : List ℕ

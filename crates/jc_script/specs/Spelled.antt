@@ -40,8 +40,8 @@ use Rattle.jc_script.specs.declared.read.line.Line.{Line}
 use Rattle.jc_script.specs.declared.read.line.Line.TheVariants.{Open, Set, Begin, BeginBulk, OfCall, Foreign, Reopen, Audit}
 use Rattle.jc_script.specs.declared.read.line.BulkLine.{BulkLine}
 use Rattle.jc_script.specs.declared.read.line.BulkLine.TheVariants as bulk
-use Rattle.jc_script.specs.declared.read.line.Act.{Act}
-use Rattle.jc_script.specs.declared.read.line.Act.TheVariants.{Read, ReadFail, Say, Apply, ApplyFail, ApplyLie, End, Drop, More, Take, Process}
+use Rattle.jc_script.specs.declared.read.line.ScriptAct.{ScriptAct}
+use Rattle.jc_script.specs.declared.read.line.ScriptAct.TheVariants.{Read, ReadFail, Say, Apply, ApplyFail, ApplyLie, End, Drop, More, Take, Process}
 use Rattle.jc_model.specs.declared.processor.EntryCall.{EntryCall}
 use Rattle.jc_model.specs.declared.processor.EntryCall.TheVariants as entry
 use Rattle.jc_world.specs.declared.process.LoadSource.{LoadSource}
@@ -121,7 +121,7 @@ abbrev pub left_words : Option (List Bytes) → List Bytes
 left_words None = []
 left_words (Some left) = codes "but" ∷ left
 
-abbrev pub act_words : ℕ → Act → List Bytes
+abbrev pub act_words : ℕ → ScriptAct → List Bytes
 act_words call Read = codes "read" ∷ decimal call ∷ []
 act_words call (ReadFail code) = codes "readfail" ∷ decimal call ∷ decimal code ∷ []
 act_words call (Say pairs) = codes "say" ∷ decimal call ∷ map pair_text pairs
@@ -191,7 +191,7 @@ abbrev pub AreLeftKeys : ℕ → Option (List Bytes) → Type 0
 AreLeftKeys least None = Unit {0}
 AreLeftKeys least (Some left) = AreKeyWords least left
 
-abbrev pub IsAct : Act → Type 0
+abbrev pub IsAct : ScriptAct → Type 0
 IsAct Read = Unit {0}
 IsAct (ReadFail code) = IsNumber code
 IsAct (Say pairs) = All IsPair pairs

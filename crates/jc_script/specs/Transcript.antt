@@ -36,7 +36,7 @@ use Rattle.jc_script.specs.declared.fault.Fault.TheVariants.{CutLine}
 use Rattle.jc_script.specs.declared.read.line.Line.{Line}
 use Rattle.jc_script.specs.declared.read.line.Line.TheVariants.{Open, Set, Begin, BeginBulk, OfCall, Foreign, Reopen, Audit}
 use Rattle.jc_script.specs.declared.read.line.BulkLine.{BulkLine}
-use Rattle.jc_script.specs.declared.read.line.Act.{Act}
+use Rattle.jc_script.specs.declared.read.line.ScriptAct.{ScriptAct}
 use Rattle.jc_script.specs.declared.run.RunEnd.{RunEnd}
 use Rattle.jc_script.specs.declared.run.RunEnd.TheVariants.{Clean, LineFault}
 use Rattle.jc_script.specs.Lines.{read_line}
@@ -85,7 +85,7 @@ PlaysBulk w number session call text new =
     × PlaysBegin w number session command text new
 
 -- a failed load is said once
-abbrev pub PlaysAct : WorldState → ℕ → Act → Option CallState → List ℕ → OpenedWorld → Type 0
+abbrev pub PlaysAct : WorldState → ℕ → ScriptAct → Option CallState → List ℕ → OpenedWorld → Type 0
 PlaysAct w number act None text new = ⊥
 PlaysAct w number act (Some u) text new =
     PlaysCall w number (events_of_act w number act (keys_of_act w number act u)) (load_code act) text new

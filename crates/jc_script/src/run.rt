@@ -3,7 +3,7 @@ ghost use Rattle.std.specs.Prelude.{◌≡◌, ◌≢◌, ◌↔◌, true, false
 ghost use Rattle.std.specs.Prelude.{IfErr, IfSome, MatchOption};
 ghost use Rattle.jc_script.specs.Transcript.{pieces_of, IsTranscript};
 ghost use Rattle.jc_script.specs.Places.{Explains};
-ghost use Rattle.jc_script.specs.Running.{Ran, Broke};
+ghost use Rattle.jc_script.specs.Running.{RunsScript, BreaksOffScript};
 
 use crate::fault::Fault;
 use crate::input::{InputFault, read_all, write_out};
@@ -123,10 +123,10 @@ pub fn run<R: Read, W: Write>(
     told: &mut Vec<u8>,
 ) -> Result<RunEnd, RunFault>
     // What was written is the transcript of what was read, and what was told says where its fault is.
-    ensures ran { IfOk result (λ end. Ran (R.remaining reader.old.inner) (R.remaining reader.new.inner) (W.contents writer.old.inner)
+    ensures ran { IfOk result (λ end. RunsScript (R.remaining reader.old.inner) (R.remaining reader.new.inner) (W.contents writer.old.inner)
         (W.contents writer.new.inner) told.old.items told.new.items end) }
     // After a failed write, a prefix of it.
-    ensures broke { result ≡ Err RunFault.Write → Broke (R.remaining reader.old.inner) (R.remaining reader.new.inner) (W.contents writer.old.inner) (W.contents writer.new.inner) }
+    ensures broke { result ≡ Err RunFault.Write → BreaksOffScript (R.remaining reader.old.inner) (R.remaining reader.new.inner) (W.contents writer.old.inner) (W.contents writer.new.inner) }
     // Any other fault writes nothing.
     ensures silent { IfErr result (λ e. e ≢ RunFault.Write → writer.new ≡ writer.old) }
     // A script is too long only over the limit.

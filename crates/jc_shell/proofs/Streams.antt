@@ -1,7 +1,7 @@
 -- What was read, answered and written, one part after another.
-use Rattle.jc_shell.proofs.Common.{◌≡◌, ◌≤◌, ◌-◌, ◌+◌, ℕ, List, [], ◌∷◌, ◌++◌, length, take, drop, Option, None, Some, Result, Ok, Err, OnOk, IfErr, inl, inr, ◌⊎◌, false, refl, sym, ap, ◌∙◌, append_assoc, append-nil, arith, drop-append_seam, take-append-add, take-length, flat_map-append, length-append, take-append-le, Appends, Consumes, IsAtEnd, codes, Read, TooLong, OutOfMemory, Write, OpenedWorld, Holds, Saved, Saves, Accepted, Answers, AreAnswered, has_feed, nobody, script_of, appends-then}
+use Rattle.jc_shell.proofs.Common.{◌≡◌, ◌≤◌, ◌-◌, ◌+◌, ℕ, List, [], ◌∷◌, ◌++◌, length, take, drop, Option, None, Some, Result, Ok, Err, OnOk, IfErr, inl, inr, ◌⊎◌, false, refl, sym, ap, ◌∙◌, append_assoc, append-nil, arith, drop-append_seam, take-append-add, take-length, flat_map-append, length-append, take-append-le, Appends, Consumes, IsAtEnd, codes, Read, TooLong, OutOfMemory, Write, OpenedWorld, Holds, Saved, Saves, Accepted, AnswersLine, AreAnswered, has_feed, nobody, script_of, appends-then}
 use Rattle.jc_shell.specs.declared.run.ShellFault.{ShellFault}
-use Rattle.jc_shell.specs.Running.{Ends, LastText, Ran, Stopped, WrittenBy}
+use Rattle.jc_shell.specs.Running.{EndsDialogue, LastText, RunsDialogue, Stopped, WrittenBy}
 use Rattle.jc_shell.proofs.Turns.{saves_none, saves_then, script_more}
 
 -- ---- lines after lines
@@ -23,7 +23,7 @@ answered_then prompt (l ∷ ls) ms o p s t a b c (answer, rest, now, later, d, w
 )
 
 pub answered_one : (prompt : List ℕ) (a : Accepted) (line answer : List ℕ) (saved : List Saved) (b : Accepted)
-    → has_feed line ≡ false → Answers a line answer saved b → AreAnswered prompt a (line ∷ []) (answer ++ prompt) saved b
+    → has_feed line ≡ false → AnswersLine a line answer saved b → AreAnswered prompt a (line ∷ []) (answer ++ prompt) saved b
 answered_one prompt a line answer saved b whole answers =
     (answer, [], saved, [], b, whole, answers, (refl, refl, refl), sym (append-nil (answer ++ prompt)), sym (append-nil saved))
 
@@ -153,7 +153,7 @@ pub ran_quit : (prompt : List ℕ) (before after later old new newer : Option (L
     → Consumes after later bytes → grown ≡ input ++ bytes
     → AreAnswered prompt t.b lines answers more c → drop at grown ≡ script_of lines ++ rest → Appends new newer answers → Saves saved latest more
     → rest ≡ codes "quit" ++ 10 ∷ others
-    → Ran prompt before later old newer kept latest
+    → RunsDialogue prompt before later old newer kept latest
 ran_quit prompt before after later old new newer kept saved latest input bytes grown at script count world lines answers more rest others c t read is are cut app sv quit =
     let all = read_then grown (drop at grown) rest t.lines lines (all_of (script_of t.lines) t.rest bytes input grown at t.input_is t.at_is is) cut in
     let taken = consumes_then before after later input bytes t.read read in
@@ -176,7 +176,7 @@ pub ran_out : (prompt : List ℕ) (before after later old new newer : Option (Li
     → (t : Talked prompt before after old new kept saved input at script count world)
     → Consumes after later bytes → grown ≡ input ++ bytes → bytes ≡ [] → IsAtEnd later
     → LastText prompt t.b (drop at grown) text → Appends new newer text
-    → Ran prompt before later old newer kept saved
+    → RunsDialogue prompt before later old newer kept saved
 ran_out prompt before after later old new newer kept saved input bytes grown at script count world text t read is none at_end last app =
     let here = rest_at (script_of t.lines) t.rest bytes input grown at t.input_is t.at_is is ∙ ap (λ (xs : List ℕ). t.rest ++ xs) none ∙ append-nil t.rest in
     let all = is ∙ ap (λ (xs : List ℕ). input ++ xs) none ∙ append-nil input ∙ t.input_is in
@@ -287,6 +287,6 @@ stopped_ending prompt e before after later old new newer kept saved input bytes 
     here : drop at grown ≡ t.rest
     here = rest_at (script_of t.lines) t.rest bytes input grown at t.input_is t.at_is is ∙ ap (λ (xs : List ℕ). t.rest ++ xs) none ∙ append-nil t.rest
 
-    ending : (text ≡ []) ⊎ ((e ≡ Write) × LastText prompt t.b (drop at grown) text) → (text ≡ []) ⊎ ((e ≡ Write) × Ends prompt t.b t.rest text later)
+    ending : (text ≡ []) ⊎ ((e ≡ Write) × LastText prompt t.b (drop at grown) text) → (text ≡ []) ⊎ ((e ≡ Write) × EndsDialogue prompt t.b t.rest text later)
     ending (inl none_said) = inl none_said
     ending (inr (write, last)) = inr (write, inr (t.whole, rw here at last, at_end))

@@ -1,5 +1,5 @@
 -- Sessions: what is answered keeps to the transcript of the accepted lines.
-use Rattle.jc_shell.proofs.Common.{◌≡◌, ℕ, ◌+◌, Bool, true, cond, take, Option, List, [], ◌∷◌, ◌++◌, length, None, Some, false, refl, sym, ap, ◌∙◌, append_assoc, append-nil, inl, inr, flat_map-append, codes, word_of, length-append, OpenedWorld, Prints, IsTranscript, fault_of, Fault, Clean, LineFault, complaint, fault_line, Help, Quit, Save, Line, GoesOn, Holds, Saved, Saves, Accepted, AnswersWord, AreAnswered, IsPlayed, IsTold, has_feed, next_number, nobody, script_of, with_line}
+use Rattle.jc_shell.proofs.Common.{◌≡◌, ℕ, ◌+◌, Bool, true, cond, take, Option, List, [], ◌∷◌, ◌++◌, length, None, Some, false, refl, sym, ap, ◌∙◌, append_assoc, append-nil, inl, inr, flat_map-append, codes, word_of, length-append, OpenedWorld, Prints, IsTranscript, fault_of, Fault, Clean, LineFault, complaint, fault_line, Help, Quit, Save, Line, PlaysOn, Holds, Saved, Saves, Accepted, AnswersWord, AreAnswered, IsLineAccepted, IsLineRejected, has_feed, next_line_number, nobody, script_of, with_accepted}
 use Rattle.std.proofs.lemmas.Slice.Eq.{bytes_eq-Decides}
 use Rattle.std.specs.Str.{bytes_eq}
 use Rattle.jc_shell.specs.declared.words.Word.{Word}
@@ -41,32 +41,32 @@ script_end lines line = sym (append-nil (script_of (lines ++ line ∷ []))) ∙ 
 count_more : (lines : List (List ℕ)) (line : List ℕ) → length (lines ++ line ∷ []) ≡ length lines + 1
 count_more lines line = length-append lines (line ∷ [])
 
-pub goes_on_after : (a : Accepted) (old new : OpenedWorld) (line text : List ℕ) → has_feed line ≡ false → GoesOn a old → Prints old line text new
-    → GoesOn (with_line a line text) new
+pub goes_on_after : (a : Accepted) (old new : OpenedWorld) (line text : List ℕ) → has_feed line ≡ false → PlaysOn a old → Prints old line text new
+    → PlaysOn (with_accepted a line text) new
 goes_on_after a old new line text whole goes prints = λ rest out end t.
     let t' = rw (count_more a.lines line) at t in
     rw (script_more a.lines line rest, append_assoc a.shown text out)
-    (goes (line ++ 10 ∷ rest) (text ++ out) end (at_line old new (next_number a) line rest text out end whole prints t'))
+    (goes (line ++ 10 ∷ rest) (text ++ out) end (at_line old new (next_line_number a) line rest text out end whole prints t'))
 
 -- nothing more is the transcript so far
-pub shown_of : (a : Accepted) (world : OpenedWorld) → GoesOn a world → IsShown a
+pub shown_of : (a : Accepted) (world : OpenedWorld) → PlaysOn a world → IsShown a
 shown_of a world goes = rw (← append-nil (script_of a.lines), ← append-nil a.shown) (goes [] [] Clean (refl, refl))
 
-pub played : (a : Accepted) (old new : OpenedWorld) (line text : List ℕ) → has_feed line ≡ false → GoesOn a old → Prints old line text new
-    → IsPlayed a line text (with_line a line text)
-played a old new line text whole goes prints = (refl, shown_of (with_line a line text) new (goes_on_after a old new line text whole goes prints))
+pub played : (a : Accepted) (old new : OpenedWorld) (line text : List ℕ) → has_feed line ≡ false → PlaysOn a old → Prints old line text new
+    → IsLineAccepted a line text (with_accepted a line text)
+played a old new line text whole goes prints = (refl, shown_of (with_accepted a line text) new (goes_on_after a old new line text whole goes prints))
 
-pub told : (a : Accepted) (old : OpenedWorld) (line : List ℕ) (f : Fault) → has_feed line ≡ false → GoesOn a old → fault_of old line ≡ Some f
-    → IsTold a line (complaint (next_number a) line f) a
+pub told : (a : Accepted) (old : OpenedWorld) (line : List ℕ) (f : Fault) → has_feed line ≡ false → PlaysOn a old → fault_of old line ≡ Some f
+    → IsLineRejected a line (complaint (next_line_number a) line f) a
 told a old line f whole goes fault =
-    let n = next_number a in
+    let n = next_line_number a in
     let at = goes (line ++ 10 ∷ []) (fault_line n f) (LineFault n) (at_fault old n line [] f whole fault) in
     (refl, (f, rw (← append-nil (script_of (a.lines ++ line ∷ [])), script_more a.lines line []) at, refl))
 
 -- ---- what a session has at hand
 
 pub kept : (a : Accepted) (old new : OpenedWorld) (line text script more : List ℕ) (count next : ℕ) → has_feed line ≡ false → Holds a script count old
-    → Prints old line text new → more ≡ script ++ (line ++ 10 ∷ []) → next ≡ count + 1 → Holds (with_line a line text) more next new
+    → Prints old line text new → more ≡ script ++ (line ++ 10 ∷ []) → next ≡ count + 1 → Holds (with_accepted a line text) more next new
 kept a old new line text script more count next whole h prints e n = record {
   script_is = e ∙ ap (λ (s : List ℕ). s ++ (line ++ 10 ∷ [])) h.script_is ∙ sym (script_end a.lines line);
   lines_is = n ∙ ap (λ (k : ℕ). k + 1) h.lines_is ∙ sym (count_more a.lines line);

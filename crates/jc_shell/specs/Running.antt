@@ -1,12 +1,13 @@
 -- Sessions over streams, from the bytes of a reader to the bytes of a writer.
---     prompt_end   a line feed, which ends the line of a prompt after which nothing was typed; none without prompts
---     cut_text     the text for the bytes after the last line feed: nothing if there are none, otherwise that the input cuts a line
---     LastText     both of them, at the end of the input
---     Ends         the end of a session: at a line `quit`, or at the end of the input, with such a text
---     WrittenBy    the part of a text that was written by an error: all of it, or a prefix if it was the writer's
---     Ran          the input was read up to the session's end, each line of it was answered, and all scripts to be saved were
---                  saved
---     Stopped      the same up to an error: the bytes that were read, and those of its lines that were answered
+--     prompt_end     a line feed, which ends the line of a prompt after which nothing was typed; none without prompts
+--     cut_text       the text for the bytes after the last line feed: nothing if there are none, otherwise that the input cuts a
+--                    line
+--     LastText       both of them, at the end of the input
+--     EndsDialogue   the end of a session: at a line `quit`, or at the end of the input, with such a text
+--     WrittenBy      the part of a text that was written by an error: all of it, or a prefix if it was the writer's
+--     RunsDialogue   the input was read up to the session's end, each line of it was answered, and all scripts to be saved were
+--                    saved
+--     Stopped        the same up to an error: the bytes that were read, and those of its lines that were answered
 use Rattle.std.specs.Prelude.{◌≡◌, ◌≤◌, ◌⊎◌, ℕ, List, [], ◌∷◌, ◌++◌, codes, false, length, take, Option}
 use Rattle.std.specs.Io.KnownBytes.{Appends, Consumes, IsAtEnd}
 use Rattle.jc_script.specs.declared.fault.Fault.TheVariants.{CutLine}
@@ -14,7 +15,7 @@ use Rattle.jc_script.specs.Places.{complaint}
 use Rattle.jc_shell.specs.declared.run.ShellFault.{ShellFault}
 use Rattle.jc_shell.specs.declared.run.ShellFault.TheVariants.{Write}
 use Rattle.jc_shell.specs.Saving.{Saved, Saves}
-use Rattle.jc_shell.specs.Sessions.{Accepted, AreAnswered, has_feed, next_number, nobody, script_of}
+use Rattle.jc_shell.specs.Sessions.{Accepted, AreAnswered, has_feed, next_line_number, nobody, script_of}
 
 abbrev pub prompt_end : (prompt : List ℕ) → List ℕ
 prompt_end [] = []
@@ -25,11 +26,11 @@ cut_text number [] = []
 cut_text number (b ∷ bs) = complaint number (b ∷ bs) CutLine
 
 abbrev pub LastText : (prompt : List ℕ) → Accepted → (last text : List ℕ) → Type 0
-LastText prompt a last text = text ≡ prompt_end prompt ++ cut_text (next_number a) last
+LastText prompt a last text = text ≡ prompt_end prompt ++ cut_text (next_line_number a) last
 
 -- after: the bytes that the reader has left; rest: those that were read and aren't answered
-abbrev pub Ends : (prompt : List ℕ) → Accepted → (rest text : List ℕ) (after : Option (List ℕ)) → Type 0
-Ends prompt a rest text after =
+abbrev pub EndsDialogue : (prompt : List ℕ) → Accepted → (rest text : List ℕ) (after : Option (List ℕ)) → Type 0
+EndsDialogue prompt a rest text after =
     ((text ≡ []) × ((others : List ℕ) × (rest ≡ codes "quit" ++ 10 ∷ others)))
     ⊎ ((has_feed rest ≡ false) × LastText prompt a rest text × IsAtEnd after)
 
@@ -38,7 +39,7 @@ WrittenBy Write said written = (count : ℕ) × (count ≤ length said) × (writ
 WrittenBy fault said written = written ≡ said
 
 -- before and after: the bytes that the reader has left; old and new: those that the writer has; kept and saved: the saved scripts
-pub record Ran (prompt : List ℕ) (before after old new : Option (List ℕ)) (kept saved : Option (List Saved)) : Type 0 where
+pub record RunsDialogue (prompt : List ℕ) (before after old new : Option (List ℕ)) (kept saved : Option (List Saved)) : Type 0 where
   pub lines : List (List ℕ)
   pub rest : List ℕ
   pub answers : List ℕ
@@ -47,7 +48,7 @@ pub record Ran (prompt : List ℕ) (before after old new : Option (List ℕ)) (k
   pub accepted : Accepted
   pub read : Consumes before after (script_of lines ++ rest)
   pub answered : AreAnswered prompt nobody lines answers more accepted
-  pub ends : Ends prompt accepted rest text after
+  pub ends : EndsDialogue prompt accepted rest text after
   pub written : Appends old new ((prompt ++ answers) ++ text)
   pub saves : Saves kept saved more
 
@@ -61,7 +62,7 @@ pub record Stopped (prompt : List ℕ) (fault : ShellFault) (before after old ne
   pub accepted : Accepted
   pub read : Consumes before after (script_of lines ++ rest)
   pub answered : AreAnswered prompt nobody lines answers more accepted
-  pub ends : (text ≡ []) ⊎ ((fault ≡ Write) × Ends prompt accepted rest text after)
+  pub ends : (text ≡ []) ⊎ ((fault ≡ Write) × EndsDialogue prompt accepted rest text after)
   pub part : WrittenBy fault ((prompt ++ answers) ++ text) out
   pub written : Appends old new out
   pub saves : Saves kept saved more

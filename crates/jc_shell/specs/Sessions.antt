@@ -3,15 +3,15 @@
 --     has_feed               bytes have a line feed, so they are no line
 --     Accepted               the lines that were accepted so far, and the answers to them
 --     nobody                 nothing was typed yet
---     next_number            the number that the next line has in the script of the accepted ones
---     with_line              one more line was accepted, with its answer
---     IsPlayed               the line has no fault: the answers to the accepted lines and to it are the transcript of their
+--     next_line_number       the number that the next line has in the script of the accepted ones
+--     with_accepted          one more line was accepted, with its answer
+--     IsLineAccepted         the line has no fault: the answers to the accepted lines and to it are the transcript of their
 --                            script
---     IsTold                 the line has a fault: the transcript of the accepted lines and this one ends with the fault, the
+--     IsLineRejected         the line has a fault: the transcript of the accepted lines and this one ends with the fault, the
 --                            answer tells it as the run of that script does, and the line isn't accepted
 --     IsSaved                a script was saved under a name, and the answer says so; or it wasn't, and the answer says why
 --     AnswersWord            the answer to a line, by what it asks for
---     Answers                the answer to a line, by the line alone
+--     AnswersLine            the answer to a line, by the line alone
 --     AreAnswered            lines one after another, each with its answer, and the prompt after that
 --     TranscriptsAreShown    whatever is typed, the answers to the accepted lines are the transcript of their script
 use Rattle.std.specs.Prelude.{◌≡◌, ◌⊎◌, ◌==◌, ◌+◌, ℕ, List, [], ◌∷◌, ◌++◌, length, Bool, false}
@@ -41,26 +41,26 @@ pub record Accepted : Type 0 where
 abbrev pub nobody : Accepted
 nobody = record { lines = []; shown = [] }
 
-abbrev pub next_number : Accepted → ℕ
-next_number a = length a.lines + 1
+abbrev pub next_line_number : Accepted → ℕ
+next_line_number a = length a.lines + 1
 
-abbrev pub with_line : Accepted → (line answer : List ℕ) → Accepted
-with_line a line answer = record { lines = a.lines ++ line ∷ []; shown = a.shown ++ answer }
+abbrev pub with_accepted : Accepted → (line answer : List ℕ) → Accepted
+with_accepted a line answer = record { lines = a.lines ++ line ∷ []; shown = a.shown ++ answer }
 
 -- 2. The answer to a line.
 
 -- a: the accepted lines before it; b: those after it
-abbrev pub IsPlayed : (a : Accepted) (line answer : List ℕ) (b : Accepted) → Type 0
-IsPlayed a line answer b =
-    (b ≡ with_line a line answer)
+abbrev pub IsLineAccepted : (a : Accepted) (line answer : List ℕ) (b : Accepted) → Type 0
+IsLineAccepted a line answer b =
+    (b ≡ with_accepted a line answer)
     × IsTranscript (script_of (a.lines ++ line ∷ [])) (a.shown ++ answer) Clean
 
-abbrev pub IsTold : (a : Accepted) (line answer : List ℕ) (b : Accepted) → Type 0
-IsTold a line answer b =
+abbrev pub IsLineRejected : (a : Accepted) (line answer : List ℕ) (b : Accepted) → Type 0
+IsLineRejected a line answer b =
     (b ≡ a)
     × ((fault : Fault)
-    × IsTranscript (script_of (a.lines ++ line ∷ [])) (a.shown ++ fault_line (next_number a) fault) (LineFault (next_number a))
-    × (answer ≡ complaint (next_number a) line fault))
+    × IsTranscript (script_of (a.lines ++ line ∷ [])) (a.shown ++ fault_line (next_line_number a) fault) (LineFault (next_line_number a))
+    × (answer ≡ complaint (next_line_number a) line fault))
 
 abbrev pub IsSaved : (script name answer : List ℕ) → List Saved → Type 0
 IsSaved script name answer saved =
@@ -72,10 +72,10 @@ abbrev pub AnswersWord : Word → (a : Accepted) (line answer : List ℕ) → Li
 AnswersWord Help a line answer saved b = (answer ≡ help_text) × (saved ≡ []) × (b ≡ a)
 AnswersWord Quit a line answer saved b = ⊥
 AnswersWord Save a line answer saved b = IsSaved (script_of a.lines) (name_in line) answer saved × (b ≡ a)
-AnswersWord Line a line answer saved b = (saved ≡ []) × (IsPlayed a line answer b ⊎ IsTold a line answer b)
+AnswersWord Line a line answer saved b = (saved ≡ []) × (IsLineAccepted a line answer b ⊎ IsLineRejected a line answer b)
 
-abbrev pub Answers : (a : Accepted) (line answer : List ℕ) → List Saved → (b : Accepted) → Type 0
-Answers a line answer saved b = AnswersWord (word_of line) a line answer saved b
+abbrev pub AnswersLine : (a : Accepted) (line answer : List ℕ) → List Saved → (b : Accepted) → Type 0
+AnswersLine a line answer saved b = AnswersWord (word_of line) a line answer saved b
 
 -- 3. Lines one after another.
 
@@ -83,7 +83,7 @@ abbrev pub AreAnswered : (prompt : List ℕ) (a : Accepted) → List (List ℕ) 
 AreAnswered prompt a [] out saved c = (out ≡ []) × (saved ≡ []) × (c ≡ a)
 AreAnswered prompt a (line ∷ lines) out saved c =
     (answer : List ℕ) × (rest : List ℕ) × (now : List Saved) × (later : List Saved) × (b : Accepted)
-    × (has_feed line ≡ false) × Answers a line answer now b × AreAnswered prompt b lines rest later c
+    × (has_feed line ≡ false) × AnswersLine a line answer now b × AreAnswered prompt b lines rest later c
     × (out ≡ (answer ++ prompt) ++ rest) × (saved ≡ now ++ later)
 
 -- 4. The laws.

@@ -3,14 +3,14 @@ ghost use Rattle.std.specs.Prelude.{◌≡◌, ◌≢◌, ◌⊎◌, ◌↔◌, 
 ghost use Rattle.std.specs.Io.KnownBytes.{Appends, Consumes, IsAtEnd};
 ghost use Rattle.jc_script.specs.Transcript.{opened_world};
 ghost use Rattle.jc_shell.specs.Holding.{Holds};
-ghost use Rattle.jc_shell.specs.Running.{LastText, Ran, Stopped, WrittenBy, cut_text, prompt_end};
+ghost use Rattle.jc_shell.specs.Running.{LastText, RunsDialogue, Stopped, WrittenBy, cut_text, prompt_end};
 ghost use Rattle.jc_shell.specs.Saving.{Saved, Saves};
-ghost use Rattle.jc_shell.specs.Sessions.{Accepted, Answers, AreAnswered, has_feed, nobody, script_of};
+ghost use Rattle.jc_shell.specs.Sessions.{Accepted, AnswersLine, AreAnswered, has_feed, nobody, script_of};
 ghost use Rattle.jc_shell.specs.ShellWords.{word_of};
 ghost use Rattle.jc_shell.specs.declared.words.Word.TheVariants as words;
 
 use crate::save::Save;
-use crate::session::Session;
+use crate::session::Dialogue;
 use crate::words::{Word, word_of};
 use jc_script::fault::Fault;
 use jc_script::input::write_out;
@@ -66,7 +66,7 @@ fn say_both<W: Write>(writer: &mut Noted<W>, answer: &[u8], prompt: &[u8]) -> Re
 fn answer_line<W: Write, S: Save>(
     alloc: Global,
     prompt: &[u8],
-    session: &mut Session,
+    session: &mut Dialogue,
     line: &[u8],
     writer: &mut Noted<W>,
     saves: &mut S,
@@ -76,7 +76,7 @@ fn answer_line<W: Write, S: Save>(
     ensures ok { OnOk result ((a : Accepted) → Holds a session.old.script.items session.old.lines (opened_world session.old.player.world)
         → (answer : List ℕ) × (saved : List Saved) × (b : Accepted)
         × Holds b session.new.script.items session.new.lines (opened_world session.new.player.world)
-        × Answers a line.now answer saved b
+        × AnswersLine a line.now answer saved b
         × Appends (W.contents writer.old.inner) (W.contents writer.new.inner) (answer ++ prompt.now)
         × Saves (S.saved saves.old) (S.saved saves.new) saved) }
     ensures kinds { IfErr result (λ e. (e ≡ ShellFault.Write) ⊎ (e ≡ ShellFault.OutOfMemory)) }
@@ -102,7 +102,7 @@ fn answer_line<W: Write, S: Save>(
 fn answer_lines<W: Write, S: Save>(
     alloc: Global,
     prompt: &[u8],
-    session: &mut Session,
+    session: &mut Dialogue,
     bytes: &[u8],
     writer: &mut Noted<W>,
     saves: &mut S,
@@ -153,7 +153,7 @@ fn end_prompt(prompt: &[u8], out: &mut Vec<u8>) -> Result<(), AllocError>
 /// Tells that the end of the input cuts a line, if it does.
 fn tell_cut(
     alloc: Global,
-    session: &Session,
+    session: &Dialogue,
     last: &[u8],
     out: &mut Vec<u8>,
 ) -> Result<(), AllocError>
@@ -170,7 +170,7 @@ fn tell_cut(
 fn last_text(
     alloc: Global,
     prompt: &[u8],
-    session: &Session,
+    session: &Dialogue,
     last: &[u8],
 ) -> Result<Vec<u8>, AllocError>
     ensures { IfOk result (λ text. (a : Accepted)
@@ -187,7 +187,7 @@ fn last_text(
 fn end_input<W: Write>(
     alloc: Global,
     prompt: &[u8],
-    session: &Session,
+    session: &Dialogue,
     last: &[u8],
     writer: &mut Noted<W>,
 ) -> Result<(), ShellFault>
@@ -238,13 +238,13 @@ fn read_more<R: Read>(reader: &mut Noted<R>, input: &mut Vec<u8>) -> Result<bool
 fn converse<R: Read, W: Write, S: Save>(
     alloc: Global,
     prompt: &[u8],
-    session: &mut Session,
+    session: &mut Dialogue,
     reader: &mut Noted<R>,
     writer: &mut Noted<W>,
     saves: &mut S,
 ) -> Result<(), ShellFault>
     requires { Holds nobody session.old.script.items session.old.lines (opened_world session.old.player.world) }
-    ensures ran { OnOk result (Ran prompt.now (R.remaining reader.old.inner) (R.remaining reader.new.inner) (W.contents writer.old.inner)
+    ensures ran { OnOk result (RunsDialogue prompt.now (R.remaining reader.old.inner) (R.remaining reader.new.inner) (W.contents writer.old.inner)
         (W.contents writer.new.inner) (S.saved saves.old) (S.saved saves.new)) }
     ensures stopped { IfErr result (λ e. Stopped prompt.now e (R.remaining reader.old.inner) (R.remaining reader.new.inner) (W.contents writer.old.inner)
         (W.contents writer.new.inner) (S.saved saves.old) (S.saved saves.new)) }
@@ -288,7 +288,7 @@ pub fn run<R: Read, W: Write, S: Save>(
     saves: &mut S,
 ) -> Result<(), ShellFault>
     // The bytes written are the answers to the lines that were read, and the scripts saved are those of these lines.
-    ensures ran { OnOk result (Ran prompt.now (R.remaining reader.old.inner) (R.remaining reader.new.inner) (W.contents writer.old.inner)
+    ensures ran { OnOk result (RunsDialogue prompt.now (R.remaining reader.old.inner) (R.remaining reader.new.inner) (W.contents writer.old.inner)
         (W.contents writer.new.inner) (S.saved saves.old) (S.saved saves.new)) }
     // After an error this holds up to there; after a failed write, a prefix of the answers was written.
     ensures stopped { IfErr result (λ e. Stopped prompt.now e (R.remaining reader.old.inner) (R.remaining reader.new.inner) (W.contents writer.old.inner)
@@ -299,7 +299,7 @@ pub fn run<R: Read, W: Write, S: Save>(
     ensures read_failed { reader.old.failed ≡ false → (result ≡ Err ShellFault.Read ↔ reader.new.failed ≡ true) }
     ensures write_failed { writer.old.failed ≡ false → (result ≡ Err ShellFault.Write ↔ writer.new.failed ≡ true) }
 {
-    let mut session = Session::new(alloc);
+    let mut session = Dialogue::new(alloc);
     let ended = converse(
         alloc,
         prompt.as_bytes(),

@@ -4,7 +4,7 @@ ghost use Rattle.jc_script.specs.Places.{complaint};
 ghost use Rattle.jc_script.specs.Transcript.{opened_world};
 ghost use Rattle.jc_shell.specs.Holding.{Holds};
 ghost use Rattle.jc_shell.specs.Saving.{Saved, Saves};
-ghost use Rattle.jc_shell.specs.Sessions.{Accepted, Answers, IsPlayed, IsSaved, IsTold, has_feed, nobody};
+ghost use Rattle.jc_shell.specs.Sessions.{Accepted, AnswersLine, IsLineAccepted, IsLineRejected, IsSaved, has_feed, nobody};
 ghost use Rattle.jc_shell.specs.ShellWords.{not_saved_text, word_of};
 ghost use Rattle.jc_shell.specs.declared.words.Word.TheVariants.{Quit};
 
@@ -16,20 +16,20 @@ use jc_script::print::place::put_complaint;
 use jc_script::put;
 use std::alloc::{AllocError, Global};
 
-/// A session: a player, and the script of the lines that it has played.
-pub struct Session {
+/// A dialogue with a shell: a player, and the script of the lines that it has played.
+pub struct Dialogue {
     player: Player,
     script: Vec<u8>,
     lines: u64,
     ghost counted: { lines ≤ length script.items },
 }
 
-impl Session {
+impl Dialogue {
     /// Nothing was typed yet.
-    pub fn new(alloc: Global) -> Session
+    pub fn new(alloc: Global) -> Dialogue
         ensures { Holds nobody result.script.items result.lines (opened_world result.player.world) }
     {
-        Session {
+        Dialogue {
             player: Player::new(alloc),
             script: Vec::new(alloc),
             lines: 0,
@@ -50,7 +50,7 @@ impl Session {
         ensures answered { OnOk result ((a : Accepted) → Holds a self.old.script.items self.old.lines (opened_world self.old.player.world)
             → (answer : List ℕ) × (saved : List Saved) × (b : Accepted)
             × Holds b self.new.script.items self.new.lines (opened_world self.new.player.world)
-            × Answers a line.now answer saved b
+            × AnswersLine a line.now answer saved b
             × (out.new.items ≡ out.old.items ++ answer) × Saves (S.saved saves.old) (S.saved saves.new) saved) }
         ensures unsaved { OnErr result (S.saved saves.new ≡ S.saved saves.old) }
     {
@@ -74,7 +74,7 @@ impl Session {
         ensures { OnOk result ((a : Accepted) → Holds a self.old.script.items self.old.lines (opened_world self.old.player.world)
             → (answer : List ℕ) × (b : Accepted)
             × Holds b self.new.script.items self.new.lines (opened_world self.new.player.world)
-            × (IsPlayed a line.now answer b ⊎ IsTold a line.now answer b)
+            × (IsLineAccepted a line.now answer b ⊎ IsLineRejected a line.now answer b)
             × (out.new.items ≡ out.old.items ++ answer)) }
     {
         let mut words = Vec::new(alloc);
@@ -117,7 +117,7 @@ impl Session {
 
     /// Ends the world, if one was opened.
     pub fn close(self) {
-        let Session {
+        let Dialogue {
             player,
             script: _script,
             lines: _lines,

@@ -2,7 +2,7 @@
 --     tell        equal snapshots are of one essence
 --     stay        a snapshot stays one while the tables grow
 --     only        over tables without repetitions there is one
-use Rattle.jc_snapshot.proofs.Common.{◌≡◌, ℕ, List, [], ◌∷◌, Option, Some, None, sym, refl, ap, ◌∙◌, subst, same_entries_map, WorldState, WorldEssence, Seen, flat, AreRows, bit, last_row, OwnRows, HasOwnRows, rows_of, IsSnapshot, IsStripeRow, IsCallRow, GrowsTo, AreTables}
+use Rattle.jc_snapshot.proofs.Common.{◌≡◌, ℕ, List, [], ◌∷◌, Option, Some, None, sym, refl, ap, ◌∙◌, subst, same_entries_map, WorldState, WorldEssence, Seen, flat, AreRows, bit, last_row, OwnRows, HasOwnRows, rows_of, IsSnapshot, IsStripeRow, IsOpenCallRow, GrowsTo, AreTables}
 use Rattle.std.specs.FinMap as map
 use Rattle.jc_snapshot.specs.Laws.{SnapshotsTell, SnapshotsStay}
 use Rattle.jc_snapshot.proofs.FlatRows.{flat_equal, rows_equal, things_of_rows, rows_stay}
@@ -25,7 +25,7 @@ stay s t e words g h =
       record {
         own = own_stays s t e.rest h.0.own g rows.own;
         stripes_are = rows_stay (IsStripeRow s) (IsStripeRow t) (stripe_stays s t g) e.stripes h.0.stripes rows.stripes_are;
-        calls_are = rows_stay (IsCallRow s) (IsCallRow t) (call_stays s t g) e.rest.calls h.0.calls rows.calls_are;
+        calls_are = rows_stay (IsOpenCallRow s) (IsOpenCallRow t) (call_stays s t g) e.rest.calls h.0.calls rows.calls_are;
         rest_is = rows.rest_is;
       },
       h.2,
@@ -61,7 +61,7 @@ tell s e f words h k =
     let pa = same_entries_map e.rest.parts f.rest.parts (list_equal s.parts (map.entries e.rest.parts) (map.entries f.rest.parts) n.own.parts m.own.parts parts a.own.parts_are b.own.parts_are) in
     let jo = same_entries_map e.rest.joins f.rest.joins (list_equal s.joins (map.entries e.rest.joins) (map.entries f.rest.joins) n.own.joins m.own.joins joins a.own.joins_are b.own.joins_are) in
     let ss = things_of_rows (IsStripeRow s) (stripe_told s) e.stripes f.stripes n.stripes a.stripes_are (subst (λ rs. AreRows (IsStripeRow s) f.stripes rs) (sym (flat_equal n.stripes m.stripes stripes)) b.stripes_are) in
-    let cs = things_of_rows (IsCallRow s) (call_told s) e.rest.calls f.rest.calls n.calls a.calls_are (subst (λ rs. AreRows (IsCallRow s) f.rest.calls rs) (sym (flat_equal n.calls m.calls calls)) b.calls_are) in
+    let cs = things_of_rows (IsOpenCallRow s) (call_told s) e.rest.calls f.rest.calls n.calls a.calls_are (subst (λ rs. AreRows (IsOpenCallRow s) f.rest.calls rs) (sym (flat_equal n.calls m.calls calls)) b.calls_are) in
     let rest : e.rest ≡ f.rest =
     a.rest_is
     ∙ (λ i. record {
@@ -92,5 +92,5 @@ only s d e words others h k =
     let pa = numbers_equal s.parts (map.entries e.rest.parts) n.own.parts m.own.parts d.parts a.own.parts_are b.own.parts_are in
     let jo = numbers_equal s.joins (map.entries e.rest.joins) n.own.joins m.own.joins d.joins a.own.joins_are b.own.joins_are in
     let ss = rows_equal (IsStripeRow s) (stripe_row_is s d) e.stripes n.stripes m.stripes a.stripes_are b.stripes_are in
-    let cs = rows_equal (IsCallRow s) (call_row_is s d) e.rest.calls n.calls m.calls a.calls_are b.calls_are in
+    let cs = rows_equal (IsOpenCallRow s) (call_row_is s d) e.rest.calls n.calls m.calls a.calls_are b.calls_are in
     h.2 ∙ (λ i. flat ((c i ∷ p i ∷ bit e.rest.is_fresh ∷ []) ∷ last_row e.rest.last ∷ st i ∷ pa i ∷ jo i ∷ flat (ss i) ∷ flat (cs i) ∷ [])) ∙ sym k.2

@@ -4,7 +4,7 @@
 --     stripe_told, call_told    a row is of one stripe's essence, and of one call
 --     stripe_row_is, call_row_is
 --                               over tables without repetitions there is one row
-use Rattle.jc_snapshot.proofs.Common.{◌≡◌, ℕ, List, [], ◌∷◌, Bool, true, false, Option, Some, None, slice_get, sym, refl, ap, ◌∙◌, subst, same_Some, StripeEssence, Seen, IsNumber, AreNumbers, flat, origin_word, bit, scalars_of, IsStripeRow, head_of, IsCallRow, GrowsTo, AreTables}
+use Rattle.jc_snapshot.proofs.Common.{◌≡◌, ℕ, List, [], ◌∷◌, Bool, true, false, Option, Some, None, slice_get, sym, refl, ap, ◌∙◌, subst, same_Some, StripeEssence, Seen, IsNumberOf, AreNumbers, flat, origin_word, bit, scalars_of, IsStripeRow, head_of, IsOpenCallRow, GrowsTo, AreTables}
 use Rattle.std.specs.FinMap as map
 use Rattle.jc_outside.specs.declared.done.Origin.{Origin}
 use Rattle.jc_outside.specs.declared.done.Origin.TheVariants.{Live, Played}
@@ -39,7 +39,7 @@ stripe_stays s t g x row h = record {
   rest_is = h.rest_is;
 }
 
-pub call_stays : (s t : Seen) → GrowsTo s t → (u : CallState) (row : List ℕ) → IsCallRow s u row → IsCallRow t u row
+pub call_stays : (s t : Seen) → GrowsTo s t → (u : CallState) (row : List ℕ) → IsOpenCallRow s u row → IsOpenCallRow t u row
 call_stays s t g u row h = record {
   head = h.head;
   tasks = h.tasks;
@@ -51,7 +51,7 @@ call_stays s t g u row h = record {
 -- 2. What a row tells.
 
 -- a number is of one thing
-pub thing_equal : {A : Type 0} (t : List A) (x y : A) (n m : ℕ) → n ≡ m → IsNumber t x n → IsNumber t y m → x ≡ y
+pub thing_equal : {A : Type 0} (t : List A) (x y : A) (n m : ℕ) → n ≡ m → IsNumberOf t x n → IsNumberOf t y m → x ≡ y
 thing_equal t x y n m e is be = same_Some x y (sym is ∙ ap (slice_get t) e ∙ be)
 
 -- numbers are of one list of things
@@ -118,7 +118,7 @@ sweep_equal None (Some b) op looked = cc
 sweep_equal (Some a) None op looked = cc
 sweep_equal (Some a) (Some b) op looked = let o : a.op ≡ b.op = same_Some a.op b.op op in λ i. Some (record { op = o i; looked = looked i })
 
-pub call_told : (s : Seen) (u v : CallState) (row : List ℕ) → IsCallRow s u row → IsCallRow s v row → u ≡ v
+pub call_told : (s : Seen) (u v : CallState) (row : List ℕ) → IsOpenCallRow s u row → IsOpenCallRow s v row → u ≡ v
 call_told s u v row h k =
     let ours : List (List ℕ) = (h.head ∷ []) ∷ h.tasks ∷ looked_in u.sweep ∷ [] in
     let theirs : List (List ℕ) = (k.head ∷ []) ∷ k.tasks ∷ looked_in v.sweep ∷ [] in
@@ -142,7 +142,7 @@ stripe_row_is s d x row other h k =
     let as_ = numbers_equal s.answers x.answers h.answers k.answers d.answers h.answers_are k.answers_are in
     h.row_is ∙ (λ i. flat (es i ∷ rs i ∷ js i ∷ as_ i ∷ scalars_of (c i) x ∷ [])) ∙ sym k.row_is
 
-pub call_row_is : (s : Seen) → AreTables s → (u : CallState) (row other : List ℕ) → IsCallRow s u row → IsCallRow s u other → row ≡ other
+pub call_row_is : (s : Seen) → AreTables s → (u : CallState) (row other : List ℕ) → IsOpenCallRow s u row → IsOpenCallRow s u other → row ≡ other
 call_row_is s d u row other h k =
     let n = d.heads h.head k.head (head_of u) h.head_is k.head_is in
     let ts = numbers_equal s.tasks u.tasks h.tasks k.tasks d.tasks h.tasks_are k.tasks_are in

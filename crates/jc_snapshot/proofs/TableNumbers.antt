@@ -3,17 +3,17 @@
 --     number_stays, numbers_stay    numbers stay in a longer table
 --     numbers_push                  one more thing, with its number
 --     things_equal, numbers_equal   numbers are of one list of things, and in a table of distinct things these have one list of numbers
-use Rattle.jc_snapshot.proofs.Common.{◌≡◌, ℕ, zero, suc, ◌<◌, ◌+◌, List, [], ◌∷◌, ◌++◌, length, Some, slice_get, sym, refl, ap, ◌∙◌, append_assoc, append-nil, take, get_or, add-one, same_Some, map-append, IsNumber, AreNumbers, Extends, IsAbsent, IsDistinctTable}
+use Rattle.jc_snapshot.proofs.Common.{◌≡◌, ℕ, zero, suc, ◌<◌, ◌+◌, List, [], ◌∷◌, ◌++◌, length, Some, slice_get, sym, refl, ap, ◌∙◌, append_assoc, append-nil, take, get_or, add-one, same_Some, map-append, IsNumberOf, AreNumbers, Continues, IsAbsent, IsDistinctTable}
 use Rattle.std.proofs.Math.Seq.{take-suc}
 use Rattle.jc_types.proofs.CallerLemmas.{stands_on}
 
-pub extends_self : {A : Type 0} (xs : List A) → Extends xs xs
+pub extends_self : {A : Type 0} (xs : List A) → Continues xs xs
 extends_self xs = ([], sym (append-nil xs))
 
-pub extends_twice : {A : Type 0} (xs ys zs : List A) → Extends xs ys → Extends ys zs → Extends xs zs
+pub extends_twice : {A : Type 0} (xs ys zs : List A) → Continues xs ys → Continues ys zs → Continues xs zs
 extends_twice xs ys zs e f = (e.0 ++ f.0, f.1 ∙ ap (λ l. l ++ f.0) e.1 ∙ append_assoc xs e.0 f.0)
 
-pub number_stays : {A : Type 0} (t u : List A) (x : A) (n : ℕ) → Extends t u → IsNumber t x n → IsNumber u x n
+pub number_stays : {A : Type 0} (t u : List A) (x : A) (n : ℕ) → Continues t u → IsNumberOf t x n → IsNumberOf u x n
 number_stays t u x n e is = ap (λ l. slice_get l n) e.1 ∙ stands_on t e.0 n x is
 
 head_is : {A : Type 0} (x y : A) (xs ys : List A) → x ∷ xs ≡ y ∷ ys → x ≡ y
@@ -25,14 +25,14 @@ tail_is x y xs ys e = cc
 cons_is : {A : Type 0} (x y : A) (xs ys : List A) → x ≡ y → xs ≡ ys → x ∷ xs ≡ y ∷ ys
 cons_is x y xs ys e f = λ i. e i ∷ f i
 
-pub numbers_stay : {A : Type 0} (t u xs : List A) (ns : List ℕ) → Extends t u → AreNumbers t xs ns → AreNumbers u xs ns
+pub numbers_stay : {A : Type 0} (t u xs : List A) (ns : List ℕ) → Continues t u → AreNumbers t xs ns → AreNumbers u xs ns
 numbers_stay t u [] [] e are = refl
 numbers_stay t u [] (n ∷ ns) e are = cc
 numbers_stay t u (x ∷ xs) [] e are = cc
 numbers_stay t u (x ∷ xs) (n ∷ ns) e are =
     cons_is _ _ _ _ (number_stays t u x n e (head_is _ _ _ _ are)) (numbers_stay t u xs ns e (tail_is _ _ _ _ are))
 
-pub numbers_push : {A : Type 0} (t xs : List A) (ns : List ℕ) (x : A) (n : ℕ) → AreNumbers t xs ns → IsNumber t x n → AreNumbers t (xs ++ x ∷ []) (ns ++ n ∷ [])
+pub numbers_push : {A : Type 0} (t xs : List A) (ns : List ℕ) (x : A) (n : ℕ) → AreNumbers t xs ns → IsNumberOf t x n → AreNumbers t (xs ++ x ∷ []) (ns ++ n ∷ [])
 numbers_push t xs ns x n are is =
     map-append (λ m. slice_get t m) ns (n ∷ []) ∙ (λ i. are i ++ is i ∷ []) ∙ sym (map-append (λ y. Some y) xs (x ∷ []))
 

@@ -4,7 +4,7 @@
 --     scalars_of        the parts of a stripe's essence that are no lists, by the number of its shape
 --     IsStripeRow       a row is a stripe's essence, by the numbers of the tables
 --     head_of           the parts of a call that are no lists
---     IsCallRow         a row is a call, by the numbers of the tables
+--     IsOpenCallRow     a row is a call, by the numbers of the tables
 --     last_row          the highest number of a call so far, as a row
 --     OwnRows           the numbers of the parts of a world beside its stripes and calls
 --     own_rows          the rows of those parts
@@ -24,7 +24,7 @@ use Rattle.jc_world.specs.World.{WorldState}
 use Rattle.jc_world.specs.Essence.{StripeEssence, WorldEssence}
 use Rattle.jc_snapshot.specs.declared.heads.CallHead.{CallHead}
 use Rattle.jc_snapshot.specs.declared.seen.Seen.{Seen}
-use Rattle.jc_snapshot.specs.Numbers.{IsNumber, AreNumbers, Extends, IsDistinctTable}
+use Rattle.jc_snapshot.specs.Numbers.{IsNumberOf, AreNumbers, Continues, IsDistinctTable}
 use Rattle.jc_snapshot.specs.Rows.{flat, AreRows}
 
 -- 1. Stripes.
@@ -49,7 +49,7 @@ pub record IsStripeRow (seen : Seen) (x : StripeEssence) (row : List ℕ) : Type
   pub joiners : List ℕ
   pub answers : List ℕ
   pub row_is : row ≡ flat (entries ∷ reservations ∷ joiners ∷ answers ∷ scalars_of config x ∷ [])
-  pub config_is : IsNumber seen.configs x.rest.config config
+  pub config_is : IsNumberOf seen.configs x.rest.config config
   pub entries_are : AreNumbers seen.entries x.entries entries
   pub reservations_are : AreNumbers seen.reservations x.rest.reservations reservations
   pub joiners_are : AreNumbers seen.joiners x.rest.joiners joiners
@@ -61,11 +61,11 @@ pub record IsStripeRow (seen : Seen) (x : StripeEssence) (row : List ℕ) : Type
 abbrev pub head_of : CallState → CallHead
 head_of u = record { caller = u.caller; kind = u.kind; op_found = op_found u.sweep; cause = u.cause }
 
-pub record IsCallRow (seen : Seen) (u : CallState) (row : List ℕ) : Type 0 where
+pub record IsOpenCallRow (seen : Seen) (u : CallState) (row : List ℕ) : Type 0 where
   pub head : ℕ
   pub tasks : List ℕ
   pub row_is : row ≡ flat ((head ∷ []) ∷ tasks ∷ looked_in u.sweep ∷ [])
-  pub head_is : IsNumber seen.heads (head_of u) head
+  pub head_is : IsNumberOf seen.heads (head_of u) head
   pub tasks_are : AreNumbers seen.tasks u.tasks tasks
 
 -- 3. Worlds.
@@ -86,8 +86,8 @@ own_rows n w =
     (n.config ∷ n.premises ∷ bit w.is_fresh ∷ []) ∷ last_row w.last ∷ n.store ∷ n.parts ∷ n.joins ∷ []
 
 pub record HasOwnRows (seen : Seen) (w : WorldState) (n : OwnRows) : Type 0 where
-  pub config_is : IsNumber seen.configs w.config n.config
-  pub premises_are : IsNumber seen.premises w.premises n.premises
+  pub config_is : IsNumberOf seen.configs w.config n.config
+  pub premises_are : IsNumberOf seen.premises w.premises n.premises
   pub store_is : AreNumbers seen.entries (map.entries w.store) n.store
   pub parts_are : AreNumbers seen.parts (map.entries w.parts) n.parts
   pub joins_are : AreNumbers seen.joins (map.entries w.joins) n.joins
@@ -103,7 +103,7 @@ rows_of n e = own_rows n.own e.rest ++ flat n.stripes ∷ flat n.calls ∷ []
 pub record HasRows (seen : Seen) (e : WorldEssence) (n : WorldRows) : Type 0 where
   pub own : HasOwnRows seen e.rest n.own
   pub stripes_are : AreRows (IsStripeRow seen) e.stripes n.stripes
-  pub calls_are : AreRows (IsCallRow seen) e.rest.calls n.calls
+  pub calls_are : AreRows (IsOpenCallRow seen) e.rest.calls n.calls
   pub rest_is : e.rest ≡ record e.rest { stripes = []; order = [] }
 
 abbrev pub IsSnapshot : WorldEssence → Seen → List ℕ → Type 0
@@ -112,16 +112,16 @@ IsSnapshot e seen words = (n : WorldRows) × HasRows seen e n × (words ≡ flat
 -- 4. Tables.
 
 pub record GrowsTo (old new : Seen) : Type 0 where
-  pub configs : Extends old.configs new.configs
-  pub premises : Extends old.premises new.premises
-  pub entries : Extends old.entries new.entries
-  pub reservations : Extends old.reservations new.reservations
-  pub joiners : Extends old.joiners new.joiners
-  pub answers : Extends old.answers new.answers
-  pub parts : Extends old.parts new.parts
-  pub joins : Extends old.joins new.joins
-  pub heads : Extends old.heads new.heads
-  pub tasks : Extends old.tasks new.tasks
+  pub configs : Continues old.configs new.configs
+  pub premises : Continues old.premises new.premises
+  pub entries : Continues old.entries new.entries
+  pub reservations : Continues old.reservations new.reservations
+  pub joiners : Continues old.joiners new.joiners
+  pub answers : Continues old.answers new.answers
+  pub parts : Continues old.parts new.parts
+  pub joins : Continues old.joins new.joins
+  pub heads : Continues old.heads new.heads
+  pub tasks : Continues old.tasks new.tasks
 
 pub record AreTables (seen : Seen) : Type 0 where
   pub configs : IsDistinctTable seen.configs

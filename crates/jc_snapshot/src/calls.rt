@@ -1,9 +1,9 @@
 //! A call under way as a row of numbers.
 ghost use Rattle.std.specs.Prelude.{◌≡◌, ◌∷◌, [], List, ℕ, IfOk};
 ghost use Rattle.jc_world.specs.Calls.{looked_in};
-ghost use Rattle.jc_snapshot.specs.Numbers.{AreNumbers, Extends};
+ghost use Rattle.jc_snapshot.specs.Numbers.{AreNumbers, Continues};
 ghost use Rattle.jc_snapshot.specs.Rows.{flat, AreRows};
-ghost use Rattle.jc_snapshot.specs.Snapshot.{IsCallRow, GrowsTo};
+ghost use Rattle.jc_snapshot.specs.Snapshot.{IsOpenCallRow, GrowsTo};
 
 use crate::heads::head_of;
 use crate::rows::{push_row, three_rows};
@@ -21,7 +21,7 @@ pub(crate) fn call_rows(
     seen: &mut Seen,
 ) -> Result<Vec<u64>, AllocError>
     ensures rows { IfOk result (λ words. (rows : List (List ℕ)) × (words.items ≡ flat rows)
-        × AreRows (IsCallRow seen.new) calls.now rows) }
+        × AreRows (IsOpenCallRow seen.new) calls.now rows) }
     ensures grows { GrowsTo seen.old seen.new }
 {
     let mut words = Vec::new(alloc);
@@ -34,7 +34,7 @@ pub(crate) fn call_rows(
 
 /// The row of a call. An `Err` says that an allocation failed.
 fn call_row(alloc: Global, call: &OpenCall, seen: &mut Seen) -> Result<Vec<u64>, AllocError>
-    ensures row { IfOk result (λ row. IsCallRow seen.new call.now row.items) }
+    ensures row { IfOk result (λ row. IsOpenCallRow seen.new call.now row.items) }
     ensures grows { GrowsTo seen.old seen.new }
 {
     let head = seen.heads.number_of(&head_of(call))?;
@@ -51,7 +51,7 @@ fn task_numbers(
     table: &mut Table<(Key, Option<Op>)>,
 ) -> Result<Vec<u64>, AllocError>
     ensures numbers { IfOk result (λ numbers. AreNumbers table.new call.now.tasks numbers.items) }
-    ensures grows { Extends table.old table.new }
+    ensures grows { Continues table.old table.new }
 {
     let mut tasks = Vec::new(alloc);
     call.put_tasks(&mut tasks)?;

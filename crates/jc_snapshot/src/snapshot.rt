@@ -6,7 +6,7 @@ ghost use Rattle.std.specs.Cmp.Rules.{comparing};
 ghost use Rattle.std.proofs.Common.{rules};
 ghost use Rattle.jc_world.specs.Essence.{essence_of_world};
 ghost use Rattle.jc_snapshot.specs.Fingerprint.{fingerprint_of};
-ghost use Rattle.jc_snapshot.specs.Numbers.{AreNumbers, Extends};
+ghost use Rattle.jc_snapshot.specs.Numbers.{AreNumbers, Continues};
 ghost use Rattle.jc_snapshot.specs.Rows.{flat};
 ghost use Rattle.jc_snapshot.specs.Snapshot.{IsSnapshot, GrowsTo, OwnRows, own_rows, HasOwnRows, last_row};
 
@@ -119,7 +119,7 @@ fn store_numbers(
 ) -> Result<Vec<u64>, AllocError>
     ensures numbers { IfOk result (λ numbers.
         AreNumbers table.new (map.entries world.now.world.store) numbers.items) }
-    ensures grows { Extends table.old table.new }
+    ensures grows { Continues table.old table.new }
 {
     let entries = world.stored_entries(alloc)?;
     let numbers = numbers_of(alloc, table, &entries)?;
@@ -134,7 +134,7 @@ fn part_numbers(
 ) -> Result<Vec<u64>, AllocError>
     ensures numbers { IfOk result (λ numbers.
         AreNumbers table.new (map.entries world.now.world.parts) numbers.items) }
-    ensures grows { Extends table.old table.new }
+    ensures grows { Continues table.old table.new }
 {
     let parts = world.parts(alloc)?;
     let parts = sorted(alloc, &parts)?;
@@ -150,7 +150,7 @@ fn join_numbers(
 ) -> Result<Vec<u64>, AllocError>
     ensures numbers { IfOk result (λ numbers.
         AreNumbers table.new (map.entries world.now.world.joins) numbers.items) }
-    ensures grows { Extends table.old table.new }
+    ensures grows { Continues table.old table.new }
 {
     let joins = world.joins(alloc)?;
     let joins = sorted(alloc, &joins)?;

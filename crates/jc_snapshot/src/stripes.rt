@@ -3,7 +3,7 @@ ghost use Rattle.std.specs.Prelude.{◌≡◌, ◌++◌, [], ◌∷◌, List, �
 ghost use Rattle.std.specs.FinMap.{from_entries};
 ghost use Rattle.jc_world.specs.Essence.{answer_in, essence_of};
 ghost use Rattle.jc_world.specs.Sound.{HaveNoneEnded};
-ghost use Rattle.jc_snapshot.specs.Numbers.{AreNumbers, Extends};
+ghost use Rattle.jc_snapshot.specs.Numbers.{AreNumbers, Continues};
 ghost use Rattle.jc_snapshot.specs.Rows.{flat, AreRows};
 ghost use Rattle.jc_snapshot.specs.Snapshot.{IsStripeRow, GrowsTo, origin_word, bit, scalars_of};
 ghost use Rattle.jc_stripe.specs.OrderOfUse.{by_use};
@@ -70,7 +70,7 @@ fn entry_numbers(
     ensures numbers { IfOk result (λ numbers.
         AreNumbers table.new (by_use stripe.now.opening stripe.now.history) numbers.items) }
     ensures cache { from_entries (by_use stripe.now.opening stripe.now.history) ≡ stripe.now.cache }
-    ensures grows { Extends table.old table.new }
+    ensures grows { Continues table.old table.new }
 {
     let mut entries = Vec::new(alloc);
     stripe.entries(&mut entries)?;
@@ -86,7 +86,7 @@ fn answer_numbers(
 ) -> Result<Vec<u64>, AllocError>
     ensures numbers { IfOk result (λ numbers. AreNumbers table.new
         (map (λ j. answer_in stripe.now.history j.state) stripe.now.joiners) numbers.items) }
-    ensures grows { Extends table.old table.new }
+    ensures grows { Continues table.old table.new }
 {
     let answers = answers_of(alloc, stripe)?;
     let numbers = numbers_of(alloc, table, &answers)?;

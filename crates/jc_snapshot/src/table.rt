@@ -1,6 +1,6 @@
 //! A table of distinct things, in which each has a number.
 ghost use Rattle.std.specs.Prelude.{◌≡◌, ◌↔◌, [], IsTrue, IfOk, IfSome, IfNone};
-ghost use Rattle.jc_snapshot.specs.Numbers.{IsNumber, AreNumbers, Extends, IsAbsent, IsDistinctTable};
+ghost use Rattle.jc_snapshot.specs.Numbers.{IsNumberOf, AreNumbers, Continues, IsAbsent, IsDistinctTable};
 
 use std::alloc::{AllocError, Global};
 use std::marker::Model;
@@ -48,8 +48,8 @@ impl<T: Comparable> Table<T> {
 
     /// The number of a thing. A new one gets the next number. An `Err` says that an allocation failed.
     pub fn number_of(&mut self, thing: &T) -> Result<u64, AllocError>
-        ensures number { IfOk result (λ number. IsNumber self.new thing.now number) }
-        ensures grows { Extends self.old self.new }
+        ensures number { IfOk result (λ number. IsNumberOf self.new thing.now number) }
+        ensures grows { Continues self.old self.new }
     {
         if let Some(place) = place_of(&self.things, thing) {
             return Ok(place as u64);
@@ -62,7 +62,7 @@ impl<T: Comparable> Table<T> {
 
 /// The place of a thing in a list.
 fn place_of<T: Comparable>(things: &[T], thing: &T) -> Option<usize>
-    ensures some { IfSome result (λ place. IsNumber things.now thing.now place) }
+    ensures some { IfSome result (λ place. IsNumberOf things.now thing.now place) }
     ensures none { IfNone result (IsAbsent things.now thing.now) }
 {
     for place in 0..things.len() {
@@ -80,7 +80,7 @@ pub fn numbers_of<T: Comparable>(
     things: &[T],
 ) -> Result<Vec<u64>, AllocError>
     ensures numbers { IfOk result (λ numbers. AreNumbers table.new things.now numbers.items) }
-    ensures grows { Extends table.old table.new }
+    ensures grows { Continues table.old table.new }
 {
     let mut numbers = Vec::new(alloc);
     for thing in things {

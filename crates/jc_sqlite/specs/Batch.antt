@@ -2,7 +2,7 @@
 --     in_transaction    the connection, in an open transaction
 --     RanEach           the statement ran once for each row of parameters, in their order, inside one transaction
 --     RanAll            a whole batch ran in this way, from the connection before it, and left this database
---     FailsAt           the statement failed at one of the rows, after it had run for those before it
+--     FailsAtRow        the statement failed at one of the rows, after it had run for those before it
 --     FailsAtEnd        the statement ran for all rows, and the commit failed
 --     FailsInBatch      the cause of a failed batch: one of these two, or a transaction was open before it
 --     RunsAsOne         a batch ran in one transaction: all of it or none. If a failure of the disk shut the connection, or if
@@ -30,7 +30,7 @@ pub record RanAll {S : Type 0} (g : Ghosts S) (sql : List ℕ) (rows : List Row)
   pub ran : RanEach g sql rows (in_transaction old) last
   pub is : db ≡ (state g last).now
 
-pub record FailsAt {S : Type 0} (g : Ghosts S) (sql : List ℕ) (rows : List Row) (old : Held S) (e : Error) : Type 0 where
+pub record FailsAtRow {S : Type 0} (g : Ghosts S) (sql : List ℕ) (rows : List Row) (old : Held S) (e : Error) : Type 0 where
   pub before : List Row
   pub row : Row
   pub after : List Row
@@ -46,7 +46,7 @@ pub record FailsAtEnd {S : Type 0} (g : Ghosts S) (sql : List ℕ) (rows : List 
   pub fails : FailsToCommit (state g last) (state g new) e
 
 abbrev pub FailsInBatch : {S : Type 0} → Ghosts S → List ℕ → List Row → Held S → Held S → Error → Type 0
-FailsInBatch g sql rows old new e = ((e ≡ SqliteFailure TransactionState) × (old.in_transaction ≡ true)) ⊎ (FailsAt g sql rows old e ⊎ FailsAtEnd g sql rows old new e)
+FailsInBatch g sql rows old new e = ((e ≡ SqliteFailure TransactionState) × (old.in_transaction ≡ true)) ⊎ (FailsAtRow g sql rows old e ⊎ FailsAtEnd g sql rows old new e)
 
 pub record RunsAsOne {S : Type 0} (g : Ghosts S) (sql : List ℕ) (rows : List Row) (old new : Held S) (result : Result (Unit {0}) Error) : Type 0 where
   -- after a success the last commit has all of it

@@ -4,20 +4,20 @@
 --     kept_sql              the statement that makes the table as another program keeps it, without IF NOT EXISTS
 --     schema_sql            the statement that shows the text of the table or view with this name, and of triggers on it
 --     entry_row, key_row    the row of parameters of an entry, and that of a key
---     RunsOnce              the statement ran with these parameters, or failed
+--     ExecutesOnce          the statement ran with these parameters, or failed
 --     IsOwnText, IsOwn      the text is that of the statement that makes the table; the only row that the schema shows has this
 --                           text
 --     TellsOwn              the answer tells whether the schema shows only this row; an error is the query's
 --     IsCount               the number is that of the row's first column; an error is that of reading this column
 --     Counts                the number is that of the row which the count shows; an error is the query's, or that of this row
---     IsValue               the column is a value of a cache
+--     IsValueColumn         the column is a value of a cache
 --     row_error             the error of a row without a value: it has no column, or its first column has too many bytes, or is
 --                           no blob
 --     ReadsValue            the row's first column has these bytes; an error says why it has no value
 --     IsInFirst             the value is that of the first row, or there is neither; an error says why the first row has no value
 --     Loads                 the value is that of the first row which the query at this key shows; an error is the query's, or
 --                           that of this row
---     with_found            the answers, with the value that was found at a key, if one was
+--     with_selected         the answers, with the value that was found at a key, if one was
 --     LoadsInto             the value that was loaded at a key was put into the answers; an error is that of the load, with its
 --                           key
 --     LoadsAll              each key was loaded in this way, in their order; an error is that of the first load that failed,
@@ -65,9 +65,9 @@ entry_row entry = Blob entry.0 ∷ Blob entry.1 ∷ []
 abbrev pub key_row : List ℕ → Row
 key_row key = Blob key ∷ []
 
-abbrev pub RunsOnce : List ℕ → Row → State → State → Result (Unit {0}) Error → Type 0
-RunsOnce sql row old new (Ok done) = (count : ℕ) × Executes sql row old new (Ok count)
-RunsOnce sql row old new (Err e) = Executes sql row old new (Err e)
+abbrev pub ExecutesOnce : List ℕ → Row → State → State → Result (Unit {0}) Error → Type 0
+ExecutesOnce sql row old new (Ok done) = (count : ℕ) × Executes sql row old new (Ok count)
+ExecutesOnce sql row old new (Err e) = Executes sql row old new (Err e)
 
 abbrev pub IsOwnText : List ℕ → Type 0
 IsOwnText text = (text ≡ create_sql) ⊎ (text ≡ kept_sql)
@@ -87,8 +87,8 @@ abbrev pub Counts : State → State → Result ℕ Error → Type 0
 Counts old new (Ok count) = (row : Row) × QueriesRow count_sql [] old new (Ok row) × IsCount row (Ok count)
 Counts old new (Err e) = QueriesRow count_sql [] old new (Err e) ⊎ ((row : Row) × QueriesRow count_sql [] old new (Ok row) × IsCount row (Err e))
 
-abbrev pub IsValue : Value → Type 0
-IsValue it = (bytes : List ℕ) × (it ≡ Blob bytes) × (length bytes ≤ VALUE_MAX)
+abbrev pub IsValueColumn : Value → Type 0
+IsValueColumn it = (bytes : List ℕ) × (it ≡ Blob bytes) × (length bytes ≤ VALUE_MAX)
 
 abbrev pub row_error : Row → Error
 row_error [] = InvalidColumnIndex 0
@@ -97,7 +97,7 @@ row_error (it ∷ more) = InvalidColumnType 0 (type_of it)
 
 abbrev pub ReadsValue : Row → Result (List ℕ) Error → Type 0
 ReadsValue row (Ok bytes) = column row 0 ≡ Blob bytes
-ReadsValue row (Err e) = (¬ IsValue (column row 0)) × (e ≡ row_error row)
+ReadsValue row (Err e) = (¬ IsValueColumn (column row 0)) × (e ≡ row_error row)
 
 abbrev pub IsInFirst : List Row → Result (Option (List ℕ)) Error → Type 0
 IsInFirst [] (Ok found) = found ≡ None
@@ -109,12 +109,12 @@ abbrev pub Loads : List ℕ → State → State → Result (Option (List ℕ)) E
 Loads key old new (Ok found) = (rows : List Row) × Shown load_sql (key_row key) old new rows × IsInFirst rows (Ok found)
 Loads key old new (Err e) = FailsToQuery load_sql (key_row key) old new e ⊎ ((rows : List Row) × Shown load_sql (key_row key) old new rows × IsInFirst rows (Err e))
 
-abbrev pub with_found : AnswersByKey → List ℕ → Option (List ℕ) → AnswersByKey
-with_found answers key None = answers
-with_found answers key (Some value) = answers_with answers key value
+abbrev pub with_selected : AnswersByKey → List ℕ → Option (List ℕ) → AnswersByKey
+with_selected answers key None = answers
+with_selected answers key (Some value) = answers_with answers key value
 
 abbrev pub LoadsInto : List ℕ → State → State → AnswersByKey → AnswersByKey → Result (Unit {0}) Failure → Type 0
-LoadsInto key old new before after (Ok done) = (found : Option (List ℕ)) × Loads key old new (Ok found) × (after ≡ with_found before key found)
+LoadsInto key old new before after (Ok done) = (found : Option (List ℕ)) × Loads key old new (Ok found) × (after ≡ with_selected before key found)
 LoadsInto key old new before after (Err failure) = (failure.key ≡ Some key) × Loads key old new (Err failure.error) × (after ≡ before)
 
 abbrev pub LoadsAll : {S : Type 0} → Ghosts S → List (List ℕ) → Held S → Held S → AnswersByKey → AnswersByKey → Result (Unit {0}) Failure → Type 0

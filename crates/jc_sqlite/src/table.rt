@@ -18,7 +18,7 @@ ghost use Rattle.sqlite.specs.Batch.{ExecutesAll};
 ghost use Rattle.sqlite.specs.Held.{state};
 ghost use Rattle.jc_sqlite.specs.Batch.{RunsAsOne};
 ghost use Rattle.jc_sqlite.specs.Statements.{create_sql, load_sql, write_sql, delete_sql, entry_row, key_row};
-ghost use Rattle.jc_sqlite.specs.Statements.{TellsOwn, IsOwn, IsOwnText, RunsOnce, Counts, IsCount, row_error, ReadsValue, IsInFirst, Loads, with_found, LoadsInto, LoadsAll};
+ghost use Rattle.jc_sqlite.specs.Statements.{TellsOwn, IsOwn, IsOwnText, ExecutesOnce, Counts, IsCount, row_error, ReadsValue, IsInFirst, Loads, with_selected, LoadsInto, LoadsAll};
 
 use crate::batch;
 use crate::failure::Failure;
@@ -199,7 +199,7 @@ fn load_into<S: Alter>(
 
 /// Puts the value that was found at a key into the answers, if one was.
 fn put_found(answers: &mut Answers, key: &Key, found: &Option<Value>)
-    ensures found { answers.new.by_key ≡ with_found answers.old.by_key key.now found.now }
+    ensures found { answers.new.by_key ≡ with_selected answers.old.by_key key.now found.now }
     ensures room { answers.new.room ≡ answers.old.room }
 {
     if let Some(value) = found {
@@ -234,7 +234,7 @@ fn bytes_in(row: &Row) -> Result<&[u8], Error>
 /// After an `Err` the table is as it was, or the transaction that was open is rolled back.
 pub fn write<S: Alter>(conn: &mut Connection<S>, key: &Key, value: &Value) -> Result<(), Error>
     ensures { HasCleanDisk (state S.Store conn.new)
-        → RunsOnce write_sql (entry_row (key.now, value.now)) (state S.Store conn.old) (state S.Store conn.new) result }
+        → ExecutesOnce write_sql (entry_row (key.now, value.now)) (state S.Store conn.old) (state S.Store conn.new) result }
 {
     run_once(conn, WRITE, params![key.bytes(), value.bytes()])
 }
@@ -244,7 +244,7 @@ pub fn write<S: Alter>(conn: &mut Connection<S>, key: &Key, value: &Value) -> Re
 /// After an `Err` the table is as it was, or the transaction that was open is rolled back.
 pub fn delete<S: Alter>(conn: &mut Connection<S>, key: &Key) -> Result<(), Error>
     ensures { HasCleanDisk (state S.Store conn.new)
-        → RunsOnce delete_sql (key_row key.now) (state S.Store conn.old) (state S.Store conn.new) result }
+        → ExecutesOnce delete_sql (key_row key.now) (state S.Store conn.old) (state S.Store conn.new) result }
 {
     run_once(conn, DELETE, params![key.bytes()])
 }
@@ -256,7 +256,7 @@ fn run_once<S: Alter>(
     given: &[ValueRef<'_>],
 ) -> Result<(), Error>
     ensures { HasCleanDisk (state S.Store conn.new)
-        → RunsOnce sql.now (bound given.now) (state S.Store conn.old) (state S.Store conn.new) result }
+        → ExecutesOnce sql.now (bound given.now) (state S.Store conn.old) (state S.Store conn.new) result }
 {
     conn.execute(sql, given)?;
     Ok(())

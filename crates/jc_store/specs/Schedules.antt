@@ -8,7 +8,7 @@
 --     answers_with_all     answers with these put to them, in their order
 --     AnswersToo           the wrapped loader's answers, with these put to them
 --     write_failure        the code with which a writer's call for one key fails, if it fails
---     FindsNoMemory        an allocation failed before a writer began: it answers `NO_MEMORY`, all is left, and the wrapped
+--     AnswersNoMemory      an allocation failed before a writer began: it answers `NO_MEMORY`, all is left, and the wrapped
 --                          writer isn't called
 --     is_kept_back         whether a key is kept back from the wrapped writer
 --     part_answer          the answer of a writer at its scheduled call: its code, otherwise the answer of the wrapped one
@@ -64,8 +64,8 @@ AnswersToo more Says answers = (said : AnswersByKey) × Says said × (answers �
 abbrev pub write_failure : Bool → WriteFault → Option ℕ
 write_failure due fault = cond due fault.code None
 
-abbrev pub FindsNoMemory : {A : Type 0} → List ℕ → List A → Result (Unit {0}) ℕ → List A → List ℕ → Type 0
-FindsNoMemory state items answer left after = (answer ≡ Err NO_MEMORY) × (left ≡ items) × (after ≡ state)
+abbrev pub AnswersNoMemory : {A : Type 0} → List ℕ → List A → Result (Unit {0}) ℕ → List A → List ℕ → Type 0
+AnswersNoMemory state items answer left after = (answer ≡ Err NO_MEMORY) × (left ≡ items) × (after ≡ state)
 
 abbrev pub is_kept_back : WriteFault → Bytes → Bool
 is_kept_back fault key = is_among fault.leaves.items key
@@ -97,4 +97,4 @@ abbrev pub WritesAsScheduled : {A : Type 0} → (A → Bytes) → (List A → By
     → (List A → Result (Unit {0}) ℕ → List A → List ℕ → Type 0) → List ℕ → List A → Result (Unit {0}) ℕ → List A → List ℕ → Type 0
 WritesAsScheduled key_of with_added false fault Calls state items answer left after = Calls items answer left after
 WritesAsScheduled key_of with_added true fault Calls state items answer left after =
-    FindsNoMemory state items answer left after ⊎ WritesPart key_of with_added fault Calls items answer left after
+    AnswersNoMemory state items answer left after ⊎ WritesPart key_of with_added fault Calls items answer left after

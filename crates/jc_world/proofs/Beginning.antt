@@ -3,7 +3,7 @@
 --     reached_empty, start_is        the stripes of the start, which are reached
 --     order_called                   once a call has begun
 --     may_start_at, begins_at        the conditions on a first phase
-use Rattle.jc_world.proofs.Common.{◌≡◌, ℕ, zero, suc, ◌+◌, Bool, true, false, cond, not, ◌&&◌, ◌||◌, List, [], ◌∷◌, ◌++◌, length, is_some, is_none, IsSomeAnd, ◌==◌, slice_get, Some, None, Ok, Option, find, sym, refl, ap, ◌∙◌, subst, append-nil, add-zero, zero-add, arith, not-true, eqb-true, eq-eqb, and_parts, and_from, or_left, or_right, false_from_ne_true, nat_list_cmp_total, pointwise, get, insert, len-empty, get-insert, all_filter, is_session, check, stripe_of, Caller, Config, Bytes, Cache, key_cmp, may_come, is_of_stripe, Op, Get, belongs_to, Joiner, may_come_all, is_other_call, is_other_join, MayBegin, IsReached, State, is_of, Reservation, Command, Part, Premises, WorldEvent, CallState, new_call, has_number, op_at, op_for, opened, is_playable, is_new, is_free, may_start, fits, IsWorldStripe, is_up_to, has_parked_answer, is_served_in, is_served, FitsKey, FitsCall, CallsFit, IsCallOf, IsOwned, IsCalled, AllCalled, IsSoundWorld, Parts, WorldState, home, stripe_for, empty_stripe, empty_stripes, is_busy, open_call, part_of, is_joined}
+use Rattle.jc_world.proofs.Common.{◌≡◌, ℕ, zero, suc, ◌+◌, Bool, true, false, cond, not, ◌&&◌, ◌||◌, List, [], ◌∷◌, ◌++◌, length, is_some, is_none, IsSomeAnd, ◌==◌, slice_get, Some, None, Ok, Option, find, sym, refl, ap, ◌∙◌, subst, append-nil, add-zero, zero-add, arith, not-true, eqb-true, eq-eqb, and_parts, and_from, or_left, or_right, false_from_ne_true, nat_list_cmp_total, pointwise, get, insert, len-empty, get-insert, all_filter, is_session, check, stripe_of, Caller, Config, Bytes, Cache, key_cmp, may_come, is_of_stripe, Op, Get, belongs_to, Joiner, may_come_all, is_other_call, is_other_join, MayBegin, IsReached, State, is_of, Reservation, Command, Part, Premises, WorldEvent, CallState, new_call, has_number, op_at, op_for, opened, is_playable, is_new, is_free, may_start, fits, IsWorldStripe, is_up_to, has_parked_answer, is_served_in, is_served, FitsKey, FitsCall, CallsFit, IsCallOf, IsOwned, IsCalled, AllCalled, IsSoundWorld, Parts, WorldState, home, stripe_for, fresh_stripe, fresh_stripes, is_busy, open_call, part_of, is_joined}
 use Rattle.jc_model.proofs.CallerLemmas.{empty_opens}
 use Rattle.jc_world.proofs.Numbered.{some_of}
 use Rattle.jc_world.proofs.Halves.{HasOrder}
@@ -97,18 +97,18 @@ order_parted w key old part premises store there same was =
 -- 2. The start.
 
 -- each stripe at the start is empty
-empty_at : (config : Config) (base count n : ℕ) (s : State) → slice_get (empty_stripes config base count) n ≡ Some s → s ≡ empty_stripe config (base + n)
+empty_at : (config : Config) (base count n : ℕ) (s : State) → slice_get (fresh_stripes config base count) n ≡ Some s → s ≡ fresh_stripe config (base + n)
 empty_at config base zero n s h = cc
-empty_at config base (suc count) zero s h = let is : empty_stripe config base ≡ s = cc in sym is ∙ ap (empty_stripe config) (sym (add-zero base))
-empty_at config base (suc count) (suc n) s h = empty_at config (base + 1) count n s h ∙ ap (empty_stripe config) (let e : (base + 1) + n ≡ base + suc n = omega arith in e)
+empty_at config base (suc count) zero s h = let is : fresh_stripe config base ≡ s = cc in sym is ∙ ap (fresh_stripe config) (sym (add-zero base))
+empty_at config base (suc count) (suc n) s h = empty_at config (base + 1) count n s h ∙ ap (fresh_stripe config) (let e : (base + 1) + n ≡ base + suc n = omega arith in e)
 
 -- and there are as many as wanted
-pub empty_count : (config : Config) (base count : ℕ) → length (empty_stripes config base count) ≡ count
+pub empty_count : (config : Config) (base count : ℕ) → length (fresh_stripes config base count) ≡ count
 empty_count config base zero = refl
 empty_count config base (suc count) = ap suc (empty_count config (base + 1) count)
 
 -- an empty stripe is reached
-pub reached_empty : (config : Config) (n : ℕ) → check config ≡ Ok tt → IsReached (empty_stripe config n)
+pub reached_empty : (config : Config) (n : ℕ) → check config ≡ Ok tt → IsReached (fresh_stripe config n)
 reached_empty config n fits = record {
   config_fits = fits;
   chain = tt;
@@ -134,8 +134,8 @@ reached_empty config n fits = record {
 }
 
 -- and each stripe of the start is an empty one
-pub start_is : (config : Config) (n : ℕ) (s : State) → slice_get (empty_stripes config 0 config.stripes) n ≡ Some s → s ≡ empty_stripe config n
-start_is config n s h = empty_at config 0 config.stripes n s h ∙ ap (empty_stripe config) (zero-add n)
+pub start_is : (config : Config) (n : ℕ) (s : State) → slice_get (fresh_stripes config 0 config.stripes) n ≡ Some s → s ≡ fresh_stripe config n
+start_is config n s h = empty_at config 0 config.stripes n s h ∙ ap (fresh_stripe config) (zero-add n)
 
 -- 3. A new call.
 

@@ -2,7 +2,7 @@
 --     order_key                       after each kind of change at a key
 --     order_happens, order_opened     after any event that fits, and after an entry of the store's opening
 --     order_is, has_shares            the order is one legal history over all stripes, and each stripe's history is its part of it
-use Rattle.jc_world.proofs.Common.{◌≡◌, ℕ, zero, suc, ◌+◌, ◌%◌, ◌<◌, Bool, true, false, cond, not, ◌&&◌, ◌||◌, ◌⊎◌, List, [], ◌∷◌, ◌++◌, length, is_none, IsSomeAnd, nat_lt, ◌==◌, slice_get, slice_set, Some, None, sum, Option, option_map, find, sym, refl, ap, ◌∙◌, subst, inl, inr, arith, not-true, eqb-true, and_parts, false_from_ne_true, nat_list_cmp_total, nat_list_eq_equiv, eq_by_cmp_equiv, pointwise, texts_ties, get, insert, remove, get-insert, get-remove, list_all, eq_by_cmp, all_imply, Caller, Config, Refusal, Bytes, Cache, key_cmp, nothing_said, events_of, of_stripe, IsHistory, IsOpening, Op, Get, Out, belongs_to, is_waiting, waits_for, callers_of, after_resolve, JoinState, Again, Answered, Waiting, Joiner, StaysReached, IsSameStripe, Extends, may_come_all, new_group, Steps, with_joiner, Begins, after_commit, Commits, Withdraws, without_joiner, PicksUp, JoinFits, IsReached, State, is_of, is_key, is_reserved, with_reservation, without_key, IsOut, JoinClaim, Begun, Polled, StepDone, Reservation, Part, Premises, PartProgress, Shown, WorldEvent, cache_at, opening_at, IsOrder, HasShares, SweepState, CallState, has_number, op_at, op_for, open_keys, going_on, with_met, replaced, settle, drop_call, with_found, with_stripe, with_phase, step_of, fault_in, with_settled, with_met_by, without_call, with_look, new_part, with_part, without_part, with_join, without_join, Happens, is_free, may_leave, fits, IsWorldStripe, is_up_to, has_answer, has_parked_answer, is_served_in, is_served, FitsCall, CallsFit, Each, IsHeld, IsCallOf, IsOwned, AllOwned, IsCalled, IsSoundWorld, Parts, Joins, WorldState, home, stripe_for, open_call, part_of, out_of, join_of, is_joined, with_stored}
+use Rattle.jc_world.proofs.Common.{◌≡◌, ℕ, zero, suc, ◌+◌, ◌%◌, ◌<◌, Bool, true, false, cond, not, ◌&&◌, ◌||◌, ◌⊎◌, List, [], ◌∷◌, ◌++◌, length, is_none, IsSomeAnd, nat_lt, ◌==◌, slice_get, slice_set, Some, None, sum, Option, option_map, find, sym, refl, ap, ◌∙◌, subst, inl, inr, arith, not-true, eqb-true, and_parts, false_from_ne_true, nat_list_cmp_total, nat_list_eq_equiv, eq_by_cmp_equiv, pointwise, texts_ties, get, insert, remove, get-insert, get-remove, list_all, eq_by_cmp, all_imply, Caller, Config, Refusal, Bytes, Cache, key_cmp, nothing_said, events_of, of_stripe, IsHistory, IsOpening, Op, Get, Out, belongs_to, is_waiting, waits_for, callers_of, after_resolve, JoinState, Again, Answered, Waiting, Joiner, StaysReached, IsSameStripe, Extends, may_come_all, new_group, Steps, with_joiner, Begins, after_commit, Commits, Withdraws, without_joiner, PicksUp, JoinFits, IsReached, State, is_of, is_key, is_reserved, with_reservation, without_key, IsOut, JoinClaim, Begun, Polled, StepDone, Reservation, Part, Premises, PartProgress, Shown, WorldEvent, cache_at, opening_at, IsOrder, HasShares, SweepState, CallState, has_number, op_at, op_for, open_keys, going_on, with_met, replaced, settle, drop_call, with_swept_keys, with_stripe, with_phase, step_of, fault_in, with_settled, with_met_by, without_call, with_look, new_part, with_part, without_part, with_join, without_join, Happens, is_free, may_leave, fits, IsWorldStripe, is_up_to, has_answer, has_parked_answer, is_served_in, is_served, FitsCall, CallsFit, Each, IsHeld, IsCallOf, IsOwned, AllOwned, IsCalled, IsSoundWorld, Parts, Joins, WorldState, home, stripe_for, open_call, part_of, out_of_part, join_of, is_joined, with_stored}
 use Rattle.jc_world.proofs.Numbered.{some_of}
 use Rattle.jc_inflight.specs.Taking.{without_joiner as without}
 use Rattle.jc_world.proofs.Halves.{HasOrder, order_half}
@@ -325,14 +325,14 @@ caller_put w key from to met call load place j k there joiners own h key_is wait
 
 -- by the reservation that is over
 ending : (w : WorldState) (call : ℕ) (key : Bytes) (met : Option Refusal) (part : Part) (from to : State) (done : StepDone) → part_of w call key ≡ Some part → part.reservation.caller.call ≡ call → part.reservation.key ≡ key
-    → stripe_for w key ≡ Some from → IsOut from part.reservation → Steps (after_commit from part.reservation done.place) part.reservation.caller part.reservation.key part.reservation.op (out_of part) (callers_of part.reservation.number from.joiners) done to
+    → stripe_for w key ≡ Some from → IsOut from part.reservation → Steps (after_commit from part.reservation done.place) part.reservation.caller part.reservation.key part.reservation.op (out_of_part part) (callers_of part.reservation.number from.joiners) done to
     → IsOwned w part.reservation → IsSoundWorld w → Ending w call key met from to
 unfolding goes
 ending w call key met part from to done is part_call r_key there out steps owned old =
     let r = part.reservation in
     let u = some_of (open_call w r.caller.call) (IsCallOf r.caller.session r.key r.op) owned.call in
     let mid = after_commit from r done.place in
-    let g = goes from mid to r.caller r.key r.op (out_of part) (callers_of r.number from.joiners) done (record { config = refl; stripe = refl; origin = refl; lives = refl; ended = refl; opening = refl }) refl steps in
+    let g = goes from mid to r.caller r.key r.op (out_of_part part) (callers_of r.number from.joiners) done (record { config = refl; stripe = refl; origin = refl; lives = refl; ended = refl; opening = refl }) refl steps in
     let n = ended_world w key from to call met in
     let alone : is_joined w r.caller.call r.key ≡ false = (λ i. is_joined w (part_call i) (r_key i)) ∙ false_from_ne_true (is_joined w call key) (λ t. let e : Some part ≡ None = sym is ∙ joined_no_part w call key t old.joins in cc) in
     let one : IsPut w n call key r.caller r.key = record { v = u.0; here = u.1; session_is = u.2.0; op = r.op; op_is = u.2.1; unserved = unserved w r.caller r.key alone old; over = inl (part_call, r_key) } in
@@ -348,14 +348,14 @@ ending w call key met part from to done is part_call r_key there out steps owned
     in
     record {
       extends = g;
-      put = by_group (IsPut w n call key) (length mid.history) (new_group mid r.caller r.key r.op (out_of part) (callers_of part.reservation.number from.joiners) steps.short) one callers;
+      put = by_group (IsPut w n call key) (length mid.history) (new_group mid r.caller r.key r.op (out_of_part part) (callers_of part.reservation.number from.joiners) steps.short) one callers;
       keeps = λ caller q h. ap (λ js. has_parked_answer (joiner_of caller q js)) joiners ∙ told_resolved r.number done.place (done.place + 1) caller q from.joiners h;
       left = ap (λ (s : State). s.reservations) steps.after ∙ ap (λ k. without_key k from.reservations) r_key;
     }
 
 -- by the part of the call
 pub ending_at : (w : WorldState) (call : ℕ) (key : Bytes) (met : Option Refusal) (part : Part) (from to : State) (done : StepDone) → part_of w call key ≡ Some part → stripe_for w key ≡ Some from
-    → Commits from part.reservation (out_of part) done to → IsSoundWorld w → Ending w call key met from to
+    → Commits from part.reservation (out_of_part part) done to → IsSoundWorld w → Ending w call key met from to
 ending_at w call key met part from to done is there commits old =
     let at = of_call-at call (get w.parts key) part is in
     let held = some_of (stripe_for w key) (λ s. IsHeld s key part) (old.held key part at.0) in
@@ -508,7 +508,7 @@ order_left w call fit old = go (open_call w call) refl fit
 pub looked_called : (w : WorldState) (call stripe : ℕ) (keys : List Bytes) (s : SweepState) (u : CallState) → open_call w call ≡ Some u → u.sweep ≡ Some s → (number session : ℕ) (q : Bytes) (op : Op) → IsSomeAnd (open_call w number) (IsCallOf session q op)
     → IsSomeAnd (open_call (with_look w call stripe keys s) number) (IsCallOf session q op)
 looked_called w call stripe keys s u here sweeps number session q op h =
-    still_taken call (λ x. going_on (with_found w.config.stripes stripe keys s x)) u number session q op w.calls here (λ v goes. taken_of w.config.stripes stripe keys s u v sweeps goes) (λ is over. taken_on w.config.stripes stripe keys s u q op is over) h
+    still_taken call (λ x. going_on (with_swept_keys w.config.stripes stripe keys s x)) u number session q op w.calls here (λ v goes. taken_of w.config.stripes stripe keys s u v sweeps goes) (λ is over. taken_on w.config.stripes stripe keys s u q op is over) h
 
 -- a call has taken keys, or has met something
 order_taken : (w : WorldState) (call : ℕ) (left : CallState → Option CallState) (u : CallState) → open_call w call ≡ Some u → ((v : CallState) → left u ≡ Some v → Taken u v)
@@ -524,7 +524,7 @@ order_taken w call left u here taken called old =
 
 order_looked : (w : WorldState) (call stripe : ℕ) (keys : List Bytes) (s : SweepState) (u : CallState) → open_call w call ≡ Some u → u.sweep ≡ Some s → IsSoundWorld w → HasOrder (with_look w call stripe keys s)
 order_looked w call stripe keys s u here sweeps old =
-    order_taken w call (λ x. going_on (with_found w.config.stripes stripe keys s x)) u here (λ v goes. taken_of w.config.stripes stripe keys s u v sweeps goes)
+    order_taken w call (λ x. going_on (with_swept_keys w.config.stripes stripe keys s x)) u here (λ v goes. taken_of w.config.stripes stripe keys s u v sweeps goes)
     (looked_called w call stripe keys s u here sweeps) old
 
 -- a call that has met something continues at each of its keys
@@ -563,7 +563,7 @@ order_key stays w new e key seen (by_join u op from to join start there h is non
     subst HasOrder (sym is) (order_joins w key from to join there h.3 reached old)
 order_key stays w new e key seen (by_commit call part from to x e_is part_is there h home_is is shows) fit old =
     let end = ending_at w call key (fault_in x.reply) part from to (step_of x) part_is there h old in
-    let reached = stays.commits from to part.reservation (out_of part) (step_of x) (old.shape.each (home w key) from there).reached h in
+    let reached = stays.commits from to part.reservation (out_of_part part) (step_of x) (old.shape.each (home w key) from there).reached h in
     subst HasOrder (sym is) (order_commit w call key (fault_in x.reply) from to old there end reached)
 order_key stays w new e key seen (by_withdrawal call part from to e_is part_is there h is shows) fit old = subst HasOrder (sym is) (order_withdrawn stays w key part.reservation from to (part_key w call key part part_is old) there h old)
 order_key stays w new e key seen (by_answer call join from to x e_is join_is there h home_is is shows ends) fit old =

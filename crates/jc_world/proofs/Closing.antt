@@ -4,7 +4,7 @@
 --     picked         one join less, once it has its answer
 --     never_waits    if no key is reserved, no joiner waits
 --     held_out, joins_out    what is out in a world that is sound
-use Rattle.jc_world.proofs.Common.{◌≡◌, ℕ, ◌+◌, ◌<◌, Bool, true, false, cond, not, ◌&&◌, ◌⊎◌, List, [], ◌∷◌, length, get_or, is_some, IsSomeAnd, ◌==◌, slice_get, slice_set, Some, None, Option, option_map, find, sym, refl, ap, ◌∙◌, subst, inl, inr, arith, not-true, eqb-true, and_parts, and_from, false_from_ne_true, nat_list_cmp_total, eq_by_cmp_equiv, pointwise, texts_ties, empty, get, remove, get-empty, get-remove, list_all, eq_by_cmp, all_imply, all_filter, stripe_of, Config, Bytes, key_cmp, Out, belongs_to, Waiting, Joiner, StaysReached, Commits, Withdraws, without_joiner, PicksUp, JoinFits, AllJoin, IsReached, State, is_of, is_key, without_key, IsOut, IsJoined, JoinClaim, Polled, StepDone, Reservation, Part, IsLeft, AreLeft, out_at, IsPartOut, HasHeld, IsJoinOut, HasJoins, NoneReserved, IsHeld, IsOwned, IsSoundWorld, Parts, JoinKey, join_key, Joins, WorldState, stripe_for}
+use Rattle.jc_world.proofs.Common.{◌≡◌, ℕ, ◌+◌, ◌<◌, Bool, true, false, cond, not, ◌&&◌, ◌⊎◌, List, [], ◌∷◌, length, get_or, is_some, IsSomeAnd, ◌==◌, slice_get, slice_set, Some, None, Option, option_map, find, sym, refl, ap, ◌∙◌, subst, inl, inr, arith, not-true, eqb-true, and_parts, and_from, false_from_ne_true, nat_list_cmp_total, eq_by_cmp_equiv, pointwise, texts_ties, empty, get, remove, get-empty, get-remove, list_all, eq_by_cmp, all_imply, all_filter, stripe_of, Config, Bytes, key_cmp, Out, belongs_to, Waiting, Joiner, StaysReached, Commits, Withdraws, without_joiner, PicksUp, JoinFits, AllJoin, IsReached, State, is_of, is_key, without_key, IsOut, IsJoined, JoinClaim, Polled, StepDone, Reservation, Part, IsLeftStripe, AreLeft, out_at, IsPartOut, HasHeld, IsJoinOut, HasJoins, NoneReserved, IsHeld, IsOwned, IsSoundWorld, Parts, JoinKey, join_key, Joins, WorldState, stripe_for}
 use Rattle.jc_world.proofs.Lemmas.{set_cases, length-slice_set, each_test, others_left, same_bytes, find_kept, joined_resolved, joined_dissolved, at_stripe, found_left, some_of, within, at_index}
 use Rattle.jc_world.proofs.Maps.{joins_ordered, each_left}
 
@@ -52,11 +52,11 @@ over stays from to r reached (inr h) = given_back stays from to r reached h
 pub left_set : (config : Config) (ss : List State) (n : ℕ) (from to : State) → AreLeft config ss → slice_get ss n ≡ Some from → to.config ≡ from.config → to.stripe ≡ from.stripe → to.origin ≡ from.origin → IsReached to → AreLeft config (slice_set ss n to)
 left_set config ss n from to left at config_is number_is origin_is reached =
     let was = left.each n from at in
-    let now : IsLeft config n to = record { config_is = config_is ∙ was.config_is; number_is = number_is ∙ was.number_is; origin_is = origin_is ∙ was.origin_is; reached = reached } in
+    let now : IsLeftStripe config n to = record { config_is = config_is ∙ was.config_is; number_is = number_is ∙ was.number_is; origin_is = origin_is ∙ was.origin_is; reached = reached } in
     record {
       count = length-slice_set ss n to ∙ left.count;
       each = λ m s. set_cases ss n m to s
-          (λ same is. let P : ℕ → Type 0 = λ m. IsLeft config m s in let Q : State → Type 0 = λ s. IsLeft config n s in subst P same (subst Q is now))
+          (λ same is. let P : ℕ → Type 0 = λ m. IsLeftStripe config m s in let Q : State → Type 0 = λ s. IsLeftStripe config n s in subst P same (subst Q is now))
           (λ apart here. left.each m s here);
     }
 
@@ -90,7 +90,7 @@ backs parts left key (r ∷ rs) is h k =
     and_from _ _ (ap is_some (left_at parts left key r.key is ∙ ap (λ b. cond b None (get parts r.key)) apart) ∙ a.0) (backs parts left key rs is a.1 b.1)
 
 -- the reservations of another stripe are of other keys
-other_stripe : (config : Config) (key : Bytes) (m : ℕ) (s : State) (rs : List Reservation) → IsLeft config m s → (stripe_of key config.stripes ≡ m → ⊥) → list_all (λ r. is_of s r.key) rs ≡ true → list_all (λ r. not (is_key key r)) rs ≡ true
+other_stripe : (config : Config) (key : Bytes) (m : ℕ) (s : State) (rs : List Reservation) → IsLeftStripe config m s → (stripe_of key config.stripes ≡ m → ⊥) → list_all (λ r. is_of s r.key) rs ≡ true → list_all (λ r. not (is_key key r)) rs ≡ true
 other_stripe config key m s rs at apart = all_imply (λ (r : Reservation). is_of s r.key) (λ r. not (is_key key r)) rs (λ r mine. ap not (false_from_ne_true (is_key key r) (λ same.
     let keys = same_bytes key r.key same in
     let number : stripe_of r.key s.config.stripes ≡ s.stripe = eqb-true (stripe_of r.key s.config.stripes) s.stripe mine in

@@ -8,13 +8,13 @@
 --     given_if, has_report, no_report
 --                                the writer's report is there if it was asked
 --     answered_failed, due_told  a writer that fails leaves a key of which all is answered, and what was due
-use Rattle.jc_world.proofs.Common.{◌≡◌, Bool, true, false, cond, not, ◌&&◌, is_some, ◌⊎◌, inl, inr, Option, Some, None, sym, refl, ap, ◌∙◌, subst, Config, Bytes, Change, WriteAnswer, Out, is_load_given, is_write_given, is_process_given, effect_change, change_due, ProcessResult, TicketClaim, Claim, Reservation, First, Loader, Nobody, Processor, Writer, asks_loader, asks_processor, load_only, write_only, Part, PartProgress, FitsAsked, change_in, IsDueIn, is_unanswered, is_answered, waits_for_report, with_report}
+use Rattle.jc_world.proofs.Common.{◌≡◌, Bool, true, false, cond, not, ◌&&◌, is_some, ◌⊎◌, inl, inr, Option, Some, None, sym, refl, ap, ◌∙◌, subst, Config, Bytes, Change, WriteAnswer, Out, is_load_given, is_write_given, is_process_given, effect_change, change_due, ProcessResult, TicketClaim, Claim, Reservation, First, Loader, Nobody, Processor, Writer, asks_loader, asks_processor, load_only, write_only, Part, PartProgress, FitsAsked, change_in, IsDueIn, is_unanswered, is_all_answered, waits_for_report, with_report}
 use Rattle.jc_model.specs.declared.event.WriteAnswer.TheVariants as write
 use Rattle.jc_outside.specs.Done.{WriteResult}
 use Rattle.jc_outside.specs.declared.done.Origin.{Origin}
 use Rattle.jc_stripe.specs.Effects.{HasReport}
 use Rattle.jc_stripe.specs.Tickets.{id_of}
-use Rattle.jc_world.specs.Held.{HasRun}
+use Rattle.jc_world.specs.Held.{HasPlayedRun}
 
 -- 1. Of a processor.
 
@@ -44,7 +44,7 @@ mid_of : (a b c : Bool) → (not a && not b && not c) ≡ true → b ≡ false
 mid_of false false c h = refl
 mid_of a b c h = cc
 
-pub is_reported : (part : Part) → is_answered part ≡ true → waits_for_report part ≡ false
+pub is_reported : (part : Part) → is_all_answered part ≡ true → waits_for_report part ≡ false
 is_reported part h = last_of _ _ (waits_for_report part) h
 
 -- one alone is asked, and has answered
@@ -52,7 +52,7 @@ alone_given : (b : Bool) → (not b && not false && not false) ≡ false → b �
 alone_given true h = refl
 alone_given false h = cc
 
-pub load_answered : (part : Part) → part.reservation.first ≡ Loader → FitsAsked part.reservation.first part.progress → is_answered part ≡ true → is_load_given part.progress.out.load ≡ true
+pub load_answered : (part : Part) → part.reservation.first ≡ Loader → FitsAsked part.reservation.first part.progress → is_all_answered part ≡ true → is_load_given part.progress.out.load ≡ true
 load_answered part is fits all =
     let out = part.progress.out in
     let told : out ≡ load_only out.load = (subst (λ first. FitsAsked first part.progress) is fits).1 in
@@ -60,7 +60,7 @@ load_answered part is fits all =
     let known : is_unanswered out ≡ false = subst (λ first. (asks_loader first && is_unanswered out) ≡ false) is asked in
     alone_given (is_load_given out.load) (subst (λ o. is_unanswered o ≡ false) told known)
 
-pub write_answered : (part : Part) (change : Change) → part.reservation.first ≡ Writer change → FitsAsked part.reservation.first part.progress → is_answered part ≡ true → is_write_given part.progress.out.write ≡ true
+pub write_answered : (part : Part) (change : Change) → part.reservation.first ≡ Writer change → FitsAsked part.reservation.first part.progress → is_all_answered part ≡ true → is_write_given part.progress.out.write ≡ true
 write_answered part change is fits all =
     let some : part.progress.change ≡ Some change = (subst (λ first. FitsAsked first part.progress) is fits).0 in
     not_false (is_write_given part.progress.out.write)
@@ -73,11 +73,11 @@ pub written_only : (part : Part) (change : Change) → part.reservation.first �
 written_only part change is fits = sym (subst (λ first. FitsAsked first part.progress) is fits).1
 
 -- somebody is asked, and a processor has run
-pub somebody_asks : (ticket : TicketClaim) (p : PartProgress) (changed : Part) → changed ≡ record { reservation = ticket.reservation; progress = p } → (ticket.reservation.first ≡ Nobody) ⊎ ((entry : Option Bytes) × (may_load : Bool) × (ticket.reservation.first ≡ Processor entry may_load)) → FitsAsked ticket.reservation.first p → HasRun ticket None p.out → is_answered changed ≡ true → ⊥
+pub somebody_asks : (ticket : TicketClaim) (p : PartProgress) (changed : Part) → changed ≡ record { reservation = ticket.reservation; progress = p } → (ticket.reservation.first ≡ Nobody) ⊎ ((entry : Option Bytes) × (may_load : Bool) × (ticket.reservation.first ≡ Processor entry may_load)) → FitsAsked ticket.reservation.first p → HasPlayedRun ticket None p.out → is_all_answered changed ≡ true → ⊥
 somebody_asks ticket p part same (inl is) fits ran all = subst (λ first. FitsAsked first p) is fits
 somebody_asks ticket p part same (inr is) fits ran all =
     let un : is_unanswered p.out ≡ true = ((subst (λ first. FitsAsked first p) is.2 fits).1 ran.1).1 in
-    let at : is_answered (record { reservation = ticket.reservation; progress = p }) ≡ true = ap is_answered (sym same) ∙ all in
+    let at : is_all_answered (record { reservation = ticket.reservation; progress = p }) ≡ true = ap is_all_answered (sym same) ∙ all in
     let asks : asks_processor ticket.reservation.first ≡ true = ap asks_processor is.2 in
     let over : (asks_processor ticket.reservation.first && is_unanswered p.out) ≡ false = mid_of _ _ _ at in
     let both : (true && true) ≡ false = (λ i. sym asks i && sym un i) ∙ over in
@@ -110,7 +110,7 @@ no_report origin r (Some x) is = cc
 
 -- 4. A writer that fails.
 
-pub answered_failed : (part : Part) (code : _) → is_answered (record part { progress = with_report part.progress (write.Failed code) }) ≡ true
+pub answered_failed : (part : Part) (code : _) → is_all_answered (record part { progress = with_report part.progress (write.Failed code) }) ≡ true
 answered_failed part code =
     let load = is_load_given part.progress.out.load in
     let process = is_process_given part.progress.out.process in

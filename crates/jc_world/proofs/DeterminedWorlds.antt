@@ -1,5 +1,5 @@
 -- An event of a world is determined, but for insertions that are out of memory; and so is a run.
-use Rattle.jc_world.proofs.Common.{◌≡◌, ℕ, List, [], ◌∷◌, Bool, true, false, cond, Option, Some, option_map, slice_get, sym, refl, ap, ◌∙◌, subst, true≢false, inl, inr, and_parts, Caller, Op, Reply, Event, JoinState, Waiting, Answered, Again, JoinAnswer, Bytes, entry_at, State, JoinClaim, Begun, StepDone, WorldEvent, Outcome, Shown, Stepped, Part, keys_of, AreKeys, by_use, CallState, SweepState, puts_off, op_at, with_found, over_of, WorldState, home, out_of, writer_change, read_answer, report_for, load_from, Over, Change, WriterFailed}
+use Rattle.jc_world.proofs.Common.{◌≡◌, ℕ, List, [], ◌∷◌, Bool, true, false, cond, Option, Some, option_map, slice_get, sym, refl, ap, ◌∙◌, subst, true≢false, inl, inr, and_parts, Caller, Op, Reply, Event, JoinState, Waiting, Answered, Again, JoinAnswer, Bytes, entry_at, State, JoinClaim, Begun, StepDone, WorldEvent, Outcome, Shown, Stepped, Part, keys_of, AreKeys, by_use, CallState, SweepState, keeps_open, op_at, with_swept_keys, over_of, WorldState, home, out_of_part, writer_change, read_answer, report_for, load_from, Over, Change, WriterFailed}
 use Rattle.jc_model.specs.declared.event.Reply.TheVariants as reply
 use Rattle.jc_model.specs.declared.event.Event.TheVariants as stripe
 use Rattle.jc_stripe.specs.Outcomes as begun
@@ -8,7 +8,7 @@ use Rattle.jc_world.specs.declared.command.CallKind.{CallKind}
 use Rattle.jc_world.specs.declared.event.WorldEvent.TheVariants as event
 use Rattle.jc_world.specs.declared.event.Outcome.TheVariants as outcome
 use Rattle.jc_world.proofs.SortedKeys.{sorted-once}
-use Rattle.jc_world.specs.Events.{Happens, Step, Run, after_answer, after_change, after_process, run_result, shown_process, after_reports, with_met_by, keys_reported, reported_now, Starts, RefusesAs, Ends, Picks, with_stripe, with_phase, step_of, with_settled, fault_in, asks_as, new_progress, with_new_part, with_join, without_part, without_join, not_over, over_by, with_look}
+use Rattle.jc_world.specs.Events.{Happens, Step, Run, after_answer, after_change, after_process, run_result, shown_process, after_reports, with_met_by, keys_reported, reported_now, StartsAs, RefusesAs, Ends, Picks, with_stripe, with_phase, step_of, with_settled, fault_in, asks_as, new_progress, with_new_part, with_join, without_part, without_join, not_over, over_by, with_look}
 use Rattle.jc_world.specs.Determinism.{has_memory, have_memory}
 use Rattle.jc_world.proofs.DeterminedStripes.{begun_amply, begins-determined, commits-determined}
 use Rattle.jc_world.proofs.Facts.{some_back}
@@ -19,13 +19,13 @@ abbrev stepped_of : ℕ → StepDone → Stepped
 stepped_of stripe done = record { reply = done.reply; stripe = stripe; place = done.place; victim = done.victim; evicted = done.evicted }
 
 abbrev outcome_by : WorldState → CallKind → Bytes → Begun → Outcome
-outcome_by w kind key (begun.Refused r) = cond (puts_off kind r) (outcome.PutOff r) (outcome.Refused r)
+outcome_by w kind key (begun.Refused r) = cond (keeps_open kind r) (outcome.PutOff r) (outcome.Refused r)
 outcome_by w kind key (begun.Done done) = outcome.Stepped (stepped_of (home w key) done)
 outcome_by w kind key (begun.Asks ticket) = asks_as ticket.reservation.first
 outcome_by w kind key (begun.Joined join) = outcome.Joins
 
 abbrev world_by : WorldState → CallKind → Caller → Bytes → State → State → Begun → WorldState
-world_by w kind caller key from to (begun.Refused r) = cond (puts_off kind r) w (with_settled w caller.call key (Some r))
+world_by w kind caller key from to (begun.Refused r) = cond (keeps_open kind r) w (with_settled w caller.call key (Some r))
 world_by w kind caller key from to (begun.Done done) = with_settled (with_phase w key from to) caller.call key (fault_in done.reply)
 world_by w kind caller key from to (begun.Asks ticket) = with_new_part w key to (new_progress ticket.reservation.first) ticket.reservation
 world_by w kind caller key from to (begun.Joined join) = with_join (with_stripe w key to) join
@@ -38,7 +38,7 @@ record StartsBy (w : WorldState) (kind : CallKind) (caller : Caller) (key : Byte
   leaves : n ≡ world_by w kind caller key from to by
 
 starts-by : (w : WorldState) (kind : CallKind) (caller : Caller) (key : Bytes) (op : Op) (from to : State) (o : Outcome) (n : WorldState)
-    → Starts w caller key op from to o n → RefusesAs kind o → has_memory o ≡ true → StartsBy w kind caller key op from to o n
+    → StartsAs w caller key op from to o n → RefusesAs kind o → has_memory o ≡ true → StartsBy w kind caller key op from to o n
 starts-by w kind caller key op from to (outcome.Refused r) n starts kept ample =
     record { by = begun.Refused r; begins = starts.0; ample = refl; shown = rw kept refl; leaves = rw kept starts.1 }
 starts-by w kind caller key op from to (outcome.PutOff r) n starts kept ample =
@@ -68,7 +68,7 @@ starts-determined w kind caller key op from to too o p n m one other =
 ends-determined : (w : WorldState) (call : ℕ) (key : Bytes) (part : Part) (from to too : State) (o p : Outcome) (n m : WorldState)
     → Ends w call key part from to o n → has_memory o ≡ true → Ends w call key part from too p m → has_memory p ≡ true → (o ≡ p) × (n ≡ m)
 ends-determined w call key part from to too (outcome.Stepped a) (outcome.Stepped b) n m one ample other ample_too =
-    let same = commits-determined from to too part.reservation (out_of part) (step_of a) (step_of b) one.0 ample other.0 ample_too in (
+    let same = commits-determined from to too part.reservation (out_of_part part) (step_of a) (step_of b) one.0 ample other.0 ample_too in (
       ap (λ (h : ℕ). outcome.Stepped (record a { stripe = h })) one.1 ∙ ap (λ (d : StepDone). outcome.Stepped (stepped_of (home w key) d)) same.0 ∙ sym (ap (λ (h : ℕ). outcome.Stepped (record b { stripe = h })) other.1),
       one.2 ∙ ap (λ (d : StepDone). without_part (with_settled (with_phase w key from to) call key (fault_in d.reply)) key) same.0
           ∙ ap (λ (s : State). without_part (with_settled (with_phase w key from s) call key (fault_in b.reply)) key) same.1 ∙ sym other.2,
@@ -143,7 +143,7 @@ shown-as : (s t : Shown) → s.outcome ≡ t.outcome → s.over ≡ t.over → s
 shown-as s t o v = ap (λ (x : Outcome). record s { outcome = x }) o ∙ ap (λ (x : Option Over). record { outcome = t.outcome; over = x }) v
 
 abbrev shown_look : WorldState → ℕ → List Bytes → SweepState → CallState → Shown
-shown_look w stripe keys sweep u = record { outcome = outcome.Looked; over = over_of (with_found w.config.stripes stripe keys sweep u) }
+shown_look w stripe keys sweep u = record { outcome = outcome.Looked; over = over_of (with_swept_keys w.config.stripes stripe keys sweep u) }
 
 happens-determined : (w n m : WorldState) (e : WorldEvent) (s t : Shown)
     → Happens w e s n → has_memory s.outcome ≡ true → Happens w e t m → has_memory t.outcome ≡ true → (s ≡ t) × (n ≡ m)

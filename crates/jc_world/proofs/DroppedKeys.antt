@@ -2,7 +2,7 @@
 --     HasRoom          a stripe that has as many entries has room for this many more
 --     found_kept       what is found among the entries that the stripe of a key keeps: nothing if the key is dropped, else what there was
 --     found_in_all     what is found among all entries is what the stripe of the key caches
-use Rattle.jc_world.proofs.Common.{◌≡◌, ◌==◌, ℕ, zero, suc, ◌+◌, ◌<◌, ◌≤◌, Bool, true, false, cond, ◌||◌, List, [], ◌∷◌, ◌++◌, map, length, take, slice_get, Some, None, Option, option_or, is_none, sym, refl, ap, ◌∙◌, subst, arith, add-zero, zero-add, and_parts, eq-eqb, eqb-true, filter-append, list_any, list_all, pointwise, texts_ties, nat_list_cmp_total, get-from_entries, eq_by_cmp, stripe_of, Config, Bytes, entry_at, key_cmp, State, IsReached, IsShaped, WorldState, home, entry_in, cached_entry, none_is}
+use Rattle.jc_world.proofs.Common.{◌≡◌, ◌==◌, ℕ, zero, suc, ◌+◌, ◌<◌, ◌≤◌, Bool, true, false, cond, ◌||◌, List, [], ◌∷◌, ◌++◌, map, length, take, slice_get, Some, None, Option, option_or, is_none, sym, refl, ap, ◌∙◌, subst, arith, add-zero, zero-add, and_parts, eq-eqb, eqb-true, filter-append, list_any, list_all, pointwise, texts_ties, nat_list_cmp_total, get-from_entries, eq_by_cmp, stripe_of, Config, Bytes, entry_at, key_cmp, State, IsReached, IsWorldShaped, WorldState, home, entry_in, cached_entry, none_is}
 use Rattle.std.specs.FinMap as map
 use Rattle.std.proofs.lemmas.Bool.{le-leb, lt-leb}
 use Rattle.std.proofs.lemmas.List.{length-append}
@@ -174,6 +174,6 @@ found_from config key n (suc i) (s ∷ ss) at is =
     ∙ ap (λ o. option_or o (map.find key_cmp key (all_entries ss))) (missing_own config key n (entries_of s) (first_own config n s (at 0 s refl)) (λ same. omega arith))
     ∙ found_from config key (n + 1) i ss (others config n s ss at) (omega arith)
 
-pub found_in_all : (w : WorldState) (key : Bytes) → IsShaped w → map.find key_cmp key (all_entries w.stripes) ≡ cached_entry w key
+pub found_in_all : (w : WorldState) (key : Bytes) → IsWorldShaped w → map.find key_cmp key (all_entries w.stripes) ≡ cached_entry w key
 found_in_all w key shape =
     found_from w.config key 0 (home w key) w.stripes (λ i s here. let at = shape.each i s here in (at.reached, at.config_is, at.number_is ∙ sym (zero-add i))) (sym (zero-add (home w key)))

@@ -5,7 +5,7 @@
 --                    a call with a new number isn't under way, and is free of every key
 --     looks_begun    the looks of a call, behind its begin
 --     unjoined_held  a call that has reserved its key has not joined a load of it
-use Rattle.jc_world.proofs.Common.{◌≡◌, ℕ, zero, suc, ◌+◌, ◌<◌, ◌≤◌, true, false, cond, not, ◌||◌, List, [], ◌∷◌, ◌++◌, is_some, is_none, IsSomeAnd, nat_lt, nat_le, Some, None, Option, find, sym, refl, ap, ◌∙◌, subst, inl, inr, arith, lt-ltb, and_parts, and_from, false_from_ne_true, nat_tests, nat_eq_equiv, find-append, get, list_any, option_or, Caller, Bytes, Op, Get, State, JoinClaim, Command, Outcome, Part, Shown, WorldEvent, at_each, SweepState, sweep_of, CallState, new_call, has_number, op_at, is_open, is_going, has_too_many_keys, opened, going_on, has_looked, has_looked_at_each, with_found, with_look, Starts, Ends, Picks, Happens, is_fit, AllFit, is_new, is_free, is_to_look, may_look, fits, is_up_to, IsCallOf, IsSoundWorld, looks, WorldState, open_call, part_of, has_progress, is_untouched, is_joined}
+use Rattle.jc_world.proofs.Common.{◌≡◌, ℕ, zero, suc, ◌+◌, ◌<◌, ◌≤◌, true, false, cond, not, ◌||◌, List, [], ◌∷◌, ◌++◌, is_some, is_none, IsSomeAnd, nat_lt, nat_le, Some, None, Option, find, sym, refl, ap, ◌∙◌, subst, inl, inr, arith, lt-ltb, and_parts, and_from, false_from_ne_true, nat_tests, nat_eq_equiv, find-append, get, list_any, option_or, Caller, Bytes, Op, Get, State, JoinClaim, Command, Outcome, Part, Shown, WorldEvent, at_each, SweepState, sweep_of, CallState, new_call, has_number, op_at, is_open, is_going, has_too_many_keys, opened, going_on, has_looked, has_looked_at_each, with_swept_keys, with_look, StartsAs, Ends, Picks, Happens, is_fit, AllFit, is_new, is_free, is_to_look, may_look, fits, is_up_to, IsCallOf, IsSoundWorld, looks, WorldState, open_call, part_of, has_progress, is_untouched, is_joined}
 use Rattle.jc_world.proofs.Holding.{call_on}
 use Rattle.jc_world.proofs.Lemmas.{missing, same_found, found_number, fits_found, of_call-at, begun_cases, found_replaced, join_there, joined_no_part}
 use Rattle.jc_world.proofs.Unseen.{missed, unseen, seen_below}
@@ -13,7 +13,7 @@ use Rattle.jc_world.proofs.Unseen.{missed, unseen, seen_below}
 -- 1. What fits is shown as no fault.
 
 -- a phase is no fault
-started_fits : (w new : WorldState) (caller : Caller) (key : Bytes) (op : Op) (from to : State) (o : Outcome) → Starts w caller key op from to o new → is_fit o ≡ true
+started_fits : (w new : WorldState) (caller : Caller) (key : Bytes) (op : Op) (from to : State) (o : Outcome) → StartsAs w caller key op from to o new → is_fit o ≡ true
 started_fits w new caller key op from to Outcome.Unfit h = absurd h
 started_fits w new caller key op from to o h = refl
 
@@ -97,7 +97,7 @@ looked_next : (w : WorldState) (call stripe : ℕ) (keys : List Bytes) (s : Swee
 looked_next w call stripe keys s u here more =
     let next : Option SweepState → CallState = λ o. record u { tasks = u.tasks ++ at_each s.op keys; sweep = o } in
     let v : CallState = next (Some (record s { looked = s.looked ++ stripe ∷ [] })) in
-    (v, found_replaced call (λ x. going_on (with_found w.config.stripes stripe keys s x)) u v w.calls here (ap (λ b. going_on (next (cond b None (Some (record s { looked = s.looked ++ stripe ∷ [] }))))) more) refl, refl)
+    (v, found_replaced call (λ x. going_on (with_swept_keys w.config.stripes stripe keys s x)) u v w.calls here (ap (λ b. going_on (next (cond b None (Some (record s { looked = s.looked ++ stripe ∷ [] }))))) more) refl, refl)
 
 -- what a look leaves
 look_leaves : (w mid : WorldState) (call stripe : ℕ) (u : CallState) (s : SweepState) (seen : Shown) → open_call w call ≡ Some u → u.sweep ≡ Some s → (h : Happens w (WorldEvent.Look call stripe) seen mid) → mid ≡ with_look w call stripe h.6 s

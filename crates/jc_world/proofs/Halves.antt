@@ -1,8 +1,8 @@
 -- What is true of a world, in three parts: what its order and its calls say, what its parts and its store say, and what its joins say.
-use Rattle.jc_world.proofs.Common.{◌≡◌, ℕ, true, [], IsSomeAnd, slice_get, Some, None, get, list_all, Bytes, entry_at, in_order, State, Part, all_hold, IsShaped, number_up_to, CallsFit, Each, AllDue, IsHeld, AllOwned, AllWaitedFor, AllCalled, KeyAgrees, Sweeps, IsSoundWorld, WorldState, stripe_for, cached_entry}
+use Rattle.jc_world.proofs.Common.{◌≡◌, ℕ, true, [], IsSomeAnd, slice_get, Some, None, get, list_all, Bytes, entry_at, in_order, State, Part, all_hold, IsWorldShaped, number_up_to, CallsFit, Each, AllDue, IsHeld, AllOwned, AllWaitedFor, AllCalled, KeyAgrees, Sweeps, IsSoundWorld, WorldState, stripe_for, cached_entry}
 
 pub record HasOrder (w : WorldState) : Type 0 where
-  pub shape : IsShaped w
+  pub shape : IsWorldShaped w
   pub order : in_order w.order ≡ true
   pub numbers : list_all (number_up_to w.last) w.order ≡ true
   pub calls : CallsFit w w.calls

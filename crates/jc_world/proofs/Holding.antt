@@ -1,5 +1,5 @@
 -- What is known of a held key whose event fits.
-use Rattle.jc_world.proofs.Common.{◌≡◌, ℕ, Bool, true, false, cond, not, IsSomeAnd, ◌==◌, Some, None, Option, sym, refl, ap, ◌∙◌, get, Bytes, and_parts, is_key, Part, WorldEvent, op_at, fits, IsHeld, IsCallOf, IsOwned, IsSoundWorld, WorldState, home, stripe_for, open_call, of_call, part_of, has_progress, is_answered, is_unanswered, is_untouched}
+use Rattle.jc_world.proofs.Common.{◌≡◌, ℕ, Bool, true, false, cond, not, IsSomeAnd, ◌==◌, Some, None, Option, sym, refl, ap, ◌∙◌, get, Bytes, and_parts, is_key, Part, WorldEvent, op_at, fits, IsHeld, IsCallOf, IsOwned, IsSoundWorld, WorldState, home, stripe_for, open_call, of_call, part_of, has_progress, is_all_answered, is_unanswered, is_untouched}
 use Rattle.jc_world.proofs.Lemmas.{fact_found, some_of}
 
 pub is_part : (o : Option Part) (call : ℕ) (part : Part) → of_call call o ≡ Some part → o ≡ Some part
@@ -16,14 +16,14 @@ of_key test o call none h = go (of_call call o) refl h
     go (Some part) e h = let there = is_part o call part e in (part, e, there, ap test there ∙ h)
 
 -- a call whose commit fits has its key, and so what is held of that is its part
-pub fits_commit : (v w : WorldState) (call : ℕ) (key : Bytes) → v ≡ w → fits w (WorldEvent.Commit call key) ≡ true → (part : Part) × (part_of v call key ≡ Some part) × (get v.parts key ≡ Some part) × (has_progress is_answered (get v.parts key) ≡ true)
+pub fits_commit : (v w : WorldState) (call : ℕ) (key : Bytes) → v ≡ w → fits w (WorldEvent.Commit call key) ≡ true → (part : Part) × (part_of v call key ≡ Some part) × (get v.parts key ≡ Some part) × (has_progress is_all_answered (get v.parts key) ≡ true)
 fits_commit v w call key same fit =
-    of_key (has_progress is_answered) (get v.parts key) call (λ h. cc) (rw same fit)
+    of_key (has_progress is_all_answered) (get v.parts key) call (λ h. cc) (rw same fit)
 
-pub may_commit : (v w : WorldState) (call : ℕ) (key : Bytes) (part : Part) → v ≡ w → fits w (WorldEvent.Commit call key) ≡ true → get v.parts key ≡ Some part → (part_of v call key ≡ Some part) × (has_progress is_answered (Some part) ≡ true)
+pub may_commit : (v w : WorldState) (call : ℕ) (key : Bytes) (part : Part) → v ≡ w → fits w (WorldEvent.Commit call key) ≡ true → get v.parts key ≡ Some part → (part_of v call key ≡ Some part) × (has_progress is_all_answered (Some part) ≡ true)
 may_commit v w call key part same fit there =
     let one = fits_commit v w call key same fit in
-    (one.1 ∙ sym one.2 ∙ there, ap (has_progress is_answered) (sym there) ∙ one.3)
+    (one.1 ∙ sym one.2 ∙ there, ap (has_progress is_all_answered) (sym there) ∙ one.3)
 
 -- and so has a call that may withdraw
 pub fits_withdrawal : (v w : WorldState) (call : ℕ) (key : Bytes) → v ≡ w → fits w (WorldEvent.Withdraw call key) ≡ true → (part : Part) × (part_of v call key ≡ Some part) × (get v.parts key ≡ Some part) × (has_progress is_untouched (get v.parts key) ≡ true)

@@ -3,7 +3,7 @@
 --     TellsIn            a stripe has the joiner of a join, whose state tells that of the load
 --     tells_kept         it does later, if the joiners are the same or more, and the load stays out
 --     tells_committed, tells_withdrawn      it does where any load is over
-use Rattle.jc_world.proofs.Common.{◌≡◌, ℕ, ◌+◌, ◌<◌, Bool, true, false, cond, ◌&&◌, ◌||◌, List, [], ◌∷◌, ◌++◌, length, IsSomeAnd, ◌==◌, slice_get, Some, Option, find, sym, refl, ap, ◌∙◌, subst, arith, take-append_seam, eqb-true, eq-eqb, and_parts, false_from_ne_true, take-append-le, list_any-append, slice_get_within, pointwise, list_any, Caller, Bytes, after_dissolve, belongs_to, is_waiting, waits_for, with_answer, answered_from, after_resolve, JoinState, Again, Answered, Waiting, Joiner, IsReached, State, is_key, without_key, IsOut, JoinClaim, Reservation, Outcome, Over, Shown, Stepped, WorldEvent, not_over, is_fit, ends_load, IsEnd}
+use Rattle.jc_world.proofs.Common.{◌≡◌, ℕ, ◌+◌, ◌<◌, Bool, true, false, cond, ◌&&◌, ◌||◌, List, [], ◌∷◌, ◌++◌, length, IsSomeAnd, ◌==◌, slice_get, Some, Option, find, sym, refl, ap, ◌∙◌, subst, arith, take-append_seam, eqb-true, eq-eqb, and_parts, false_from_ne_true, take-append-le, list_any-append, slice_get_within, pointwise, list_any, Caller, Bytes, after_dissolve, belongs_to, is_waiting, waits_for, with_answer, answered_from, after_resolve, JoinState, Again, Answered, Waiting, Joiner, IsReached, State, is_key, without_key, IsOut, JoinClaim, Reservation, Outcome, Over, Shown, Stepped, WorldEvent, not_over, is_fit, ends_load, IsLoadEnd}
 use Rattle.jc_world.proofs.Lemmas.{still_at, same_bytes, joiner_of, joined_front, same_number, split, found_left}
 use Rattle.jc_world.proofs.Kept.{some_map}
 
@@ -19,8 +19,8 @@ step_shown step over = record { outcome = Outcome.Stepped step; over = over }
 
 abbrev pub Tells : ℕ → Shows → State → Reservation → JoinState → Type 0
 Tells number shows s r Waiting = IsOut s r × (list_any (ends_load r) shows ≡ false)
-Tells number shows s r (Answered place shared) = (at : ℕ) × (step : Stepped) × IsEnd shows r at (WorldEvent.Commit r.caller.call r.key) (Outcome.Stepped step) × (step.stripe ≡ number) × (step.place ≡ shared)
-Tells number shows s r Again = (at : ℕ) × IsEnd shows r at (WorldEvent.Withdraw r.caller.call r.key) Outcome.Withdrawn
+Tells number shows s r (Answered place shared) = (at : ℕ) × (step : Stepped) × IsLoadEnd shows r at (WorldEvent.Commit r.caller.call r.key) (Outcome.Stepped step) × (step.stripe ≡ number) × (step.place ≡ shared)
+Tells number shows s r Again = (at : ℕ) × IsLoadEnd shows r at (WorldEvent.Withdraw r.caller.call r.key) Outcome.Withdrawn
 
 -- of a joiner of this load
 abbrev pub TellsOf : ℕ → Shows → State → Reservation → Joiner → Type 0
@@ -37,13 +37,13 @@ there_last [] x = refl
 there_last (z ∷ zs) x = there_last zs x
 
 -- the end of a load is its end later
-end_more : (shows more : Shows) (r : Reservation) (at : ℕ) (e : WorldEvent) (o : Outcome) → IsEnd shows r at e o → IsEnd (shows ++ more) r at e o
+end_more : (shows more : Shows) (r : Reservation) (at : ℕ) (e : WorldEvent) (o : Outcome) → IsLoadEnd shows r at e o → IsLoadEnd (shows ++ more) r at e o
 end_more shows more r at e o h =
     let within : at < length shows = slice_get_within shows at (e, h.seen) h.there in
     record { seen = h.seen; there = still_at shows more at (e, h.seen) h.there; outcome_is = h.outcome_is; first = ap (list_any (ends_load r)) (take-append-le at shows more (omega arith)) ∙ h.first }
 
 -- an event is the end of a load that was out before it
-end_last : (shows : Shows) (r : Reservation) (e : WorldEvent) (seen : Shown) → list_any (ends_load r) shows ≡ false → IsEnd (shows ++ (e, seen) ∷ []) r (length shows) e seen.outcome
+end_last : (shows : Shows) (r : Reservation) (e : WorldEvent) (seen : Shown) → list_any (ends_load r) shows ≡ false → IsLoadEnd (shows ++ (e, seen) ∷ []) r (length shows) e seen.outcome
 end_last shows r e seen none = record { seen = seen; there = there_last shows (e, seen); outcome_is = refl; first = ap (list_any (ends_load r)) (take-append_seam shows ((e, seen) ∷ [])) ∙ none }
 
 -- an event of another key ends no load of this one
@@ -156,7 +156,7 @@ tells_committed number call key shows join p r from to seen end reached over cal
     let one = load_over number shows p r from j reached over waits k in
     let call_of : call ≡ r.caller.call = sym call_is ∙ ap (λ (x : Reservation). x.caller.call) one.0 in
     let key_of : key ≡ r.key = sym key_is ∙ ap (λ (x : Reservation). x.key) one.0 in
-    let E : WorldEvent → Type 0 = λ e. IsEnd (shows ++ more) r (length shows) e (Outcome.Stepped seen) in
+    let E : WorldEvent → Type 0 = λ e. IsLoadEnd (shows ++ more) r (length shows) e (Outcome.Stepped seen) in
     (k.0, (length shows, seen, subst E (λ i. WorldEvent.Commit (call_of i) (key_of i)) (end_last shows r (WorldEvent.Commit call key) (step_shown seen end) one.1), stripe_is (sym key_of), refl)))
     (λ j other k. tells_past number shows more p r from to j over left (λ apart. ap (λ b. b || false) (none_of_key r call key (step_shown seen end) (λ same. apart (same ∙ sym key_is)))) other k) h)
 
@@ -173,6 +173,6 @@ tells_withdrawn number call key shows join p r from to reached over call_is key_
     let one = load_over number shows p r from j reached over waits k in
     let call_of : call ≡ r.caller.call = sym call_is ∙ ap (λ (x : Reservation). x.caller.call) one.0 in
     let key_of : key ≡ r.key = sym key_is ∙ ap (λ (x : Reservation). x.key) one.0 in
-    let E : WorldEvent → Type 0 = λ e. IsEnd (shows ++ more) r (length shows) e Outcome.Withdrawn in
+    let E : WorldEvent → Type 0 = λ e. IsLoadEnd (shows ++ more) r (length shows) e Outcome.Withdrawn in
     (k.0, (length shows, subst E (λ i. WorldEvent.Withdraw (call_of i) (key_of i)) (end_last shows r (WorldEvent.Withdraw call key) (not_over Outcome.Withdrawn) one.1))))
     (λ j other k. tells_past number shows more p r from to j over left (λ apart. ap (λ b. b || false) (none_of_key r call key (not_over Outcome.Withdrawn) (λ same. apart (same ∙ sym key_is)))) other k) h)

@@ -1,7 +1,7 @@
 -- Each event keeps what the parts and the store of a world say.
 use Rattle.jc_world.proofs.Asked.{asked_answer, asked_change, asked_report, asked_run, unwritten_load, unwritten_run}
 use Rattle.jc_world.proofs.Processors.{WrittenFor, run_given}
-use Rattle.jc_world.proofs.Common.{Invoke, not, not-true, effect_change, is_unanswered, with_loaded, FitsAsked, IsDueIn, ChangeAgrees, WriteAgrees, Nobody, Processor, ◌≡◌, ℕ, Bool, true, false, cond, ◌&&◌, List, [], ◌∷◌, ◌++◌, is_some, is_none, IsSomeAnd, slice_get, slice_set, Some, None, Option, find, sym, refl, ap, ◌∙◌, subst, and_parts, and_from, nat_list_cmp_total, beq, texts_ties, get, insert, remove, get-insert, get-remove, eq_by_cmp, Caller, Config, same_key, get-with_entry, Bytes, Cache, entry_at, with_entry, key_cmp, nothing_said, write_only, found_in, holds, write_ask, is_write_given, entry_after, Change, Event, LoadAnswer, Op, ProcessAnswer, WriteAnswer, EntryCall, callers_of, ProcessResult, Claim, asks_invoking, change_due, Steps, Begins, after_commit, Commits, Withdraws, AllAsk, first_asked, State, is_key, is_reserved, without_key, IsOut, asks_processor, Begun, StepDone, First, Loader, Writer, Reservation, Command, Part, Premises, PartProgress, Shown, WorldEvent, CallState, new_call, has_number, op_at, opened, settle, drop_call, Coherent, all_hold, with_stripe, with_phase, step_of, fault_in, without_call, new_part, with_part, without_part, after_answer, with_change, after_change, with_report, after_report, run_result, progress_after, after_process, may_leave, fits, changed_to, is_true_load, is_done, is_true_report, with_foreign_write, premises_hold, IsHeld, Agrees, LoadAgrees, ProgressAgrees, KeyAgrees, IsSoundWorld, Parts, join_key, Joins, WorldState, home, stripe_for, entry_in, cached_entry, open_call, part_of, has_progress, waits_for_load, waits_for_process, waits_for_report, is_answered, is_untouched, has_changed, writer_change, out_of, with_stored}
+use Rattle.jc_world.proofs.Common.{Invoke, not, not-true, effect_change, is_unanswered, with_loaded, FitsAsked, IsDueIn, ChangeAgrees, WriteAgrees, Nobody, Processor, ◌≡◌, ℕ, Bool, true, false, cond, ◌&&◌, List, [], ◌∷◌, ◌++◌, is_some, is_none, IsSomeAnd, slice_get, slice_set, Some, None, Option, find, sym, refl, ap, ◌∙◌, subst, and_parts, and_from, nat_list_cmp_total, beq, texts_ties, get, insert, remove, get-insert, get-remove, eq_by_cmp, Caller, Config, same_key, get-with_entry, Bytes, Cache, entry_at, with_entry, key_cmp, nothing_said, write_only, found_in, holds, write_ask, is_write_given, entry_after, Change, Event, LoadAnswer, Op, ProcessAnswer, WriteAnswer, EntryCall, callers_of, ProcessResult, Claim, asks_invoking, change_due, Steps, Begins, after_commit, Commits, Withdraws, AllAsk, first_asked, State, is_key, is_reserved, without_key, IsOut, asks_processor, Begun, StepDone, First, Loader, Writer, Reservation, Command, Part, Premises, PartProgress, Shown, WorldEvent, CallState, new_call, has_number, op_at, opened, settle, drop_call, Coherent, all_hold, with_stripe, with_phase, step_of, fault_in, without_call, new_part, with_part, without_part, after_answer, with_change, after_change, with_report, after_report, run_result, progress_after, after_process, may_leave, fits, changed_to, is_true_load, is_done, is_true_report, with_foreign_write, premises_hold, IsHeld, Agrees, LoadAgrees, ProgressAgrees, KeyAgrees, IsSoundWorld, Parts, join_key, Joins, WorldState, home, stripe_for, entry_in, cached_entry, open_call, part_of, has_progress, waits_for_load, waits_for_process, waits_for_report, is_all_answered, is_untouched, has_changed, writer_change, out_of_part, with_stored}
 use Rattle.jc_world.proofs.Lemmas.{denied, missing, HasParts, is_some_and, picking, at_stripe, stripe_put, home_stripe, split, tied, agrees_stepped, writes, loads_asked, writes_asked, loads, asks_nobody, found_more, out_reserved, new_out, found_left, invoke_is, agrees_processed, agrees_effect, KeyChange, by_nothing, by_refusal, by_step, by_reservation, by_join, by_commit, by_withdrawal, by_answer, by_retry, some_of}
 use Rattle.jc_world.proofs.Holding.{call_on, is_part}
 use Rattle.jc_world.proofs.Maps.{keys_ordered, each_put}
@@ -463,32 +463,32 @@ held_removed w key from next q p at left old e =
 
 -- the step of a commit
 abbrev EndsBy : Bytes → Part → State → State → StepDone → Type 0
-EndsBy key part from next done = Steps (after_commit from part.reservation done.place) part.reservation.caller key part.reservation.op (out_of part) (callers_of part.reservation.number from.joiners) done next
+EndsBy key part from next done = Steps (after_commit from part.reservation done.place) part.reservation.caller key part.reservation.op (out_of_part part) (callers_of part.reservation.number from.joiners) done next
 
 -- a commit's own entry agrees with the store, if what the operation leaves does
 agrees_own : (key : Bytes) (part : Part) (from next : State) (done : StepDone) (stored : Option Bytes) → EndsBy key part from next done
-    → Agrees (entry_after part.reservation.op (entry_at from.cache key) (out_of part)) stored → Agrees (entry_at next.cache key) stored
+    → Agrees (entry_after part.reservation.op (entry_at from.cache key) (out_of_part part)) stored → Agrees (entry_at next.cache key) stored
 agrees_own key part from next done stored steps h =
-    agrees_stepped (after_commit from part.reservation done.place) next part.reservation.caller key part.reservation.op (out_of part) (callers_of part.reservation.number from.joiners) done key stored steps
-    (let P : Bool → Type 0 = λ b. Agrees (cond b (entry_after part.reservation.op (entry_at from.cache key) (out_of part)) (entry_at from.cache key)) stored in subst P (sym (tied key)) h)
+    agrees_stepped (after_commit from part.reservation done.place) next part.reservation.caller key part.reservation.op (out_of_part part) (callers_of part.reservation.number from.joiners) done key stored steps
+    (let P : Bool → Type 0 = λ b. Agrees (cond b (entry_after part.reservation.op (entry_at from.cache key) (out_of_part part)) (entry_at from.cache key)) stored in subst P (sym (tied key)) h)
 
 -- and the others still do
 agrees_other : (key : Bytes) (part : Part) (from next : State) (done : StepDone) (q : Bytes) (stored : Option Bytes) → EndsBy key part from next done
     → eq_by_cmp key_cmp q key ≡ false → Agrees (entry_at from.cache q) stored → Agrees (entry_at next.cache q) stored
 agrees_other key part from next done q stored steps apart h =
-    agrees_stepped (after_commit from part.reservation done.place) next part.reservation.caller key part.reservation.op (out_of part) (callers_of part.reservation.number from.joiners) done q stored steps
-    (let P : Bool → Type 0 = λ b. Agrees (cond b (entry_after part.reservation.op (entry_at from.cache key) (out_of part)) (entry_at from.cache q)) stored in subst P (sym apart) h)
+    agrees_stepped (after_commit from part.reservation done.place) next part.reservation.caller key part.reservation.op (out_of_part part) (callers_of part.reservation.number from.joiners) done q stored steps
+    (let P : Bool → Type 0 = λ b. Agrees (cond b (entry_after part.reservation.op (entry_at from.cache key) (out_of_part part)) (entry_at from.cache q)) stored in subst P (sym apart) h)
 
 -- so there is one part less
-parts_committed : (w : WorldState) (call : ℕ) (key : Bytes) (part : Part) (from next : State) (order : List Event) (calls : List CallState) (done : StepDone) → part_of w call key ≡ Some part → has_progress is_answered (part_of w call key) ≡ true → stripe_for w key ≡ Some from
-    → Commits from part.reservation (out_of part) done next → IsSoundWorld w
+parts_committed : (w : WorldState) (call : ℕ) (key : Bytes) (part : Part) (from next : State) (order : List Event) (calls : List CallState) (done : StepDone) → part_of w call key ≡ Some part → has_progress is_all_answered (part_of w call key) ≡ true → stripe_for w key ≡ Some from
+    → Commits from part.reservation (out_of_part part) done next → IsSoundWorld w
     → HasParts (record w { stripes = slice_set w.stripes (home w key) next; order = order; calls = calls; parts = remove w.parts key })
 parts_committed w call key part from next order calls done is answered at commits old =
     let n : WorldState = record w { stripes = slice_set w.stripes (home w key) next; order = order; calls = calls; parts = remove w.parts key } in
     let there = is_part (get w.parts key) call part is in
     let one = held_at w key part from there at old in
     let r = part.reservation in
-    let S : Bytes → Type 0 = λ k. Steps (after_commit from r done.place) r.caller k r.op (out_of part) (callers_of r.number from.joiners) done next in
+    let S : Bytes → Type 0 = λ k. Steps (after_commit from r done.place) r.caller k r.op (out_of_part part) (callers_of r.number from.joiners) done next in
     let steps : EndsBy key part from next done = subst S one.key_is commits.1 in
     let left : next.reservations ≡ without_key key from.reservations = ap (λ (s : State). s.reservations) steps.after ∙ ap (λ k. without_key k from.reservations) one.key_is in
     let reached = (old.shape.each (home w key) from at).reached in
@@ -507,7 +507,7 @@ parts_committed w call key part from next order calls done is answered at commit
           let same_config = config_at w (home w key) from at old in
           let on : from.config.write_through ≡ true = ap (λ (c : Config). c.write_through) same_config ∙ (and_parts w.config.write_through (premises_hold w.premises) hold).0 in
           let due : IsDueIn from.config r.first part.progress = subst (λ (c : Config). IsDueIn c r.first part.progress) (sym same_config) (old.due key part there) in
-          let over = not-true (waits_for_report part) (and_parts (not (waits_for_load part) && not (waits_for_process part)) (not (waits_for_report part)) (sym (ap (has_progress is_answered) is) ∙ answered)).1 in
+          let over = not-true (waits_for_report part) (and_parts (not (waits_for_load part) && not (waits_for_process part)) (not (waits_for_report part)) (sym (ap (has_progress is_all_answered) is) ∙ answered)).1 in
           let leaves = agrees_ended from.config part.progress r.op r.first (entry_at from.cache key) (entry_at w.store key) asks one.asked over on due told in
           subst B (sym same) (subst S (sym (stripe_put w.stripes (home w key) from next at)) (agrees_own key part from next done (entry_at w.store key) steps leaves)))
           (λ apart.

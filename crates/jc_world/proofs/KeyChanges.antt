@@ -8,7 +8,7 @@
 --     IsStart, may_of           it is the start of a call at a key; in a sound world the call may start there
 --     Move                      the same, as far as configuration, stripes and order go
 use Rattle.jc_world.proofs.Asked.{asked_new}
-use Rattle.jc_world.proofs.Common.{cond, None, Change, FitsAsked, IsDueIn, ◌≡◌, ℕ, Bool, true, false, ◌++◌, slice_set, Some, Option, sym, refl, ap, ◌∙◌, inl, inr, Caller, Config, Refusal, Bytes, is_load_given, Op, Begins, Commits, Withdraws, PicksUp, State, is_reserved, new_reservation, with_reservation, TicketClaim, JoinClaim, Begun, Polled, First, Loader, Nobody, Processor, Writer, Reservation, Outcome, Part, JoinAnswer, PartProgress, Shown, Stepped, WorldEvent, CallState, new_call, op_at, with_stripe, with_phase, step_of, not_over, shown_begun, fault_in, with_settled, new_progress, with_new_part, without_part, with_join, without_join, ReservesAs, Starts, Ends, Picks, Happens, Step, fits, after_reopening, is_reopening, ends_load, is_answer_at, Agrees, ProgressAgrees, IsSoundWorld, WorldState, home, stripe_for, open_call, part_of, out_of, join_of}
+use Rattle.jc_world.proofs.Common.{cond, None, Change, FitsAsked, IsDueIn, ◌≡◌, ℕ, Bool, true, false, ◌++◌, slice_set, Some, Option, sym, refl, ap, ◌∙◌, inl, inr, Caller, Config, Refusal, Bytes, is_load_given, Op, Begins, Commits, Withdraws, PicksUp, State, is_reserved, new_reservation, with_reservation, TicketClaim, JoinClaim, Begun, Polled, First, Loader, Nobody, Processor, Writer, Reservation, Outcome, Part, JoinAnswer, PartProgress, Shown, Stepped, WorldEvent, CallState, new_call, op_at, with_stripe, with_phase, step_of, not_over, shown_begun, fault_in, with_settled, new_progress, with_new_part, without_part, with_join, without_join, ReservesAs, StartsAs, Ends, Picks, Happens, Step, fits, after_reopening, is_reopening, ends_load, is_answer_at, Agrees, ProgressAgrees, IsSoundWorld, WorldState, home, stripe_for, open_call, part_of, out_of_part, join_of}
 use Rattle.jc_world.proofs.Beginning.{MayStart, may_start_at}
 use Rattle.jc_world.proofs.Shares.{added}
 use Rattle.jc_world.proofs.NewCalls.{begun_cases}
@@ -54,7 +54,7 @@ pub data KeyChange (w new : WorldState) (e : WorldEvent) (key : Bytes) (seen : S
       → new ≡ with_new_part w key to p r → AnswersNone seen.outcome → EndsNone e seen → KeyChange w new e key seen
   by_join : (u : CallState) (op : Op) (from to : State) (join : JoinClaim) → IsStart w e key u op → stripe_for w key ≡ Some from → Begins from u.caller key op (Begun.Joined join) to
       → new ≡ with_join (with_stripe w key to) join → AnswersNone seen.outcome → EndsNone e seen → KeyChange w new e key seen
-  by_commit : (call : ℕ) (part : Part) (from to : State) (x : Stepped) → e ≡ WorldEvent.Commit call key → part_of w call key ≡ Some part → stripe_for w key ≡ Some from → Commits from part.reservation (out_of part) (step_of x) to → x.stripe ≡ home w key
+  by_commit : (call : ℕ) (part : Part) (from to : State) (x : Stepped) → e ≡ WorldEvent.Commit call key → part_of w call key ≡ Some part → stripe_for w key ≡ Some from → Commits from part.reservation (out_of_part part) (step_of x) to → x.stripe ≡ home w key
       → new ≡ without_part (with_settled (with_phase w key from to) call key (fault_in x.reply)) key → seen.outcome ≡ Outcome.Stepped x → KeyChange w new e key seen
   by_withdrawal : (call : ℕ) (part : Part) (from to : State) → e ≡ WorldEvent.Withdraw call key → part_of w call key ≡ Some part → stripe_for w key ≡ Some from → Withdraws from part.reservation to
       → new ≡ without_part (with_stripe w key to) key → seen ≡ not_over Outcome.Withdrawn → KeyChange w new e key seen
@@ -98,7 +98,7 @@ reserved_change w new e u key op from to o s none ends may there h =
 
 -- by what is shown of a first phase
 pub start_change : (w new : WorldState) (e : WorldEvent) (u : CallState) (key : Bytes) (op : Op) (from to : State) (seen : Outcome) (s : Shown) → s.outcome ≡ seen → EndsNone e s → IsStart w e key u op → stripe_for w key ≡ Some from
-    → Starts w u.caller key op from to seen new → KeyChange w new e key s
+    → StartsAs w u.caller key op from to seen new → KeyChange w new e key s
 start_change w new e u key op from to (Outcome.Refused refusal) s shows ends may there h = by_refusal u op refusal may h.1 (λ n p. ap (is_answer_at n p) shows) ends
 start_change w new e u key op from to (Outcome.PutOff refusal) s shows ends may there h = by_nothing h.1 (λ n p. ap (is_answer_at n p) shows) ends
 start_change w new e u key op from to (Outcome.Stepped x) s shows ends may there h = by_step u op from to x may there h.0 h.1 h.2 shows ends

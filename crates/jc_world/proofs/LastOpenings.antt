@@ -4,7 +4,7 @@
 --     last_step          one event more: after a reopening the world is the last opening, and after any other event it is the one
 --                        before
 --     last_run           so every run has one
-use Rattle.jc_world.proofs.Common.{◌≡◌, ◌⊎◌, ℕ, Bool, true, false, ◌||◌, List, [], ◌∷◌, ◌++◌, sym, refl, ap, ◌∙◌, subst, inl, inr, append_assoc, append-nil, Caller, Config, Bytes, Op, State, Part, JoinClaim, Outcome, Shown, WorldEvent, new_call, Starts, Ends, Picks, Happens, Step, Run, IsOpeningWorld, ReachesSince, is_reopening, reopens, LastOpening, IsSoundWorld, WorldState}
+use Rattle.jc_world.proofs.Common.{◌≡◌, ◌⊎◌, ℕ, Bool, true, false, ◌||◌, List, [], ◌∷◌, ◌++◌, sym, refl, ap, ◌∙◌, subst, inl, inr, append_assoc, append-nil, Caller, Config, Bytes, Op, State, Part, JoinClaim, Outcome, Shown, WorldEvent, new_call, StartsAs, Ends, Picks, Happens, Step, Run, IsOpeningWorld, ReachesSince, is_reopening, reopens, LastOpening, IsSoundWorld, WorldState}
 use Rattle.jc_world.proofs.Lemmas.{begun_cases}
 use Rattle.jc_world.proofs.Opened.{sound_opening}
 use Rattle.jc_world.proofs.Reopening.{reopened_opens}
@@ -14,7 +14,7 @@ use Rattle.jc_world.proofs.Sounding.{Laws, sound_step}
 -- 1. What an event says of reopenings.
 
 -- by what is shown of a first phase, of a last one and of a pick-up
-starts_silent : (w : WorldState) (caller : Caller) (key : Bytes) (op : Op) (from to : State) (seen : Outcome) (new : WorldState) → Starts w caller key op from to seen new → is_reopening seen ≡ false
+starts_silent : (w : WorldState) (caller : Caller) (key : Bytes) (op : Op) (from to : State) (seen : Outcome) (new : WorldState) → StartsAs w caller key op from to seen new → is_reopening seen ≡ false
 starts_silent w caller key op from to (Outcome.Reopened keys) new h = absurd h
 starts_silent w caller key op from to seen new h = refl
 

@@ -3,7 +3,7 @@
 --     total_step     each event raises that by one if it is an answer for the key, and else leaves it
 --     total_run      so a run raises it by its answers
 use Rattle.jc_world.proofs.Asked.{unanswered_load}
-use Rattle.jc_world.proofs.Common.{asks_loader, asks_processor, is_unanswered, with_loaded, ◌≡◌, ℕ, ◌+◌, Bool, true, false, cond, ◌&&◌, List, [], ◌∷◌, ◌++◌, map, length, drop, ◌==◌, Some, None, count_by, Option, option_map, zip, sym, refl, ap, ◌∙◌, inl, inr, arith, drop-append_seam, and_parts, or_parts, and_right, nat_list_cmp_total, sum_by-cons, sum_by-append, pointwise, texts_ties, get, insert, remove, get-insert, get-remove, eq_by_cmp, Caller, WriterFailed, Bytes, entry_at, key_cmp, Group, nothing_said, victim_events, evicted_events, step_event, shared_event, step_place, events_of, is_load_given, Cause, Event, LoadAnswer, Op, Out, callers_of, ProcessResult, Claim, change_due, new_group, Steps, after_commit, State, StepDone, Outcome, Part, Shown, WorldEvent, step_of, with_met_by, new_part, with_change, with_report, keys_reported, run_result, progress_after, after_process, Happens, Step, Run, fits, is_answer, is_load, is_loaded, read_answer, load_from, report_for, IsSoundWorld, Parts, WorldState, part_of, has_progress, waits_for_load, waits_for_process, is_untouched, out_of, IsOpeningWorld, is_reopening, reopens, reported_now}
+use Rattle.jc_world.proofs.Common.{asks_loader, asks_processor, is_unanswered, with_loaded, ◌≡◌, ℕ, ◌+◌, Bool, true, false, cond, ◌&&◌, List, [], ◌∷◌, ◌++◌, map, length, drop, ◌==◌, Some, None, count_by, Option, option_map, zip, sym, refl, ap, ◌∙◌, inl, inr, arith, drop-append_seam, and_parts, or_parts, and_right, nat_list_cmp_total, sum_by-cons, sum_by-append, pointwise, texts_ties, get, insert, remove, get-insert, get-remove, eq_by_cmp, Caller, WriterFailed, Bytes, entry_at, key_cmp, Group, nothing_said, victim_events, evicted_events, step_event, shared_event, step_place, events_of, is_load_given, Cause, Event, LoadAnswer, Op, Out, callers_of, ProcessResult, Claim, change_due, new_group, Steps, after_commit, State, StepDone, Outcome, Part, Shown, WorldEvent, step_of, with_met_by, new_part, with_change, with_report, keys_reported, run_result, progress_after, after_process, Happens, Step, Run, fits, is_answer, is_load, is_loaded, read_answer, load_from, report_for, IsSoundWorld, Parts, WorldState, part_of, has_progress, waits_for_load, waits_for_process, is_untouched, out_of_part, IsOpeningWorld, is_reopening, reopens, reported_now}
 use Rattle.jc_world.proofs.Lemmas.{added, part_key, split, KeyChange, by_nothing, by_refusal, by_step, by_reservation, by_join, by_commit, by_withdrawal, by_answer, by_retry, key_change, each_report}
 use Rattle.jc_world.proofs.Kept.{unheld}
 use Rattle.jc_world.proofs.Opened.{no_part}
@@ -72,7 +72,7 @@ unanswered b n m none same = let e : one_if b ≡ 0 = ap one_if none in omega ar
 
 -- two tests, of which the second fails
 -- what is kept of a key whose part is put in place
-loaded_inserted : (parts : Parts) (key q : Bytes) (part : Part) → (q ≡ key → is_load_given (out_of part).load ≡ is_loaded (get parts q)) → is_loaded (get (insert parts key part) q) ≡ is_loaded (get parts q)
+loaded_inserted : (parts : Parts) (key q : Bytes) (part : Part) → (q ≡ key → is_load_given (out_of_part part).load ≡ is_loaded (get parts q)) → is_loaded (get (insert parts key part) q) ≡ is_loaded (get parts q)
 loaded_inserted parts key q part same =
     ap is_loaded (get-insert nat_list_cmp_total parts key part q)
     ∙ split q key (λ b. is_loaded (cond b (Some part) (get parts q)) ≡ is_loaded (get parts q)) same (λ apart. refl)
@@ -84,19 +84,19 @@ loaded_removed parts key q none =
     ∙ split q key (λ b. is_loaded (cond b None (get parts q)) ≡ is_loaded (get parts q)) (λ same. sym (none same)) (λ apart. refl)
 
 -- the part of a key has this answer, or none
-loaded_at : (w : WorldState) (key q : Bytes) (part : Part) → get w.parts key ≡ Some part → q ≡ key → is_loaded (get w.parts q) ≡ is_load_given (out_of part).load
+loaded_at : (w : WorldState) (key q : Bytes) (part : Part) → get w.parts key ≡ Some part → q ≡ key → is_loaded (get w.parts q) ≡ is_load_given (out_of_part part).load
 loaded_at w key q part there same = ap is_loaded (ap (get w.parts) same ∙ there)
 
 -- a loader that is waited for has given no answer
-no_answer : (o : Option Part) (part : Part) → o ≡ Some part → has_progress waits_for_load o ≡ true → is_load_given (out_of part).load ≡ false
+no_answer : (o : Option Part) (part : Part) → o ≡ Some part → has_progress waits_for_load o ≡ true → is_load_given (out_of_part part).load ≡ false
 no_answer o part is waits = unanswered_load part.progress.out (and_parts (asks_loader part.reservation.first) _ (sym (ap (has_progress waits_for_load) is) ∙ waits)).1
 
 -- a processor that is waited for has had none
-no_run : (o : Option Part) (part : Part) → o ≡ Some part → has_progress waits_for_process o ≡ true → is_load_given (out_of part).load ≡ false
+no_run : (o : Option Part) (part : Part) → o ≡ Some part → has_progress waits_for_process o ≡ true → is_load_given (out_of_part part).load ≡ false
 no_run o part is waits = unanswered_load part.progress.out (and_parts (asks_processor part.reservation.first) _ (sym (ap (has_progress waits_for_process) is) ∙ waits)).1
 
 -- what is untouched has none
-no_touch : (o : Option Part) (part : Part) → o ≡ Some part → has_progress is_untouched o ≡ true → is_load_given (out_of part).load ≡ false
+no_touch : (o : Option Part) (part : Part) → o ≡ Some part → has_progress is_untouched o ≡ true → is_load_given (out_of_part part).load ≡ false
 no_touch o part is untouched = unanswered_load part.progress.out (and_parts (is_unanswered part.progress.out) _ (sym (ap (has_progress is_untouched) is) ∙ untouched)).0
 
 -- a loader that reads the store has answered
@@ -158,18 +158,18 @@ total_key w new e key seen q (by_commit call part from to x e_is part_is at h ho
     let r = part.reservation in
     let there = is_part (get w.parts key) call part part_is in
     let mid = after_commit from r x.place in
-    let added_is : count_by (is_load q) (added from to) ≡ one_if (pointwise ◌==◌ q key && is_load_given (out_of part).load) =
-    step_loads mid to r.caller r.key r.op (out_of part) (callers_of r.number from.joiners) (step_of x) q h.1 ∙ ap (λ k. one_if (pointwise ◌==◌ q k && is_load_given (out_of part).load)) (part_key w call key part part_is old) in
-    let tied = ap (λ b. one_if (b && is_load_given (out_of part).load)) (texts_ties q key) in
+    let added_is : count_by (is_load q) (added from to) ≡ one_if (pointwise ◌==◌ q key && is_load_given (out_of_part part).load) =
+    step_loads mid to r.caller r.key r.op (out_of_part part) (callers_of r.number from.joiners) (step_of x) q h.1 ∙ ap (λ k. one_if (pointwise ◌==◌ q k && is_load_given (out_of_part part).load)) (part_key w call key part part_is old) in
+    let tied = ap (λ b. one_if (b && is_load_given (out_of_part part).load)) (texts_ties q key) in
     let more = none_append q w.order (added from to) in
     let n = count_by (is_load q) w.order in
-    let grows : count_by (is_load q) (w.order ++ added from to) ≡ n + one_if (eq_by_cmp key_cmp q key && is_load_given (out_of part).load) = omega arith in
-    let P : Bool → Type 0 = λ b. (n + one_if (b && is_load_given (out_of part).load)) + one_if (is_loaded (cond b None (get w.parts q))) ≡ n + one_if (is_loaded (get w.parts q)) in
+    let grows : count_by (is_load q) (w.order ++ added from to) ≡ n + one_if (eq_by_cmp key_cmp q key && is_load_given (out_of_part part).load) = omega arith in
+    let P : Bool → Type 0 = λ b. (n + one_if (b && is_load_given (out_of_part part).load)) + one_if (is_loaded (cond b None (get w.parts q))) ≡ n + one_if (is_loaded (get w.parts q)) in
     ap (λ (v : WorldState). total v q) is
     ∙ ap (λ m. m + one_if (is_loaded (get (remove w.parts key) q))) grows
-    ∙ ap (λ o. (n + one_if (eq_by_cmp key_cmp q key && is_load_given (out_of part).load)) + one_if (is_loaded o)) (get-remove nat_list_cmp_total w.parts key q)
+    ∙ ap (λ o. (n + one_if (eq_by_cmp key_cmp q key && is_load_given (out_of_part part).load)) + one_if (is_loaded o)) (get-remove nat_list_cmp_total w.parts key q)
     ∙ split q key P
-    (λ same. let was : one_if (is_loaded (get w.parts q)) ≡ one_if (is_load_given (out_of part).load) = ap one_if (loaded_at w key q part there same) in omega arith)
+    (λ same. let was : one_if (is_loaded (get w.parts q)) ≡ one_if (is_load_given (out_of_part part).load) = ap one_if (loaded_at w key q part there same) in omega arith)
     (λ apart. omega arith)
 total_key w new e key seen q (by_withdrawal call part from to e_is part_is at h is shows) fit old =
     let there = is_part (get w.parts key) call part part_is in

@@ -12,7 +12,7 @@
 --                      a call that has changed is put in its place, or taken out if it is over, and what is said of its end
 --     put_at           one that stays under way is put in its place
 --     none_replaced    where no call has the number, nothing changes
-use Rattle.jc_world.proofs.Common.{◌≡◌, ℕ, zero, suc, ◌+◌, Bool, true, false, cond, List, [], ◌∷◌, ◌++◌, IsSomeAnd, ◌==◌, slice_get, slice_set, Some, None, Option, position, find, sym, refl, ap, ◌∙◌, subst, arith, position_from-zero, pointwise, cons_option, position_from, lookup, option_or, Caller, Refusal, Bytes, Op, Over, at_each, SweepState, CallState, has_number, op_at, op_found, op_or_found, op_for, is_going, going_on, over_of, with_met, replaced, has_looked_at_each, next_sweep, with_found, FitsCall, CallsFit, Each, IsCallOf, WorldState}
+use Rattle.jc_world.proofs.Common.{◌≡◌, ℕ, zero, suc, ◌+◌, Bool, true, false, cond, List, [], ◌∷◌, ◌++◌, IsSomeAnd, ◌==◌, slice_get, slice_set, Some, None, Option, position, find, sym, refl, ap, ◌∙◌, subst, arith, position_from-zero, pointwise, cons_option, position_from, lookup, option_or, Caller, Refusal, Bytes, Op, Over, at_each, SweepState, CallState, has_number, op_at, op_found, op_or_found, op_for, is_going, going_on, over_of, with_met, replaced, has_looked_at_each, next_sweep, with_swept_keys, FitsCall, CallsFit, Each, IsCallOf, WorldState}
 use Rattle.std.specs.List.{remove}
 use Rattle.jc_world.proofs.Facts.{same_found}
 use Rattle.jc_world.proofs.Found.{lookup-found, op_of_found, still_done}
@@ -35,7 +35,7 @@ op_of_next stripes stripe s op h =
       | false ↦ λ h. let is : s.op ≡ op = cc in is
     ] h
 
-found_was : (stripes stripe : ℕ) (keys : List Bytes) (s : SweepState) (u : CallState) (q : Bytes) (op : Op) → u.sweep ≡ Some s → op_for (with_found stripes stripe keys s u) q ≡ Some op → op_for u q ≡ Some op
+found_was : (stripes stripe : ℕ) (keys : List Bytes) (s : SweepState) (u : CallState) (q : Bytes) (op : Op) → u.sweep ≡ Some s → op_for (with_swept_keys stripes stripe keys s u) q ≡ Some op → op_for u q ≡ Some op
 found_was stripes stripe keys s u q op sweeps h =
     go (lookup test u.tasks) (lookup test (at_each s.op keys)) (λ o. op_of_found test s.op keys o)
     (ap (op_or_found (next_sweep stripes stripe s)) (sym (lookup-found test u.tasks (at_each s.op keys))) ∙ h)
@@ -48,9 +48,9 @@ found_was stripes stripe keys s u q op sweeps h =
     go None (Some x) is h = ap op_found sweeps ∙ sym (is x refl) ∙ h
     go None None is h = ap op_found sweeps ∙ ap Some (op_of_next stripes stripe s op h)
 
-pub taken_of : (stripes stripe : ℕ) (keys : List Bytes) (s : SweepState) (u v : CallState) → u.sweep ≡ Some s → going_on (with_found stripes stripe keys s u) ≡ Some v → Taken u v
+pub taken_of : (stripes stripe : ℕ) (keys : List Bytes) (s : SweepState) (u v : CallState) → u.sweep ≡ Some s → going_on (with_swept_keys stripes stripe keys s u) ≡ Some v → Taken u v
 taken_of stripes stripe keys s u v sweeps h =
-    subst (Taken u) (sym (going_is (with_found stripes stripe keys s u) v h))
+    subst (Taken u) (sym (going_is (with_swept_keys stripes stripe keys s u) v h))
     (record {
       caller_is = refl;
       was = λ q op is. found_was stripes stripe keys s u q op sweeps is;
@@ -64,8 +64,8 @@ taken_met met u v h =
     subst (Taken u) is (record { caller_is = refl; was = λ q op h. h; goes = λ q op h. h })
 
 -- a call with an open key isn't over by a look
-pub taken_on : (stripes stripe : ℕ) (keys : List Bytes) (s : SweepState) (u : CallState) (q : Bytes) (op : Op) → op_at u q ≡ Some op → going_on (with_found stripes stripe keys s u) ≡ None → ⊥
-taken_on stripes stripe keys s u q op is over = none_left (with_found stripes stripe keys s u) q op over (still_done u.tasks (at_each s.op keys) q op is)
+pub taken_on : (stripes stripe : ℕ) (keys : List Bytes) (s : SweepState) (u : CallState) (q : Bytes) (op : Op) → op_at u q ≡ Some op → going_on (with_swept_keys stripes stripe keys s u) ≡ None → ⊥
+taken_on stripes stripe keys s u q op is over = none_left (with_swept_keys stripes stripe keys s u) q op over (still_done u.tasks (at_each s.op keys) q op is)
 
 -- 2. The calls under way.
 

@@ -7,7 +7,7 @@
 --     merged_length      there are as many events as turns
 use Rattle.std.proofs.Common.{Fits, w64}
 use Rattle.std.proofs.lemmas.List.Sums.{count_by-le-length}
-use Rattle.jc_world.proofs.Common.{◌≡◌, ℕ, zero, suc, ◌+◌, ◌-◌, ◌<◌, ◌≤◌, Bool, true, false, cond, List, [], ◌∷◌, ◌++◌, length, get_or, take, drop, replicate, IsSomeAnd, ◌==◌, slice_get, slice_set, Some, Option, vec_len, Ok, sym, refl, ap, ◌∙◌, subst, append_assoc, append-nil, arith, length-append, drop-append_seam, eqb-true, nat_tests, nat_eq_equiv, take-append-drop, get_or-set_same, get_or-set_other, take_more, sum_by-cons, sum_by-append, count_by_more_yes, count_by_more_no, slice_get_read, check, Config, STRIPES_MAX, Event, Extends, PicksUp, State, JoinClaim, Polled, Inside, history_in, history_at, turns_of, after_turn, merge, OrderedStripes, IsPhase, IsQuietPhase, ordered_stripes, AreTurns, IsMergeable, empty_stripes}
+use Rattle.jc_world.proofs.Common.{◌≡◌, ℕ, zero, suc, ◌+◌, ◌-◌, ◌<◌, ◌≤◌, Bool, true, false, cond, List, [], ◌∷◌, ◌++◌, length, get_or, take, drop, replicate, IsSomeAnd, ◌==◌, slice_get, slice_set, Some, Option, vec_len, Ok, sym, refl, ap, ◌∙◌, subst, append_assoc, append-nil, arith, length-append, drop-append_seam, eqb-true, nat_tests, nat_eq_equiv, take-append-drop, get_or-set_same, get_or-set_other, take_more, sum_by-cons, sum_by-append, count_by_more_yes, count_by_more_no, slice_get_read, check, Config, STRIPES_MAX, Event, Extends, PicksUp, State, JoinClaim, Polled, Inside, history_in, history_at, turns_of, after_turn, merge, OrderedStripes, IsPhase, IsQuietPhase, ordered_stripes, AreTurns, IsMergeable, fresh_stripes}
 use Rattle.jc_world.proofs.Lemmas.{empty_count, stripe_put, few_stripes, within, at_index}
 
 -- 1. Turns.
@@ -239,11 +239,11 @@ picked_same from to join p h = ap (λ (s : State). s.history) h.3
 
 -- 7. Empty stripes.
 
-pub no_history : (config : Config) (number count m : ℕ) → history_at (empty_stripes config number count) m ≡ []
+pub no_history : (config : Config) (number count m : ℕ) → history_at (fresh_stripes config number count) m ≡ []
 no_history config number (suc count) (suc m) = no_history config (number + 1) count m
 no_history config number count m = refl
 
-pub few_empty : (config : Config) → check config ≡ Ok tt → length (empty_stripes config 0 config.stripes) ≤ STRIPES_MAX
+pub few_empty : (config : Config) → check config ≡ Ok tt → length (fresh_stripes config 0 config.stripes) ≤ STRIPES_MAX
 few_empty config fits = let count = empty_count config 0 config.stripes in let few = few_stripes config fits in omega arith
 
 pub starts_mergeable : (s : Inside) → length s.items.items ≤ STRIPES_MAX → ((number : ℕ) → history_at s.items.items number ≡ []) → s.turns.items ≡ [] → IsMergeable s

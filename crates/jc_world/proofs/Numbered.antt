@@ -1,5 +1,5 @@
 -- Stripes in a list, by their numbers.
-use Rattle.jc_world.proofs.Common.{◌≡◌, ℕ, suc, ◌+◌, ◌-◌, ◌<◌, List, [], ◌∷◌, ◌++◌, length, get_or, IsSomeAnd, slice_get, Some, None, Option, sym, refl, ap, ◌∙◌, append_assoc, arith, slice_get_within, slice_get_read, Config, State, empty_stripe, empty_stripes}
+use Rattle.jc_world.proofs.Common.{◌≡◌, ℕ, suc, ◌+◌, ◌-◌, ◌<◌, List, [], ◌∷◌, ◌++◌, length, get_or, IsSomeAnd, slice_get, Some, None, Option, sym, refl, ap, ◌∙◌, append_assoc, arith, slice_get_within, slice_get_read, Config, State, fresh_stripe, fresh_stripes}
 
 -- what is there, by a condition on it
 pub some_of : {A : Type 0} (o : Option A) (P : A → Type 0) → IsSomeAnd o P → (x : A) × (o ≡ Some x) × P x
@@ -14,12 +14,12 @@ pub at_index : (xs : List State) (i : ℕ) (x : State) (P : State → Type 0) �
 at_index xs i x P h is = slice_get_read xs _ i x refl (within xs i P h) is
 
 -- the empty stripes from a number on, one by one
-next_empty : (config : Config) (number end : ℕ) → number < end → empty_stripes config number (end - number) ≡ empty_stripe config number ∷ empty_stripes config (number + 1) (end - (number + 1))
-next_empty config number end h = let e : end - number ≡ suc (end - (number + 1)) = omega arith in ap (empty_stripes config number) e
+next_empty : (config : Config) (number end : ℕ) → number < end → fresh_stripes config number (end - number) ≡ fresh_stripe config number ∷ fresh_stripes config (number + 1) (end - (number + 1))
+next_empty config number end h = let e : end - number ≡ suc (end - (number + 1)) = omega arith in ap (fresh_stripes config number) e
 
-pub made_more : (config : Config) (made : List State) (s : State) (number end : ℕ) → number < end → s ≡ empty_stripe config number
-    → (made ++ s ∷ []) ++ empty_stripes config (number + 1) (end - (number + 1)) ≡ made ++ empty_stripes config number (end - number)
+pub made_more : (config : Config) (made : List State) (s : State) (number end : ℕ) → number < end → s ≡ fresh_stripe config number
+    → (made ++ s ∷ []) ++ fresh_stripes config (number + 1) (end - (number + 1)) ≡ made ++ fresh_stripes config number (end - number)
 made_more config made s number end h is =
-    append_assoc made (s ∷ []) (empty_stripes config (number + 1) (end - (number + 1)))
-    ∙ ap (λ x. made ++ x ∷ empty_stripes config (number + 1) (end - (number + 1))) is
+    append_assoc made (s ∷ []) (fresh_stripes config (number + 1) (end - (number + 1)))
+    ∙ ap (λ x. made ++ x ∷ fresh_stripes config (number + 1) (end - (number + 1))) is
     ∙ ap (λ xs. made ++ xs) (sym (next_empty config number end h))

@@ -3,7 +3,7 @@
 --     sound_opening        an opening is sound
 --     sound_start          and so is a world at its start
 --     starts_open          a world at its start is an opening, with any values in its store
-use Rattle.jc_world.proofs.Common.{◌≡◌, ℕ, zero, suc, ◌+◌, true, List, [], ◌∷◌, slice_get, Some, None, Ok, Option, IfSome, sym, refl, ap, ◌∙◌, subst, list_all, get, get-empty, check, Config, Bytes, key_cmp, in_order, of_stripe, IsOpeningStripe, IsOpeningWorld, start_with, Each, number_up_to, CallsFit, AllDue, AllOwned, AllCalled, Sweeps, IsSoundWorld, JoinKey, join_cmp, WorldState, home, entry_in, cached_entry, empty_stripes, start, has_progress, has_changed, with_stored}
+use Rattle.jc_world.proofs.Common.{◌≡◌, ℕ, zero, suc, ◌+◌, true, List, [], ◌∷◌, slice_get, Some, None, Ok, Option, IfSome, sym, refl, ap, ◌∙◌, subst, list_all, get, get-empty, check, Config, Bytes, key_cmp, in_order, of_stripe, IsOpeningStripe, IsOpeningWorld, start_with, Each, number_up_to, CallsFit, AllDue, AllOwned, AllCalled, Sweeps, IsSoundWorld, JoinKey, join_cmp, WorldState, home, entry_in, cached_entry, fresh_stripes, start, has_progress, has_changed, with_stored}
 use Rattle.jc_world.proofs.Halves.{HasOrder, HasParts, HasJoins, sound}
 use Rattle.jc_world.proofs.Lemmas.{empty_count, reached_empty, start_is}
 
@@ -60,7 +60,7 @@ sound_opening w h =
 -- 2. The start is an opening.
 
 -- nothing is cached by empty stripes
-cached_none : (config : Config) (first count number : ℕ) (key : Bytes) → entry_in (slice_get (empty_stripes config first count) number) key ≡ None
+cached_none : (config : Config) (first count number : ℕ) (key : Bytes) → entry_in (slice_get (fresh_stripes config first count) number) key ≡ None
 cached_none config first zero number key = refl
 cached_none config first (suc count) zero key = get-empty key_cmp key
 cached_none config first (suc count) (suc number) key = cached_none config (first + 1) count number key

@@ -8,7 +8,7 @@
 --     over_reopened    a call that has begun is over once the cache is opened again
 --     past_part        the call of a part has begun
 --     over_part        and isn't over
-use Rattle.jc_world.proofs.Common.{◌≡◌, ◌==◌, ℕ, true, false, cond, not, List, [], ◌∷◌, ◌++◌, Some, None, Option, option_map, find, sym, refl, ap, ◌∙◌, subst, inl, inr, append-nil, and_parts, arith, nat_tests, get, Caller, Config, Refusal, WriterFailed, Bytes, is_key, Part, Shown, WorldEvent, CallState, new_call, has_number, going_on, with_met, settle, with_found, with_met_by, keys_reported, after_reopening, is_new, Happens, Step, Run, fits, report_for, is_up_to, Each, IsHeld, IsOwned, IsCallOf, IsSoundWorld, WorldState, stripe_for, home, open_call, reported_now}
+use Rattle.jc_world.proofs.Common.{◌≡◌, ◌==◌, ℕ, true, false, cond, not, List, [], ◌∷◌, ◌++◌, Some, None, Option, option_map, find, sym, refl, ap, ◌∙◌, subst, inl, inr, append-nil, and_parts, arith, nat_tests, get, Caller, Config, Refusal, WriterFailed, Bytes, is_key, Part, Shown, WorldEvent, CallState, new_call, has_number, going_on, with_met, settle, with_swept_keys, with_met_by, keys_reported, after_reopening, is_new, Happens, Step, Run, fits, report_for, is_up_to, Each, IsHeld, IsOwned, IsCallOf, IsSoundWorld, WorldState, stripe_for, home, open_call, reported_now}
 use Rattle.jc_world.proofs.Lemmas.{each_pushed, each_filter, fact_found, opened_cases, each_settled, taken_of, taken_met, each_taken, KeyChange, by_nothing, by_refusal, by_step, by_reservation, by_join, by_commit, by_withdrawal, by_answer, by_retry, key_change, each_report, some_of}
 use Rattle.jc_world.proofs.Underway.{found_number, fits_found, up_more}
 
@@ -49,7 +49,7 @@ module _ (L : Option ℕ → Type 0) (P : Caller → Type 0) where
       subst (Numbers L P) (sym h.9)
       (record {
         last = old.last;
-        calls = each_taken call (λ u. going_on (with_found stripes stripe h.6 h.1 u)) (λ u. P u.caller) h.0 w.calls h.2 (λ v goes b. subst P (sym (taken_of stripes stripe h.6 h.1 h.0 v h.3 goes).caller_is) b) old.calls;
+        calls = each_taken call (λ u. going_on (with_swept_keys stripes stripe h.6 h.1 u)) (λ u. P u.caller) h.0 w.calls h.2 (λ v goes b. subst P (sym (taken_of stripes stripe h.6 h.1 h.0 v h.3 goes).caller_is) b) old.calls;
       })
   numbers_happens w new (WorldEvent.Read call key) seen more fit h old = subst (Numbers L P) (sym h.3) (record { last = old.last; calls = old.calls })
   numbers_happens w new (WorldEvent.Say call key answer) seen more fit h old = subst (Numbers L P) (sym h.3) (record { last = old.last; calls = old.calls })

@@ -1,5 +1,5 @@
 -- What the machine of a world does in a first and a last phase is what the definitions say.
-use Rattle.jc_world.proofs.Common.{◌≡◌, ℕ, zero, suc, true, false, cond, List, [], ◌∷◌, ◌++◌, length, drop, is_some, IsSomeAnd, slice_get, slice_set, Some, None, Option, sym, refl, ap, ◌∙◌, subst, subst₂, append-nil, and_parts, get, insert, remove, Config, Refusal, Bytes, Event, Op, Played, MayBegin, Commits, Withdraws, PicksUp, reserves, State, IsOut, IsJoined, TicketClaim, JoinClaim, Begun, Polled, StepDone, First, Loader, Nobody, Processor, Writer, Reservation, Outcome, Over, Part, JoinAnswer, PartProgress, Shown, Stepped, WorldEvent, puts_off, CallState, op_at, settle, over_settled, step_of, not_over, fault_in, over_by, asks_as, new_progress, new_part, with_new_part, BeginsAs, ReservesAs, Starts, RefusesAs, Happens, is_free, may_start, fits, IsDue, IsHeld, IsSoundWorld, OrderedStripes, IsPhase, IsQuietPhase, Parts, join_key, WorldState, home, stripe_for, open_call, part_of, out_of, join_of}
+use Rattle.jc_world.proofs.Common.{◌≡◌, ℕ, zero, suc, true, false, cond, List, [], ◌∷◌, ◌++◌, length, drop, is_some, IsSomeAnd, slice_get, slice_set, Some, None, Option, sym, refl, ap, ◌∙◌, subst, subst₂, append-nil, and_parts, get, insert, remove, Config, Refusal, Bytes, Event, Op, Played, MayBegin, Commits, Withdraws, PicksUp, reserves, State, IsOut, IsJoined, TicketClaim, JoinClaim, Begun, Polled, StepDone, First, Loader, Nobody, Processor, Writer, Reservation, Outcome, Over, Part, JoinAnswer, PartProgress, Shown, Stepped, WorldEvent, keeps_open, CallState, op_at, settle, over_settled, step_of, not_over, fault_in, over_by, asks_as, new_progress, new_part, with_new_part, BeginsAs, ReservesAs, StartsAs, RefusesAs, Happens, is_free, may_start, fits, IsDue, IsHeld, IsSoundWorld, OrderedStripes, IsPhase, IsQuietPhase, Parts, join_key, WorldState, home, stripe_for, open_call, part_of, out_of_part, join_of}
 use Rattle.jc_world.proofs.Lemmas.{missing, join_at, may_start_at, begins_at, was_free, some_of}
 use Rattle.jc_world.proofs.Holding.{is_part}
 use Rattle.jc_world.proofs.Kept.{unheld, stripe_at}
@@ -55,7 +55,7 @@ pub record StartPhase (v : WorldState) (call : ℕ) (key : Bytes) (u : CallState
 
 -- what is left is as the first phase's definition says
 started : (v next : WorldState) (call : ℕ) (key : Bytes) (u : CallState) (op : Op) (b : Begun) (seen : Shown) (stripes : List State) (order : List Event) → (p : StartPhase v call key u op b stripes order)
-    → Starts v u.caller key op p.phase.from p.phase.to seen.outcome next × RefusesAs u.kind seen.outcome × (seen.over ≡ over_by v u.caller.call key seen.outcome) → Happens v (WorldEvent.Start call key) seen next
+    → StartsAs v u.caller key op p.phase.from p.phase.to seen.outcome next × RefusesAs u.kind seen.outcome × (seen.over ≡ over_by v u.caller.call key seen.outcome) → Happens v (WorldEvent.Start call key) seen next
 started v next call key u op b seen stripes order p h = (u, op, p.is, p.op_is, p.phase.from, p.phase.at, p.phase.to, h.0, h.1, h.2)
 
 pub started_done : (v next : WorldState) (call : ℕ) (key : Bytes) (u : CallState) (op : Op) (done : StepDone) (seen : Stepped) (met : Option Refusal) (over : Option Over) (stripes : List State) (order : List Event)
@@ -93,8 +93,8 @@ refused_with v u key refusal = record { outcome = Outcome.Refused refusal; over 
 -- a call was refused at a key, and is to try again there, or has its last refusal
 pub started_refused : (v next : WorldState) (call : ℕ) (key : Bytes) (u : CallState) (op : Op) (refusal : Refusal) (seen : Shown) (stripes : List State) (order : List Event) (calls : List CallState)
     → StartPhase v call key u op (Begun.Refused refusal) stripes order
-    → seen ≡ cond (puts_off u.kind refusal) (not_over (Outcome.PutOff refusal)) (refused_with v u key refusal)
-    → calls ≡ cond (puts_off u.kind refusal) v.calls (settle u.caller.call key (Some refusal) v.calls)
+    → seen ≡ cond (keeps_open u.kind refusal) (not_over (Outcome.PutOff refusal)) (refused_with v u key refusal)
+    → calls ≡ cond (keeps_open u.kind refusal) v.calls (settle u.caller.call key (Some refusal) v.calls)
     → next ≡ record v { stripes = stripes; order = order; calls = calls } → Happens v (WorldEvent.Start call key) seen next
 started_refused v next call key u op refusal seen stripes order calls p shows calls_are next_is =
     let q = p.phase in
@@ -103,9 +103,9 @@ started_refused v next call key u op refusal seen stripes order calls p shows ca
       order = quiet_order v (home v key) _ stripes order q (ap (λ (s : State). s.history) q.made.1) i;
       calls = e i;
     }) in
-    let Goal : Shown → Type 0 = λ x. Starts v u.caller key op q.from q.to x.outcome next × RefusesAs u.kind x.outcome × (x.over ≡ over_by v u.caller.call key x.outcome) in
+    let Goal : Shown → Type 0 = λ x. StartsAs v u.caller key op q.from q.to x.outcome next × RefusesAs u.kind x.outcome × (x.over ≡ over_by v u.caller.call key x.outcome) in
     started v next call key u op (Begun.Refused refusal) seen stripes order p
-    (elim (puts_off u.kind refusal) as (λ b. puts_off u.kind refusal ≡ b → seen ≡ cond b (not_over (Outcome.PutOff refusal)) (refused_with v u key refusal) → calls ≡ cond b v.calls (settle u.caller.call key (Some refusal) v.calls) → Goal seen) [
+    (elim (keeps_open u.kind refusal) as (λ b. keeps_open u.kind refusal ≡ b → seen ≡ cond b (not_over (Outcome.PutOff refusal)) (refused_with v u key refusal) → calls ≡ cond b v.calls (settle u.caller.call key (Some refusal) v.calls) → Goal seen) [
       | true ↦ λ e s c. subst Goal (sym s) ((q.made, left v.calls c), e, refl)
       | false ↦ λ e s c. subst Goal (sym s) ((q.made, left (settle u.caller.call key (Some refusal) v.calls) c), e, refl)
     ] refl shows calls_are)
@@ -137,7 +137,7 @@ started_ticket v next call key u op ticket seen stripes order parts p shown put 
     (asked first m.3 (λ o r is. started v next call key u op (Begun.Asks ticket) (not_over o) stripes order p (r (ticket, m, is, left))))
   where
     -- of the three outcomes of a key that is reserved
-    asked : (first : First) → reserves first ≡ true → ((o : Outcome) → (ReservesAs v u.caller key op p.phase.from p.phase.to o next → Starts v u.caller key op p.phase.from p.phase.to o next × RefusesAs u.kind o × (None ≡ over_by v u.caller.call key o)) → o ≡ asks_as first → Happens v (WorldEvent.Start call key) (not_over o) next)
+    asked : (first : First) → reserves first ≡ true → ((o : Outcome) → (ReservesAs v u.caller key op p.phase.from p.phase.to o next → StartsAs v u.caller key op p.phase.from p.phase.to o next × RefusesAs u.kind o × (None ≡ over_by v u.caller.call key o)) → o ≡ asks_as first → Happens v (WorldEvent.Start call key) (not_over o) next)
         → Happens v (WorldEvent.Start call key) (not_over (asks_as first)) next
     asked Nobody due f = cc
     asked Loader due f = f Outcome.Loads (λ h. (h, tt, refl)) refl
@@ -162,7 +162,7 @@ free_key v call u key op ticket stripes order p sound =
 -- 4. A last phase.
 
 abbrev pub CommitsAs : Part → StepDone → State → State → Type 0
-CommitsAs part done from to = Commits from part.reservation (out_of part) done to
+CommitsAs part done from to = Commits from part.reservation (out_of_part part) done to
 
 pub ended : (v next : WorldState) (call : ℕ) (key : Bytes) (part : Part) (number : ℕ) (done : StepDone) (seen : Stepped) (met : Option Refusal) (over : Option Over) (stripes : List State) (order : List Event) (parts : Parts) → part_of v call key ≡ Some part → number ≡ home v key
     → Phased v number (CommitsAs part done) stripes order → step_of seen ≡ done → seen.stripe ≡ number → parts ≡ remove v.parts key
@@ -171,7 +171,7 @@ pub ended : (v next : WorldState) (call : ℕ) (key : Bytes) (part : Part) (numb
 ended v next call key part number done seen met over stripes order parts is home_is p shows stripe_is parts_are met_is over_is next_is =
     let same : met ≡ fault_in seen.reply = met_is ∙ sym (ap (λ (d : StepDone). fault_in d.reply) shows) in
     let q = here v key number (CommitsAs part done) stripes order home_is p in
-    let B : StepDone → Type 0 = λ d. Commits q.from part.reservation (out_of part) d q.to in
+    let B : StepDone → Type 0 = λ d. Commits q.from part.reservation (out_of_part part) d q.to in
     let left = next_is ∙ (λ i. record v { stripes = q.stripes_are i; order = q.order_is i; calls = settle call key (same i) v.calls; parts = parts_are i }) in
     (part, is, q.from, q.at, q.to, (subst B (sym shows) q.made, stripe_is ∙ home_is, left), over_is ∙ ap (λ m. over_settled call key m v.calls) same)
 

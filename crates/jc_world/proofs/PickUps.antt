@@ -6,7 +6,7 @@
 --     follows_joined     it is so if the call has just joined
 --     resolves           so what a pick-up shows is what has become of the load
 --     answers_joins      the whole, from the join to the pick-up
-use Rattle.jc_world.proofs.Common.{◌≡◌, ℕ, Bool, true, false, cond, not, ◌&&◌, ◌||◌, List, [], ◌∷◌, ◌++◌, is_some, IsSomeAnd, ◌==◌, slice_get, slice_set, find, Some, None, Option, option_map, zip, sym, refl, ap, ◌∙◌, subst, inl, inr, append_assoc, append-nil, eq-eqb, and_from, or_parts, false_from_ne_true, nat_eq_equiv, nat_list_eq_equiv, pointwise, get, remove, list_any, Caller, Config, Bytes, Op, Get, belongs_to_same, belongs_to, JoinState, Again, Answered, Waiting, Joiner, with_joiner, without_joiner, told_to, State, is_key, reservation_of, IsOut, asks_loader, JoinClaim, Reservation, Outcome, Part, Shown, WorldEvent, CallState, has_number, op_at, with_stripe, not_over, with_join, Starts, Picks, Step, Run, fits, ends_join, is_last_pick_up, ends_load, Resolves, IsCallOf, IsHeld, IsOwned, IsSoundWorld, JoinKey, join_key, Joins, WorldState, home, stripe_for, open_call, of_call, part_of, join_of, has_joined, is_joined}
+use Rattle.jc_world.proofs.Common.{◌≡◌, ℕ, Bool, true, false, cond, not, ◌&&◌, ◌||◌, List, [], ◌∷◌, ◌++◌, is_some, IsSomeAnd, ◌==◌, slice_get, slice_set, find, Some, None, Option, option_map, zip, sym, refl, ap, ◌∙◌, subst, inl, inr, append_assoc, append-nil, eq-eqb, and_from, or_parts, false_from_ne_true, nat_eq_equiv, nat_list_eq_equiv, pointwise, get, remove, list_any, Caller, Config, Bytes, Op, Get, belongs_to_same, belongs_to, JoinState, Again, Answered, Waiting, Joiner, with_joiner, without_joiner, told_to, State, is_key, reservation_of, IsOut, asks_loader, JoinClaim, Reservation, Outcome, Part, Shown, WorldEvent, CallState, has_number, op_at, with_stripe, not_over, with_join, StartsAs, Picks, Step, Run, fits, ends_join, is_last_pick_up, ends_load, Resolves, IsCallOf, IsHeld, IsOwned, IsSoundWorld, JoinKey, join_key, Joins, WorldState, home, stripe_for, open_call, of_call, part_of, join_of, has_join, is_joined}
 use Rattle.jc_world.proofs.Lemmas.{is_some_and, found_test, fact_found, found_number, same_bytes, of_call-at, joiner_of, find_kept, joined_last, join_at, load_there, MayStart, may_start_at, part_key, at_stripe_apart, stripe_put, found_more, KeyChange, by_nothing, by_refusal, by_step, by_reservation, by_join, by_commit, by_withdrawal, by_answer, by_retry, StripeChange, by_key, beside_stripes, by_reopening, change_of, may_of, some_of}
 use Rattle.jc_world.proofs.Maps.{joins_ordered, get-here, get-beside, get-left}
 use Rattle.jc_world.proofs.Kept.{some_map}
@@ -110,7 +110,7 @@ follows_key w new e key seen shows join r (by_join u op from to other may there 
     let none = ap (λ b. b || false) (ends r) in
     let apart : join_key join ≡ join_key other → ⊥ = λ same.
     let other_is : join_key other ≡ (u.caller.call, key) = λ i. join_key (h.2 i) in
-    let t : true ≡ false = sym (ap is_some f.join_is) ∙ ap (λ (at : JoinKey). has_joined w.joins at.0 at.1) (same ∙ other_is) ∙ (may_of w e key u op may fit old).alone in cc
+    let t : true ≡ false = sym (ap is_some f.join_is) ∙ ap (λ (at : JoinKey). has_join w.joins at.0 at.1) (same ∙ other_is) ∙ (may_of w e key u op may fit old).alone in cc
     in
     follows_set w new shows _ join r key from to f (ap (λ (x : WorldState). x.config) is) (ap (λ (x : WorldState). x.stripes) is) there
     (ap (λ (x : WorldState). join_of x join.caller.call join.key) is ∙ get-beside joins_ordered w.joins (join_key other) other (join_key join) apart ∙ f.join_is) (λ apart. none)
@@ -263,7 +263,7 @@ IsAnswered old new key shows seen =
 
 -- by what is shown of the first phase
 answers_started : Laws → (old joined new newer : WorldState) (call : ℕ) (key : Bytes) (u : CallState) (op : Op) (from to : State) (es : List WorldEvent) (ss : List Shown) (seen : Shown) → open_call old call ≡ Some u → op_at u key ≡ Some op → fits old (WorldEvent.Start call key) ≡ true
-    → stripe_for old key ≡ Some from → Starts old u.caller key op from to Outcome.Joins joined → IsSoundWorld old → IsSoundWorld joined → Run joined es ss new → list_any (is_last_pick_up call key) (zip es ss) ≡ false
+    → stripe_for old key ≡ Some from → StartsAs old u.caller key op from to Outcome.Joins joined → IsSoundWorld old → IsSoundWorld joined → Run joined es ss new → list_any (is_last_pick_up call key) (zip es ss) ≡ false
     → Step new (WorldEvent.PickUp call key) seen newer → IsAnswered old new key (zip es ss) seen.outcome
 answers_started laws old joined new newer call key u op from to es ss seen here op_is fit there (join, begins, is) sound_old sound_joined run none step =
     let may = may_start_at old call key u op fit here op_is sound_old in

@@ -1,5 +1,5 @@
 -- The stripes of a world, once one is set.
-use Rattle.jc_world.proofs.Common.{◌≡◌, ℕ, zero, suc, ◌%◌, ◌<◌, ◌≤◌, Bool, true, false, cond, List, [], ◌∷◌, length, get_or, nat_le, slice_get, slice_set, Some, Ok, Err, sum, Option, Result, sym, refl, ap, subst, arith, leb-true, and_parts, slice_get-get_or, is_between, check, Config, STRIPES_MAX, Refusal, Bytes, State, IsShaped, WorldState, home, stripe_for, empty_stripe}
+use Rattle.jc_world.proofs.Common.{◌≡◌, ℕ, zero, suc, ◌%◌, ◌<◌, ◌≤◌, Bool, true, false, cond, List, [], ◌∷◌, length, get_or, nat_le, slice_get, slice_set, Some, Ok, Err, sum, Option, Result, sym, refl, ap, subst, arith, leb-true, and_parts, slice_get-get_or, is_between, check, Config, STRIPES_MAX, Refusal, Bytes, State, IsWorldShaped, WorldState, home, stripe_for, fresh_stripe}
 
 -- what stays true from a stripe to the one that is put in its place stays true at every number
 pub at_stripe_apart : (stripes : List State) (i j : ℕ) (from next : State) (P : Option State → Option State → Type 0) → slice_get stripes i ≡ Some from → (i ≡ j → P (Some from) (Some next)) → ((i ≡ j → ⊥) → P (slice_get stripes j) (slice_get stripes j))
@@ -39,8 +39,8 @@ within : (n count stripes : ℕ) → 0 < stripes → count ≡ stripes → n % s
 within n count stripes some same = omega arith
 
 -- each key has a stripe
-pub home_stripe : (w : WorldState) (key : Bytes) → IsShaped w → (s : State) × (stripe_for w key ≡ Some s)
+pub home_stripe : (w : WorldState) (key : Bytes) → IsWorldShaped w → (s : State) × (stripe_for w key ≡ Some s)
 home_stripe w key shape = (
-  get_or w.stripes (home w key) (empty_stripe w.config 0),
-  slice_get-get_or w.stripes (home w key) (empty_stripe w.config 0) (within (sum key) (length w.stripes) w.config.stripes (some_stripe w.config shape.config_fits) shape.count),
+  get_or w.stripes (home w key) (fresh_stripe w.config 0),
+  slice_get-get_or w.stripes (home w key) (fresh_stripe w.config 0) (within (sum key) (length w.stripes) w.config.stripes (some_stripe w.config shape.config_fits) shape.count),
 )

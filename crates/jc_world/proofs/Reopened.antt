@@ -2,7 +2,7 @@
 --     cached_reopened     each key has the entry that it had, or none if it is dropped
 --     coherent_opened     if the world is coherent, so is its opening
 --     is_reopened         the whole
-use Rattle.jc_world.proofs.Common.{◌≡◌, ℕ, zero, suc, Bool, true, false, cond, List, [], ◌∷◌, slice_get, Some, None, IfSome, is_none, sym, refl, ap, ◌∙◌, subst, inl, inr, and_parts, and_from, nat_list_eq_equiv, list_all, nat_list_cmp_total, get-empty, get-from_entries, stripe_of, Config, Bytes, Cache, entry_at, key_cmp, State, Shown, WorldEvent, Happens, Step, fits, stripes_reopened, after_reopening, holds, is_stored, opens_coherent, Coherent, has_progress, has_changed, IsOpeningWorld, is_dropped, IsReopened, IsSoundWorld, WorldState, entry_in, cached_entry, none_is}
+use Rattle.jc_world.proofs.Common.{◌≡◌, ℕ, zero, suc, Bool, true, false, cond, List, [], ◌∷◌, slice_get, Some, None, IfSome, is_none, sym, refl, ap, ◌∙◌, subst, inl, inr, and_parts, and_from, nat_list_eq_equiv, list_all, nat_list_cmp_total, get-empty, get-from_entries, stripe_of, Config, Bytes, Cache, entry_at, key_cmp, State, Shown, WorldEvent, Happens, Step, fits, stripes_reopened, after_reopening, holds, is_stored, opens_coherent, Coherent, has_progress, has_changed, IsOpeningWorld, is_dropped, IsReopenedWorld, IsSoundWorld, WorldState, entry_in, cached_entry, none_is}
 use Rattle.std.specs.FinMap as map
 use Rattle.jc_model.specs.Listed.{has_distinct_keys}
 use Rattle.jc_stripe.specs.Reopening.{all_entries, kept}
@@ -64,11 +64,11 @@ coherent_opened config w opens coherent =
 
 -- 3. The law.
 
-reopened_now : (w : WorldState) (config : Config) (s : Shown) (new : WorldState) → IsSoundWorld w → fits w (WorldEvent.Reopen config) ≡ true → Happens w (WorldEvent.Reopen config) s new → IsReopened config w s new
+reopened_now : (w : WorldState) (config : Config) (s : Shown) (new : WorldState) → IsSoundWorld w → fits w (WorldEvent.Reopen config) ≡ true → Happens w (WorldEvent.Reopen config) s new → IsReopenedWorld config w s new
 reopened_now w config s new old fit (shows, is) =
     let opens = reopened_opens w config old fit in
     let left : WorldState = after_reopening config w in
-    subst (IsReopened config w s) (sym is)
+    subst (IsReopenedWorld config w s) (sym is)
     (record {
       opens = opens;
       config_is = refl;
@@ -83,6 +83,6 @@ reopened_now w config s new old fit (shows, is) =
       );
     })
 
-pub is_reopened : (w : WorldState) (config : Config) (s : Shown) (new : WorldState) → IsSoundWorld w → fits w (WorldEvent.Reopen config) ≡ true → Step w (WorldEvent.Reopen config) s new → IsReopened config w s new
+pub is_reopened : (w : WorldState) (config : Config) (s : Shown) (new : WorldState) → IsSoundWorld w → fits w (WorldEvent.Reopen config) ≡ true → Step w (WorldEvent.Reopen config) s new → IsReopenedWorld config w s new
 is_reopened w config s new old fit (inl (fit_now, happens)) = reopened_now w config s new old fit happens
 is_reopened w config s new old fit (inr (unfit, shows, is)) = absurd (let t : true ≡ false = sym fit ∙ unfit in cc)

@@ -6,7 +6,7 @@
 --     StayOut         from one world to a later one: that is so of all stripes
 --     stay_run        so it is in every run, or a call that had begun is over, since the cache was opened again
 --     stays_held      so the entry of a key stays, if its reservation is the same
-use Rattle.jc_world.proofs.Common.{◌≡◌, ℕ, ◌<◌, ◌≤◌, Bool, true, false, cond, not, ◌⊎◌, List, [], ◌∷◌, ◌++◌, slice_get, slice_set, Some, None, filter, find, sym, refl, ap, ◌∙◌, subst, inl, inr, arith, get, stripe_of, Config, Bytes, entry_at, KeepsReserved, State, is_key, is_reserved, with_reservation, without_key, without_reservation, IsOut, Begun, Reservation, Outcome, Part, Shown, WorldEvent, step_of, Step, Run, is_reopening, changes_cache, IsHeld, IsSoundWorld, WorldState, home, stripe_for, entry_in, cached_entry, out_of}
+use Rattle.jc_world.proofs.Common.{◌≡◌, ℕ, ◌<◌, ◌≤◌, Bool, true, false, cond, not, ◌⊎◌, List, [], ◌∷◌, ◌++◌, slice_get, slice_set, Some, None, filter, find, sym, refl, ap, ◌∙◌, subst, inl, inr, arith, get, stripe_of, Config, Bytes, entry_at, KeepsReserved, State, is_key, is_reserved, with_reservation, without_key, without_reservation, IsOut, Begun, Reservation, Outcome, Part, Shown, WorldEvent, step_of, Step, Run, is_reopening, changes_cache, IsHeld, IsSoundWorld, WorldState, home, stripe_for, entry_in, cached_entry, out_of_part}
 use Rattle.jc_world.proofs.Lemmas.{found_holds, at_stripe, split, out_reserved, found_left, KeyChange, by_nothing, by_refusal, by_step, by_reservation, by_join, by_commit, by_withdrawal, by_answer, by_retry, StripeChange, by_key, beside_stripes, by_reopening, change_of, Move, no_move, quiet_move, step_move, reopening_move, move_step, some_of}
 use Rattle.jc_world.proofs.Sounding.{Laws, sound_step}
 use Rattle.jc_world.proofs.OverCalls.{IsPast, past_step, IsOver, over_run, over_reopened}
@@ -155,7 +155,7 @@ stay_key kept w new e key seen (by_commit call part from to x e_is part_is there
     let r = part.reservation in
     stay_set w new key from to (ap (λ (v : WorldState). v.config) is) (ap (λ (v : WorldState). v.stripes) is) there
     (stays_released from to r.key (ap (λ (s : State). s.next) h.1.after) (ap (λ (s : State). s.reservations) h.1.after)
-    (λ q out. kept.commits from to r (out_of part) (step_of x) q (old.shape.each (home w key) from there).reached h out))
+    (λ q out. kept.commits from to r (out_of_part part) (step_of x) q (old.shape.each (home w key) from there).reached h out))
 stay_key kept w new e key seen (by_withdrawal call part from to e_is part_is there h is shows) old =
     stay_set w new key from to (ap (λ (v : WorldState). v.config) is) (ap (λ (v : WorldState). v.stripes) is) there
     (stays_released from to part.reservation.key (ap (λ (s : State). s.next) h.1) (ap (λ (s : State). s.reservations) h.1) (λ q out. ap (λ (s : State). entry_at s.cache q) h.1))

@@ -3,7 +3,7 @@
 --     AllBy          each step among events is of such a caller at such a key
 --     added_order    steps that may come after an order are at its end
 --     comes_added    a step may still come, if it may after each that is added
-use Rattle.jc_world.proofs.Common.{◌≡◌, ℕ, zero, suc, Bool, true, false, cond, not, ◌&&◌, ◌||◌, List, [], ◌∷◌, ◌++◌, map, length, drop, IsSomeAnd, nat_lt, ◌==◌, slice_get, slice_set, Some, None, filter, Option, find, sym, refl, ap, ◌∙◌, subst, append-nil, arith, drop-append_seam, eqb-true, ne_eqb, and_parts, and_from, filter-append, list_all-append, pointwise, list_all, check, stripe_of, Caller, Config, Bytes, Group, victim_events, evicted_events, step_event, shared_event, step_place, events_of, may_come, may_follow, in_order, event_key, is_of_stripe, of_stripe, Cause, Event, Evict, LoadAnswer, Op, Out, Reply, Extends, may_come_all, IsReached, State, IsWorldStripe, IsShaped, is_up_to, number_up_to, Each, WorldState, home, stripe_for}
+use Rattle.jc_world.proofs.Common.{◌≡◌, ℕ, zero, suc, Bool, true, false, cond, not, ◌&&◌, ◌||◌, List, [], ◌∷◌, ◌++◌, map, length, drop, IsSomeAnd, nat_lt, ◌==◌, slice_get, slice_set, Some, None, filter, Option, find, sym, refl, ap, ◌∙◌, subst, append-nil, arith, drop-append_seam, eqb-true, ne_eqb, and_parts, and_from, filter-append, list_all-append, pointwise, list_all, check, stripe_of, Caller, Config, Bytes, Group, victim_events, evicted_events, step_event, shared_event, step_place, events_of, may_come, may_follow, in_order, event_key, is_of_stripe, of_stripe, Cause, Event, Evict, LoadAnswer, Op, Out, Reply, Extends, may_come_all, IsReached, State, IsWorldStripe, IsWorldShaped, is_up_to, number_up_to, Each, WorldState, home, stripe_for}
 use Rattle.jc_model.specs.declared.event.Event.TheVariants.{Step}
 
 -- 1. Small facts.
@@ -134,7 +134,7 @@ share_stays w n m from to g at reached apart =
 -- 3. The shape.
 
 -- the same stripes and the same order
-pub shape_same : (w n : WorldState) → n.config ≡ w.config → n.stripes ≡ w.stripes → n.order ≡ w.order → IsShaped w → IsShaped n
+pub shape_same : (w n : WorldState) → n.config ≡ w.config → n.stripes ≡ w.stripes → n.order ≡ w.order → IsWorldShaped w → IsWorldShaped n
 shape_same w n config stripes order shape = record {
   config_fits = ap check config ∙ shape.config_fits;
   count = ap length stripes ∙ shape.count ∙ ap (λ (c : Config). c.stripes) (sym config);
@@ -145,10 +145,10 @@ shape_same w n config stripes order shape = record {
 }
 
 -- one stripe is another, and the order has all that it appended
-pub shape_set : (w n : WorldState) (key : Bytes) (from to : State) → n.config ≡ w.config → n.stripes ≡ slice_set w.stripes (home w key) to → IsShaped w → stripe_for w key ≡ Some from
+pub shape_set : (w n : WorldState) (key : Bytes) (from to : State) → n.config ≡ w.config → n.stripes ≡ slice_set w.stripes (home w key) to → IsWorldShaped w → stripe_for w key ≡ Some from
     → to.config ≡ from.config → to.stripe ≡ from.stripe → to.origin ≡ from.origin → to.ended ≡ from.ended → IsReached to
     → of_stripe w.config.stripes (home w key) n.order ≡ to.history
-    → ((m : ℕ) → (home w key ≡ m → ⊥) → of_stripe w.config.stripes m n.order ≡ of_stripe w.config.stripes m w.order) → IsShaped n
+    → ((m : ℕ) → (home w key ≡ m → ⊥) → of_stripe w.config.stripes m n.order ≡ of_stripe w.config.stripes m w.order) → IsWorldShaped n
 shape_set w n key from to config_is stripes_are shape there config number origin ended reached share rest =
     let old = shape.each (home w key) from there in
     let count_is : n.config.stripes ≡ w.config.stripes = ap (λ (c : Config). c.stripes) config_is in

@@ -4,7 +4,7 @@
 --     Gives          a phase raises that by one at the places that it answers, and leaves it at the others
 --     gives_done, gives_commit, gives_picked and so on      what each kind of phase answers
 --     owed_run        so a run raises it by the answers that it shows
-use Rattle.jc_world.proofs.Common.{◌≡◌, ℕ, zero, suc, ◌+◌, Bool, true, false, cond, ◌&&◌, List, [], ◌∷◌, ◌++◌, map, length, ◌==◌, slice_get, slice_set, Some, None, count_by, Option, sym, refl, ap, ◌∙◌, inl, inr, arith, and-false, eqb-suc-suc, eqb-suc-zero, eqb-zero-suc, eqb-true, eqb-false, eq-eqb, and_parts, sum_by-cons, list_all, Caller, Config, Bytes, Group, nothing_said, victim_events, evicted_events, step_event, shared_event, step_place, events_of, of_stripe, Cause, Event, LoadAnswer, Op, Get, Out, Reply, callers_of, Joiner, joined_parks, withdrawn_parks, beginner_parks, commit_parks, committer_parks, sharers_park, picker_parks, picked_parks, others_park, again_parks_same, Extends, Grows, is_parked, MayBegin, new_group, Steps, Begins, after_commit, Commits, without_joiner, PicksUp, IsReached, State, JoinClaim, Begun, Polled, StepDone, Reservation, Outcome, Shown, WorldEvent, step_of, Step, Run, fits, IsOpeningWorld, is_reopening, reopens, is_answer_at, joiners_in, joiners_at, times_shown, IsSoundWorld, WorldState, home, stripe_for, out_of}
+use Rattle.jc_world.proofs.Common.{◌≡◌, ℕ, zero, suc, ◌+◌, Bool, true, false, cond, ◌&&◌, List, [], ◌∷◌, ◌++◌, map, length, ◌==◌, slice_get, slice_set, Some, None, count_by, Option, sym, refl, ap, ◌∙◌, inl, inr, arith, and-false, eqb-suc-suc, eqb-suc-zero, eqb-zero-suc, eqb-true, eqb-false, eq-eqb, and_parts, sum_by-cons, list_all, Caller, Config, Bytes, Group, nothing_said, victim_events, evicted_events, step_event, shared_event, step_place, events_of, of_stripe, Cause, Event, LoadAnswer, Op, Get, Out, Reply, callers_of, Joiner, joined_parks, withdrawn_parks, beginner_parks, commit_parks, committer_parks, sharers_park, picker_parks, picked_parks, others_park, again_parks_same, Extends, Grows, is_parked, MayBegin, new_group, Steps, Begins, after_commit, Commits, without_joiner, PicksUp, IsReached, State, JoinClaim, Begun, Polled, StepDone, Reservation, Outcome, Shown, WorldEvent, step_of, Step, Run, fits, IsOpeningWorld, is_reopening, reopens, is_answer_at, joiners_in, joiners_at, times_shown, IsSoundWorld, WorldState, home, stripe_for, out_of_part}
 use Rattle.jc_world.proofs.Lemmas.{added, share_stays, begins_with, stripe_put, AnswersNone, KeyChange, by_nothing, by_refusal, by_step, by_reservation, by_join, by_commit, by_withdrawal, by_answer, by_retry, StripeChange, by_key, beside_stripes, by_reopening, change_of, may_of}
 use Rattle.jc_world.proofs.Merging.{other_set}
 use Rattle.jc_world.proofs.Loads.{one_if}
@@ -192,7 +192,7 @@ owed_key grows w new e key seen number place (by_join u op from to join may ther
     (gives_none from to (ap (λ (s : State). s.history) h.3) (λ c k. ap (λ (s : State). is_parked s.joiners c k) h.3 ∙ joined_parks from join c k)) none
 owed_key grows w new e key seen number place (by_commit call part from to x e_is part_is there h home_is is shows) fit old sound =
     owed_grown w new key from to x.place number place there old sound (ap (λ (v : WorldState). v.config) is) (ap (λ (v : WorldState). v.stripes) is) (ap (λ (v : WorldState). v.order) is)
-    (grows.commits from to part.reservation (out_of part) (step_of x) h) (gives_commit from to part.reservation (out_of part) (step_of x) (old.shape.each (home w key) from there).reached h)
+    (grows.commits from to part.reservation (out_of_part part) (step_of x) h) (gives_commit from to part.reservation (out_of_part part) (step_of x) (old.shape.each (home w key) from there).reached h)
     ∙ owed_answer w x.stripe key x.place number place home_is ∙ ap (λ o. one_if (is_answer_at number place o) + owed w number place) (sym shows)
 owed_key grows w new e key seen number place (by_withdrawal call part from to e_is part_is there h is shows) fit old sound =
     owed_quiet w new key from to seen.outcome number place there old sound (ap (λ (v : WorldState). v.config) is) (ap (λ (v : WorldState). v.stripes) is) (ap (λ (v : WorldState). v.order) is)

@@ -4,7 +4,7 @@
 --     AllBegun       what is under way, reserved and joined is so of calls that have begun
 --     AllStand       each answer that was shown is that of its call's step, and the call has begun before it
 --     stands_run     so a run of events keeps that
-use Rattle.jc_world.proofs.Common.{◌≡◌, ℕ, zero, suc, true, false, cond, not, List, [], ◌∷◌, ◌++◌, length, take, slice_get, slice_set, Some, None, Option, option_map, zip, sym, refl, ap, ◌∙◌, subst, subst₂, inl, inr, append_assoc, append-nil, arith, take-append_seam, and_from, or_parts, nat_eq_equiv, take-append-le, filter-append, slice_get_within, get, get-empty, insert, remove, stripe_of, Caller, Config, Refusal, WriterFailed, Bytes, key_cmp, nothing_said, is_of_stripe, of_stripe, Op, Get, Out, Reply, callers_of, step_at, after_commit, State, JoinClaim, Reservation, Command, Outcome, Part, Shown, WorldEvent, CallState, new_call, has_number, op_for, is_going, has_too_many_keys, opened, going_on, with_met, settle, with_found, step_of, with_met_by, new_part, keys_reported, Happens, Step, Run, IsOpeningWorld, is_reopening, reopens, report_for, IsReplyOfStep, Stands, is_answer_at, Each, IsSoundWorld, Parts, JoinKey, join_cmp, join_key, Joins, WorldState, home, stripe_for, open_call, part_of, out_of, reported_now}
+use Rattle.jc_world.proofs.Common.{◌≡◌, ℕ, zero, suc, true, false, cond, not, List, [], ◌∷◌, ◌++◌, length, take, slice_get, slice_set, Some, None, Option, option_map, zip, sym, refl, ap, ◌∙◌, subst, subst₂, inl, inr, append_assoc, append-nil, arith, take-append_seam, and_from, or_parts, nat_eq_equiv, take-append-le, filter-append, slice_get_within, get, get-empty, insert, remove, stripe_of, Caller, Config, Refusal, WriterFailed, Bytes, key_cmp, nothing_said, is_of_stripe, of_stripe, Op, Get, Out, Reply, callers_of, step_at, after_commit, State, JoinClaim, Reservation, Command, Outcome, Part, Shown, WorldEvent, CallState, new_call, has_number, op_for, is_going, has_too_many_keys, opened, going_on, with_met, settle, with_swept_keys, step_of, with_met_by, new_part, keys_reported, Happens, Step, Run, IsOpeningWorld, is_reopening, reopens, report_for, IsReplyOfStep, Stands, is_answer_at, Each, IsSoundWorld, Parts, JoinKey, join_cmp, join_key, Joins, WorldState, home, stripe_for, open_call, part_of, out_of_part, reported_now}
 use Rattle.jc_model.specs.declared.event.Event.{Event as StripeEvent}
 use Rattle.jc_world.proofs.Lemmas.{still_at, each_map, fact_found, each_pushed, each_filter, added, found_number, of_call-at, done_for, Left, each_settled, begun_shown, Taken, taken_of, taken_met, each_taken, join_at, joins_get, part_key, stripe_put, AnswersNone, IsStart, KeyChange, by_nothing, by_refusal, by_step, by_reservation, by_join, by_commit, by_withdrawal, by_answer, by_retry, key_change, StripeChange, by_key, beside_stripes, by_reopening, change_of, Move, no_move, quiet_move, step_move, reopening_move, move_step, each_report}
 use Rattle.jc_world.proofs.Maps.{keys_ordered, joins_ordered, each_put, each_left}
@@ -201,7 +201,7 @@ begun_happens shows w new (WorldEvent.Look call stripe) seen last h old =
     let stripes = w.config.stripes in
     subst (AllBegun shows) (sym h.9)
     (record {
-      calls = each_taken call (λ u. going_on (with_found stripes stripe h.6 h.1 u)) (IsBegun shows) h.0 w.calls h.2 (λ v goes b. begun_taken shows h.0 v (taken_of stripes stripe h.6 h.1 h.0 v h.3 goes) b) old.calls;
+      calls = each_taken call (λ u. going_on (with_swept_keys stripes stripe h.6 h.1 u)) (IsBegun shows) h.0 w.calls h.2 (λ v goes b. begun_taken shows h.0 v (taken_of stripes stripe h.6 h.1 h.0 v h.3 goes) b) old.calls;
       parts = old.parts;
       joins = old.joins;
     })
@@ -300,8 +300,8 @@ stands_key shows w new e key seen (by_commit call part from to x e_is part_is th
     let S : WorldEvent → Outcome → Type 0 = λ e o. Stands new shows e o in
     subst₂ S (sym e_is) (sym shows_it)
     (answered_for new shows r.caller.call call r.key key x.reply x.stripe x.place None (of_call-at call (get w.parts key) part part_is).1 key_is
-    (answered_at w new shows r.caller r.key r.op (out_of part) None x.reply x.stripe x.place to (home_is ∙ sym (ap (home w) key_is)) later (set_at w new _ key r.key from to key_is there is refl) sound
-    (step_at (after_commit from r x.place) to r.caller r.key r.op (out_of part) (callers_of r.number from.joiners) (step_of x) h.1) (part_begun shows w call key part part_is begun)))
+    (answered_at w new shows r.caller r.key r.op (out_of_part part) None x.reply x.stripe x.place to (home_is ∙ sym (ap (home w) key_is)) later (set_at w new _ key r.key from to key_is there is refl) sound
+    (step_at (after_commit from r x.place) to r.caller r.key r.op (out_of_part part) (callers_of r.number from.joiners) (step_of x) h.1) (part_begun shows w call key part part_is begun)))
 stands_key shows w new e key seen (by_withdrawal call part from to e_is part_is there h is shows_it) later old sound begun = stands_silent new shows e seen.outcome (λ n p. ap (λ (s : Shown). is_answer_at n p s.outcome) shows_it)
 stands_key shows w new e key seen (by_answer call join from to x e_is join_is there h home_is is shows_it ends) later old sound begun =
     let same = join_at w call key join join_is old.joins in

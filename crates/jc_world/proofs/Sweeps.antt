@@ -1,7 +1,7 @@
 -- Each call that looks at the stripes has taken keys of those at which it has looked: each event keeps that.
 --     sweeps_left, sweep_found      what is left of a call once a key is settled, and once it has taken keys
 --     sweeps_happens                any event that fits
-use Rattle.jc_world.proofs.Common.{◌≡◌, ℕ, true, false, cond, not, ◌||◌, List, [], ◌∷◌, ◌++◌, is_some, ◌==◌, Some, None, Option, find, sym, refl, ap, ◌∙◌, subst, append-nil, eqb-true, and_parts, or_right, nat_eq_equiv, list_any-append, is_some-lookup, pointwise, list_any, list_all, lookup, option_or, stripe_of, Config, Refusal, Bytes, Op, Command, Shown, WorldEvent, at_each, SweepState, CallState, new_call, has_number, opened, going_on, with_met, settle, has_looked, has_looked_at_each, next_sweep, with_found, look, with_met_by, Happens, fits, Each, Sweeps, IsSoundWorld, WorldState, open_call}
+use Rattle.jc_world.proofs.Common.{◌≡◌, ℕ, true, false, cond, not, ◌||◌, List, [], ◌∷◌, ◌++◌, is_some, ◌==◌, Some, None, Option, find, sym, refl, ap, ◌∙◌, subst, append-nil, eqb-true, and_parts, or_right, nat_eq_equiv, list_any-append, is_some-lookup, pointwise, list_any, list_all, lookup, option_or, stripe_of, Config, Refusal, Bytes, Op, Command, Shown, WorldEvent, at_each, SweepState, CallState, new_call, has_number, opened, going_on, with_met, settle, has_looked, has_looked_at_each, next_sweep, with_swept_keys, look, with_met_by, Happens, fits, Each, Sweeps, IsSoundWorld, WorldState, open_call}
 use Rattle.jc_world.proofs.Lemmas.{each_pushed, each_filter, same_bytes, Left, going_is, each_settled, opened_cases, each_taken, keys-at_each, lookup-found, KeyChange, by_nothing, by_refusal, by_step, by_reservation, by_join, by_commit, by_withdrawal, by_answer, by_retry, key_change, IsWhole}
 use Rattle.jc_world.proofs.StripeKeys.{all_here}
 
@@ -36,10 +36,10 @@ among_here stripes i (key ∷ keys) q here there =
       | false ↦ λ e there. among_here stripes i keys q parts.1 there
     ] refl there
 
-pub sweep_found : (config : Config) (stripe : ℕ) (keys : List Bytes) (s : SweepState) (u v : CallState) → u.sweep ≡ Some s → list_all (λ k. stripe_of k config.stripes == stripe) keys ≡ true → going_on (with_found config.stripes stripe keys s u) ≡ Some v
+pub sweep_found : (config : Config) (stripe : ℕ) (keys : List Bytes) (s : SweepState) (u v : CallState) → u.sweep ≡ Some s → list_all (λ k. stripe_of k config.stripes == stripe) keys ≡ true → going_on (with_swept_keys config.stripes stripe keys s u) ≡ Some v
     → Sweeps config u → Sweeps config v
 sweep_found config stripe keys s u v sweeps here goes old =
-    subst (Sweeps config) (sym (going_is (with_found config.stripes stripe keys s u) v goes)) (λ next is q there.
+    subst (Sweeps config) (sym (going_is (with_swept_keys config.stripes stripe keys s u) v goes)) (λ next is q there.
     let test = pointwise ◌==◌ q in
     ap (λ looked. has_looked looked (stripe_of q config.stripes)) (behind_next config.stripes stripe s next is)
     ∙ list_any-append (λ other. other == stripe_of q config.stripes) s.looked (stripe ∷ [])
@@ -84,7 +84,7 @@ sweeps_called w call session c old =
 sweeps_looked : (w : WorldState) (call stripe : ℕ) (keys : List Bytes) (s : SweepState) (u : CallState) → find (has_number call) w.calls ≡ Some u → u.sweep ≡ Some s → list_all (λ k. stripe_of k w.config.stripes == stripe) keys ≡ true → AllSweep w
     → Each (Sweeps w.config) (look call w.config.stripes stripe keys s w.calls)
 sweeps_looked w call stripe keys s u here sweeps own old =
-    each_taken call (λ u. going_on (with_found w.config.stripes stripe keys s u)) (Sweeps w.config) u w.calls here (λ v goes h. sweep_found w.config stripe keys s u v sweeps own goes h) old
+    each_taken call (λ u. going_on (with_swept_keys w.config.stripes stripe keys s u)) (Sweeps w.config) u w.calls here (λ v goes h. sweep_found w.config stripe keys s u v sweeps own goes h) old
 
 pub sweeps_met : (w : WorldState) (call : ℕ) (met : Option Refusal) (u : CallState) → open_call w call ≡ Some u → AllSweep w → AllSweep (with_met_by w call met)
 sweeps_met w call met u here old = each_taken call (λ x. Some (with_met met x)) (Sweeps w.config) u w.calls here (λ v goes h. let is : with_met met u ≡ v = cc in subst (Sweeps w.config) is h) old

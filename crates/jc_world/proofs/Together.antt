@@ -3,7 +3,7 @@
 --     kept_fit        what fits at such a key fits in either
 --     keeps_other     what happens at a key keeps every other key of the call
 --     fit_together    what fits at keys that differ fits one after the other
-use Rattle.jc_world.proofs.Common.{◌≡◌, ℕ, Bool, true, false, cond, not, ◌&&◌, ◌||◌, List, [], ◌∷◌, ◌++◌, map, is_some, is_none, IsSomeAnd, ◌==◌, Some, None, Option, find, sym, refl, ap, ◌∙◌, subst, inl, append-nil, and_parts, and_from, or_right, eqb-true, nat_eq_equiv, nat_list_eq_equiv, IsDistinct-head, IsDistinct-tail, pointwise, get, insert, remove, list_all, AllByRecursion, IsDistinct, Refusal, is_among, Bytes, Cache, is_load_given, Op, JoinClaim, Part, Premises, Shown, WorldEvent, CallState, has_number, op_at, open_keys, settle, Happens, AllFit, is_free, may_start, may_leave, fits, IsCallOf, IsSoundWorld, at_call, key_at, FitTogether, JoinKey, join_key, Parts, WorldState, open_call, of_call, part_of, has_progress, waits_for_load, has_joined, is_joined}
+use Rattle.jc_world.proofs.Common.{◌≡◌, ℕ, Bool, true, false, cond, not, ◌&&◌, ◌||◌, List, [], ◌∷◌, ◌++◌, map, is_some, is_none, IsSomeAnd, ◌==◌, Some, None, Option, find, sym, refl, ap, ◌∙◌, subst, inl, append-nil, and_parts, and_from, or_right, eqb-true, nat_eq_equiv, nat_list_eq_equiv, IsDistinct-head, IsDistinct-tail, pointwise, get, insert, remove, list_all, AllByRecursion, IsDistinct, Refusal, is_among, Bytes, Cache, is_load_given, Op, JoinClaim, Part, Premises, Shown, WorldEvent, CallState, has_number, op_at, open_keys, settle, Happens, AllFit, is_free, may_start, may_leave, fits, IsCallOf, IsSoundWorld, at_call, key_at, FitTogether, JoinKey, join_key, Parts, WorldState, open_call, of_call, part_of, has_progress, waits_for_load, has_join, is_joined}
 use Rattle.jc_world.proofs.Lemmas.{is_some_and, same_bytes, still_called, KeyChange, by_nothing, by_refusal, by_step, by_reservation, by_join, by_commit, by_withdrawal, by_answer, by_retry, start_change, end_change, pick_change, some_of}
 use Rattle.jc_world.proofs.Fitting.{none_fit, fits_then, one_fits, unjoined_held}
 use Rattle.jc_world.proofs.Maps.{keys_ordered, joins_ordered, get-beside, get-left, get-gone}
@@ -73,10 +73,10 @@ part_without : (parts : Parts) (q key : Bytes) (call : ℕ) → (q ≡ key → �
 part_without parts q key call apart = ap (of_call call) (get-left keys_ordered parts key q apart)
 
 -- a join of another key
-join_more : (w : WorldState) (call : ℕ) (q : Bytes) (join : JoinClaim) → (q ≡ join.key → ⊥) → has_joined (insert w.joins (join_key join) join) call q ≡ is_joined w call q
+join_more : (w : WorldState) (call : ℕ) (q : Bytes) (join : JoinClaim) → (q ≡ join.key → ⊥) → has_join (insert w.joins (join_key join) join) call q ≡ is_joined w call q
 join_more w call q join apart = ap is_some (get-beside joins_ordered w.joins (join_key join) join (call, q) (λ same. apart (ap (λ (at : JoinKey). at.1) same)))
 
-join_less : (w : WorldState) (call other : ℕ) (q key : Bytes) → (q ≡ key → ⊥) → has_joined (remove w.joins (other, key)) call q ≡ is_joined w call q
+join_less : (w : WorldState) (call other : ℕ) (q key : Bytes) → (q ≡ key → ⊥) → has_join (remove w.joins (other, key)) call q ≡ is_joined w call q
 join_less w call other q key apart = ap is_some (get-left joins_ordered w.joins (other, key) (call, q) (λ same. apart (ap (λ (at : JoinKey). at.1) same)))
 
 -- a key of a call that was settled leaves its others

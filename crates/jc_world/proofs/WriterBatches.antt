@@ -2,7 +2,7 @@
 --     asked_waits    at a key for which it is asked it hasn't returned
 --     change_kept    once it has changed the store at a key, it is asked for the same keys
 --     report_kept    and so it may return as before
-use Rattle.jc_world.proofs.Common.{◌≡◌, ℕ, true, cond, Some, None, Option, list_any, sym, refl, ap, ◌∙◌, eq-eqb, and_parts, nat_list_cmp_total, get, insert, get-insert, Bytes, Change, Part, CallState, open_keys, with_change, after_change, passes_in, is_in_batch, batch_of, writer_batch, is_asked_in, may_change, is_asked, may_report, is_write, waits_for_process, waits_for_report, waits_for_write, WorldState, open_call, of_call, part_of, has_progress, Bool}
+use Rattle.jc_world.proofs.Common.{◌≡◌, ℕ, true, cond, Some, None, Option, list_any, sym, refl, ap, ◌∙◌, eq-eqb, and_parts, nat_list_cmp_total, get, insert, get-insert, Bytes, Change, Part, CallState, open_keys, with_change, after_change, passes_in, is_in_batch, batch_of, writer_batch, is_asked_in, may_change, is_being_written, may_report, is_write, waits_for_process, waits_for_report, waits_for_write, WorldState, open_call, of_call, part_of, has_progress, Bool}
 use Rattle.jc_world.specs.declared.reports.WriterBatch.{WriterBatch}
 use Rattle.jc_world.specs.declared.reports.WriterBatch.TheVariants.{Nothing, Writes, All}
 use Rattle.jc_world.proofs.Lemmas.{of_call-at, split}
@@ -18,7 +18,7 @@ passes_more : (p q : Part → Bool) → ((part : Part) → p part ≡ true → q
 passes_more p q f None h = cc
 passes_more p q f (Some part) h = f part h
 
-pub asked_waits : (w : WorldState) (call : ℕ) (key : Bytes) → is_asked w call key ≡ true → has_progress waits_for_report (part_of w call key) ≡ true
+pub asked_waits : (w : WorldState) (call : ℕ) (key : Bytes) → is_being_written w call key ≡ true → has_progress waits_for_report (part_of w call key) ≡ true
 asked_waits w call key h = go (open_call w call) h
   where
     go : (o : Option CallState) → may_change w call key o ≡ true → has_progress waits_for_report (part_of w call key) ≡ true
@@ -55,7 +55,7 @@ asked_kept w call key q part is u =
     ap (λ b. passes_in (is_in_batch b) next call q) batches
     ∙ same_passes (is_in_batch (writer_batch w.parts call u)) (batch_same (writer_batch w.parts call u)) w call key q part is
 
-pub change_kept : (w : WorldState) (call : ℕ) (key q : Bytes) (part : Part) (change : Change) → part_of w call key ≡ Some part → is_asked (after_change w key part change) call q ≡ is_asked w call q
+pub change_kept : (w : WorldState) (call : ℕ) (key q : Bytes) (part : Part) (change : Change) → part_of w call key ≡ Some part → is_being_written (after_change w key part change) call q ≡ is_being_written w call q
 change_kept w call key q part change is = go (open_call w call)
   where
     go : (o : Option CallState) → may_change (after_change w key part change) call q o ≡ may_change w call q o

@@ -1,51 +1,51 @@
 -- Calls under way: what each does at its keys. A key is open in a call until it has its reply or its last refusal there.
---     Task            a key, and what is done there as long as it is open
---     at_each         an operation at each of some keys
---     put_each_of     a `Put` of each of some entries
---     tasks           what a command does at each of its keys, in their order. Those of `removeAll()` and `clear()` are found stripe
---                     by stripe
---     kind_of         how the call of a command takes its keys
---     is_bulk         a call of a kind has many keys
---     puts_off        a key of a call of a kind that meets a refusal stays open, to be tried again: in a call of one key it doesn't
---     has_too_many    tasks are more than a call may have keys
---     SweepState      what a call that takes the keys that are cached does at each key that it finds, and the stripes at which it
---                     has looked
---     sweep_of        the sweep of a command that takes the keys that are cached, before its first look; none of another command
---     CallState       a call under way: who calls, how it takes its keys, what it does, its sweep of the stripes, and what it has met
---     new_call        a call that has just begun
+--     Task              a key, and what is done there as long as it is open
+--     at_each           an operation at each of some keys
+--     put_each_of       a `Put` of each of some entries
+--     tasks             what a command does at each of its keys, in their order. Those of `removeAll()` and `clear()` are found stripe
+--                       by stripe
+--     kind_of           how the call of a command takes its keys
+--     is_bulk           a call of a kind has many keys
+--     keeps_open        a key of a call of a kind that meets a refusal stays open, to be tried again: in a call of one key it doesn't
+--     has_too_many      tasks are more than a call may have keys
+--     SweepState        what a call that takes the keys that are cached does at each key that it finds, and the stripes at which it
+--                       has looked
+--     sweep_of          the sweep of a command that takes the keys that are cached, before its first look; none of another command
+--     CallState         a call under way: who calls, how it takes its keys, what it does, its sweep of the stripes, and what it has met
+--     new_call          a call that has just begun
 --     has_too_many_keys
---                     a call names too many keys: it is refused whole
---     is_going        a call isn't over: it is still to look at a stripe, or a key of it is open
---     opened          a call that has just begun, if it is then under way: it is not refused whole, and isn't over
---     has_number      a call has this number
---     is_of_session   a call is of this session
---     op_in, op_at    what tasks, and a call, do at a key that is open; none at any other key
+--                       a call names too many keys: it is refused whole
+--     is_going          a call isn't over: it is still to look at a stripe, or a key of it is open
+--     opened            a call that has just begun, if it is then under way: it is not refused whole, and isn't over
+--     has_number        a call has this number
+--     is_of_session     a call is of this session
+--     op_in, op_at      what tasks, and a call, do at a key that is open; none at any other key
 --     op_found, op_or_found
---                     what a call does at each key that it finds by its sweep, and at a key by its task, if it has one
---     op_for          what a call does at a key, also at one that its sweep may still find: nothing at a key that is settled
---     is_open         the key of a task is open
+--                       what a call does at each key that it finds by its sweep, and at a key by its task, if it has one
+--     op_for            what a call does at a key, also at one that its sweep may still find: nothing at a key that is settled
+--     is_open           the key of a task is open
 --     open_in, open_keys
---                     the open keys of tasks, and of a call, in their order
---     going_on        a call, if it isn't over
---     over_of         that a call of many keys is over, with its cause, if it is: no key of it is open, and no look is left
---     cause_after     the first fault, or refusal that isn't put off, that a call of a kind has met, once it meets this or nothing. A call
---                     of one key doesn't keep it, since it is answered with it, nor does an `invokeAll`, each key of which has a result
---                     of its own
---     with_met        a call that meets this
---     settled         a call once a key of it has its reply or last refusal, and it has met this by it
---     replaced        the calls, once of the one with this number is left what there is
---     settle          the calls under way once a key of one is settled: the call is taken out if it is over with that
---     over_settled    that the call is over with that, and with which cause, if it is a call of many keys that is
---     meet            the calls under way once one has met this
---     drop_call       the calls without one that is over
---     has_looked      a stripe is among those at which a call has looked
---     looked_in       the stripes at which a call with this sweep has looked: none, if it is to look at no more
+--                       the open keys of tasks, and of a call, in their order
+--     going_on          a call, if it isn't over
+--     over_of           that a call of many keys is over, with its cause, if it is: no key of it is open, and no look is left
+--     cause_after       the first fault, or refusal that isn't put off, that a call of a kind has met, once it meets this or nothing. A call
+--                       of one key doesn't keep it, since it is answered with it, nor does an `invokeAll`, each key of which has a result
+--                       of its own
+--     with_met          a call that meets this
+--     settled           a call once a key of it has its reply or last refusal, and it has met this by it
+--     replaced          the calls, once of the one with this number is left what there is
+--     settle            the calls under way once a key of one is settled: the call is taken out if it is over with that
+--     over_settled      that the call is over with that, and with which cause, if it is a call of many keys that is
+--     meet              the calls under way once one has met this
+--     drop_call         the calls without one that is over
+--     has_looked        a stripe is among those at which a call has looked
+--     looked_in         the stripes at which a call with this sweep has looked: none, if it is to look at no more
 --     has_looked_at_each
---                     so is each of so many stripes
---     next_sweep      a sweep of so many stripes behind a look at one more: none once it has looked at each
---     with_found      a call, of so many stripes, that has looked at a stripe and taken its keys
---     look            the calls under way once a call has looked at a stripe and taken these keys: it is over if it has looked at
---                     each stripe, and no key of it is open
+--                       so is each of so many stripes
+--     next_sweep        a sweep of so many stripes behind a look at one more: none once it has looked at each
+--     with_swept_keys   a call, of so many stripes, that has looked at a stripe and taken its keys
+--     look              the calls under way once a call has looked at a stripe and taken these keys: it is over if it has looked at
+--                       each stripe, and no key of it is open
 use Rattle.std.specs.Prelude.{◌==◌, ◌&&◌, ◌||◌, ℕ, zero, suc, List, [], ◌∷◌, ◌++◌, length, nat_lt, Bool, true, false, not, Option, None, Some, find, filter, map, is_some, option_map, if◌then◌else◌}
 use Rattle.std.specs.List.{cons_option, list_any}
 use Rattle.std.specs.Map.{keys_of, lookup, set_value}
@@ -115,10 +115,10 @@ is_bulk kind.Single = false
 is_bulk kind.Batch = true
 is_bulk kind.InvokeAll = true
 
-abbrev pub puts_off : CallKind → Refusal → Bool
-puts_off kind.Single refusal = false
-puts_off kind.Batch refusal = is_put_off refusal
-puts_off kind.InvokeAll refusal = is_put_off refusal
+abbrev pub keeps_open : CallKind → Refusal → Bool
+keeps_open kind.Single refusal = false
+keeps_open kind.Batch refusal = is_put_off refusal
+keeps_open kind.InvokeAll refusal = is_put_off refusal
 
 abbrev pub has_too_many : List Task → Bool
 has_too_many tasks = nat_lt BULK_KEYS_MAX (length tasks)
@@ -252,10 +252,10 @@ next_sweep stripes stripe sweep =
     let looked = sweep.looked ++ stripe ∷ [] in
     if has_looked_at_each looked stripes then None else Some (record sweep { looked = looked })
 
-abbrev pub with_found : ℕ → ℕ → List Bytes → SweepState → CallState → CallState
-with_found stripes stripe keys sweep u =
+abbrev pub with_swept_keys : ℕ → ℕ → List Bytes → SweepState → CallState → CallState
+with_swept_keys stripes stripe keys sweep u =
     record u { tasks = u.tasks ++ at_each sweep.op keys; sweep = next_sweep stripes stripe sweep }
 
 abbrev pub look : ℕ → ℕ → ℕ → List Bytes → SweepState → List CallState → List CallState
 look call stripes stripe keys sweep calls =
-    replaced call (λ u. going_on (with_found stripes stripe keys sweep u)) calls
+    replaced call (λ u. going_on (with_swept_keys stripes stripe keys sweep u)) calls

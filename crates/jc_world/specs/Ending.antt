@@ -1,5 +1,5 @@
 -- What is still out in the stripes of a world that ends. No contract of a public call cites this.
---     IsLeft         a stripe of a world that ends: it is reached
+--     IsLeftStripe   a stripe of a world that ends: it is reached
 --     AreLeft        there is a stripe for each number
 --     out_at         the stripe of a key
 --     IsPartOut      the reservation of a held key is out in the stripe of its key
@@ -22,7 +22,7 @@ use Rattle.jc_world.specs.declared.event.Part.{Part}
 use Rattle.jc_world.specs.World.{Parts, JoinKey, Joins, join_key}
 use Rattle.jc_world.specs.Sound.{AllDue}
 
-pub record IsLeft (config : Config) (number : ℕ) (s : State) : Type 0 where
+pub record IsLeftStripe (config : Config) (number : ℕ) (s : State) : Type 0 where
   pub config_is : s.config ≡ config
   pub number_is : s.stripe ≡ number
   pub origin_is : s.origin ≡ Played
@@ -30,7 +30,7 @@ pub record IsLeft (config : Config) (number : ℕ) (s : State) : Type 0 where
 
 pub record AreLeft (config : Config) (stripes : List State) : Type 0 where
   pub count : length stripes ≡ config.stripes
-  pub each : (number : ℕ) (s : State) → slice_get stripes number ≡ Some s → IsLeft config number s
+  pub each : (number : ℕ) (s : State) → slice_get stripes number ≡ Some s → IsLeftStripe config number s
 
 abbrev pub out_at : Config → List State → Bytes → Option State
 out_at config stripes key = slice_get stripes (stripe_of key config.stripes)

@@ -21,7 +21,7 @@
 --     with_join, without_join     the world with one join more, and without a call's join of a key
 --     BeginsAs                    the first phase of a call, by what it returns
 --     ReservesAs                  a first phase that reserves its key, with what is shown of it
---     Starts                      a first phase, by what is shown of it
+--     StartsAs                    a first phase, by what is shown of it
 --     RefusesAs                   a refusal is shown as one that a call of a kind is to try again, or as its last for the key
 --     Ends                        a last phase
 --     Picks                       a pick-up, by what is shown of it
@@ -97,12 +97,12 @@ use Rattle.jc_world.specs.declared.event.Shown.{Shown}
 use Rattle.jc_world.specs.declared.event.Stepped.{Stepped}
 use Rattle.jc_world.specs.declared.reports.ReportedKey.{ReportedKey}
 use Rattle.jc_world.specs.declared.reports.WriterBatch.{WriterBatch}
-use Rattle.jc_world.specs.Calls.{CallState, SweepState, open_keys, puts_off, op_at, new_call, has_too_many_keys, opened, over_of, settle, over_settled, meet, drop_call, with_found, look}
+use Rattle.jc_world.specs.Calls.{CallState, SweepState, open_keys, keeps_open, op_at, new_call, has_too_many_keys, opened, over_of, settle, over_settled, meet, drop_call, with_swept_keys, look}
 use Rattle.jc_world.specs.declared.event.Part.{Part}
 use Rattle.jc_world.specs.declared.event.PartProgress.{PartProgress}
-use Rattle.jc_world.specs.World.{WorldState, start, home, stripe_for, open_call, of_call, part_of, Parts, waits_for_report, has_changed, join_of, join_key, out_of, writer_change}
+use Rattle.jc_world.specs.World.{WorldState, start, home, stripe_for, open_call, of_call, part_of, Parts, waits_for_report, has_changed, join_of, join_key, out_of_part, writer_change}
 use Rattle.jc_world.specs.Premises.{opens_coherent, read_answer, changed_to, report_for, is_true_load, is_true_report, with_loader, with_writer, with_foreign_write, load_from}
-use Rattle.jc_world.specs.declared.process.Processed.{Processed as ProcessShown}
+use Rattle.jc_world.specs.declared.process.ShownRun.{ShownRun as ProcessShown}
 use Rattle.jc_world.specs.Fits.{fits, is_in_batch, writer_batch}
 
 -- 1. What a phase leaves.
@@ -209,34 +209,34 @@ ReservesAs old caller key op from to o new =
     × (new ≡ with_new_part old key to (new_progress ticket.reservation.first) ticket.reservation)
 
 -- at a key whose stripe is at `from`, and is then at `to`
-abbrev pub Starts : WorldState → Caller → Bytes → Op → State → State → Outcome → WorldState → Type 0
-Starts old caller key op from to (outcome.Refused refusal) new =
+abbrev pub StartsAs : WorldState → Caller → Bytes → Op → State → State → Outcome → WorldState → Type 0
+StartsAs old caller key op from to (outcome.Refused refusal) new =
     BeginsAs caller key op (begun.Refused refusal) from to
     × (new ≡ with_settled old caller.call key (Some refusal))
-Starts old caller key op from to (outcome.PutOff refusal) new =
+StartsAs old caller key op from to (outcome.PutOff refusal) new =
     BeginsAs caller key op (begun.Refused refusal) from to × (new ≡ old)
-Starts old caller key op from to (outcome.Stepped seen) new =
+StartsAs old caller key op from to (outcome.Stepped seen) new =
     BeginsAs caller key op (begun.Done (step_of seen)) from to × (seen.stripe ≡ home old key)
     × (new ≡ with_settled (with_phase old key from to) caller.call key (fault_in seen.reply))
-Starts old caller key op from to outcome.Loads new =
+StartsAs old caller key op from to outcome.Loads new =
     ReservesAs old caller key op from to outcome.Loads new
-Starts old caller key op from to (outcome.Asks change) new =
+StartsAs old caller key op from to (outcome.Asks change) new =
     ReservesAs old caller key op from to (outcome.Asks change) new
-Starts old caller key op from to (outcome.Processes entry) new =
+StartsAs old caller key op from to (outcome.Processes entry) new =
     ReservesAs old caller key op from to (outcome.Processes entry) new
-Starts old caller key op from to outcome.Joins new =
+StartsAs old caller key op from to outcome.Joins new =
     (join : JoinClaim) × BeginsAs caller key op (begun.Joined join) from to
     × (new ≡ with_join (with_stripe old key to) join)
-Starts old caller key op from to o new = ⊥
+StartsAs old caller key op from to o new = ⊥
 
 abbrev pub RefusesAs : CallKind → Outcome → Type 0
-RefusesAs kind (outcome.Refused refusal) = puts_off kind refusal ≡ false
-RefusesAs kind (outcome.PutOff refusal) = puts_off kind refusal ≡ true
+RefusesAs kind (outcome.Refused refusal) = keeps_open kind refusal ≡ false
+RefusesAs kind (outcome.PutOff refusal) = keeps_open kind refusal ≡ true
 RefusesAs kind o = Unit {0}
 
 abbrev pub Ends : WorldState → ℕ → Bytes → Part → State → State → Outcome → WorldState → Type 0
 Ends old call key part from to (outcome.Stepped seen) new =
-    Commits from part.reservation (out_of part) (step_of seen) to
+    Commits from part.reservation (out_of_part part) (step_of seen) to
     × (seen.stripe ≡ home old key)
     × (new ≡ without_part (with_settled (with_phase old key from to) call key (fault_in seen.reply)) key)
 Ends old call key part from to o new = ⊥
@@ -395,12 +395,12 @@ Happens old (event.Look call stripe) seen new =
     (u : CallState) × (sweep : SweepState) × (open_call old call ≡ Some u) × (u.sweep ≡ Some sweep)
     × (from : State) × (slice_get old.stripes stripe ≡ Some from)
     × (keys : List Bytes) × AreKeys from keys
-    × (seen ≡ record { outcome = outcome.Looked; over = over_of (with_found old.config.stripes stripe keys sweep u) })
+    × (seen ≡ record { outcome = outcome.Looked; over = over_of (with_swept_keys old.config.stripes stripe keys sweep u) })
     × (new ≡ with_look old call stripe keys sweep)
 Happens old (event.Start call key) seen new =
     (u : CallState) × (op : Op) × (open_call old call ≡ Some u) × (op_at u key ≡ Some op)
     × (from : State) × (stripe_for old key ≡ Some from) × (to : State)
-    × Starts old u.caller key op from to seen.outcome new × RefusesAs u.kind seen.outcome
+    × StartsAs old u.caller key op from to seen.outcome new × RefusesAs u.kind seen.outcome
     × (seen.over ≡ over_by old u.caller.call key seen.outcome)
 Happens old (event.Read call key) seen new =
     let answer = read_answer (entry_at old.store key) in

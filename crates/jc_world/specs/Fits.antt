@@ -1,24 +1,24 @@
 -- When an event fits.
---     is_single      an operation is a call by itself: each but `Clear` and `LoadAll`
---     is_playable    a command that a world plays: one operation that is a call by itself, or one on many keys
---     is_new         a call's number is above all before it
---     is_free        a call has neither a reservation nor a join of a key
---     may_start      a key is open in a call, which has neither a reservation nor a join of it
---     may_leave      a call has neither a reservation nor a join of any of its open keys
---     passes_in      in these parts a call has reserved a key, and the part passes a test
---     waits_at       a call has reserved a key, the writer was asked for it and hasn't returned
---     is_in_batch    a part is among those for which the writer is asked at once
---     batch_of       for which keys a call of a kind has the writer asked now, by whether a key of it waits for its processor, and
---                    whether one waits for a write
---     writer_batch   for which keys a call has the writer asked now: for all together; but in an `invokeAll` for none while a key of it
---                    waits for its processor, then for the writes together, and once it has returned for these for the deletes
---     is_asked_in    a key of a call under way is among these
---     may_change     so it is, if the call is under way
---     is_asked       so it is of the call with this number
---     may_report     so it is of an open key of the call
---     is_to_look     a sweep hasn't looked at a stripe yet
---     may_look       a call takes the keys that are cached, and hasn't looked at this one of so many stripes
---     fits           an event fits
+--     is_single          an operation is a call by itself: each but `Clear` and `LoadAll`
+--     is_playable        a command that a world plays: one operation that is a call by itself, or one on many keys
+--     is_new             a call's number is above all before it
+--     is_free            a call has neither a reservation nor a join of a key
+--     may_start          a key is open in a call, which has neither a reservation nor a join of it
+--     may_leave          a call has neither a reservation nor a join of any of its open keys
+--     passes_in          in these parts a call has reserved a key, and the part passes a test
+--     waits_at           a call has reserved a key, the writer was asked for it and hasn't returned
+--     is_in_batch        a part is among those for which the writer is asked at once
+--     batch_of           for which keys a call of a kind has the writer asked now, by whether a key of it waits for its processor, and
+--                        whether one waits for a write
+--     writer_batch       for which keys a call has the writer asked now: for all together; but in an `invokeAll` for none while a key of it
+--                        waits for its processor, then for the writes together, and once it has returned for these for the deletes
+--     is_asked_in        a key of a call under way is among these
+--     may_change         so it is, if the call is under way
+--     is_being_written   so it is of the call with this number
+--     may_report         so it is of an open key of the call
+--     is_to_look         a sweep hasn't looked at a stripe yet
+--     may_look           a call takes the keys that are cached, and hasn't looked at this one of so many stripes
+--     fits               an event fits
 use Rattle.std.specs.Prelude.{ℕ, Bool, true, false, not, ◌&&◌, Option, None, Some, is_some, nat_lt, if◌then◌else◌}
 use Rattle.std.specs.List.{list_all, list_any}
 use Rattle.std.specs.Result.{is_ok}
@@ -38,7 +38,7 @@ use Rattle.jc_world.specs.declared.event.WorldEvent.TheVariants as event
 use Rattle.jc_world.specs.declared.reports.WriterBatch.{WriterBatch}
 use Rattle.jc_world.specs.declared.reports.WriterBatch.TheVariants as batch
 use Rattle.jc_world.specs.Calls.{CallState, SweepState, has_looked, open_keys, op_at}
-use Rattle.jc_world.specs.World.{WorldState, is_busy, is_idle, open_call, of_call, part_of, Parts, is_free_of, waits_for_load, waits_for_report, waits_for_write, is_answered, is_untouched, is_joined, has_progress, waits_for_process}
+use Rattle.jc_world.specs.World.{WorldState, is_busy, is_idle, open_call, of_call, part_of, Parts, is_free_of, waits_for_load, waits_for_report, waits_for_write, is_all_answered, is_untouched, is_joined, has_progress, waits_for_process}
 
 -- the operations that are calls by themselves: the others are keys of a bulk call
 abbrev pub is_single : Op → Bool
@@ -113,8 +113,8 @@ abbrev pub may_change : WorldState → ℕ → Bytes → Option CallState → Bo
 may_change w call key None = false
 may_change w call key (Some u) = is_asked_in w.parts call u key
 
-abbrev pub is_asked : WorldState → ℕ → Bytes → Bool
-is_asked w call key = may_change w call key (open_call w call)
+abbrev pub is_being_written : WorldState → ℕ → Bytes → Bool
+is_being_written w call key = may_change w call key (open_call w call)
 
 -- the writer is asked for an open key
 abbrev pub may_report : WorldState → ℕ → Option CallState → Bool
@@ -139,10 +139,10 @@ fits w (event.Start call key) = may_start w call key (open_call w call)
 fits w (event.Read call key) = has_progress waits_for_load (part_of w call key)
 fits w (event.Say call key answer) =
     is_load_given answer && has_progress waits_for_load (part_of w call key)
-fits w (event.Change call key) = is_asked w call key
+fits w (event.Change call key) = is_being_written w call key
 fits w (event.Report call left fault) = may_report w call (open_call w call)
 fits w (event.Process call key source calls fail) = has_progress waits_for_process (part_of w call key)
-fits w (event.Commit call key) = has_progress is_answered (part_of w call key)
+fits w (event.Commit call key) = has_progress is_all_answered (part_of w call key)
 fits w (event.Withdraw call key) = has_progress is_untouched (part_of w call key)
 fits w (event.Leave call) = may_leave w call (open_call w call)
 fits w (event.PickUp call key) = is_joined w call key

@@ -38,7 +38,7 @@ use Rattle.jc_world.specs.declared.event.WorldEvent.TheVariants as event
 use Rattle.jc_world.specs.declared.event.Outcome.{Outcome}
 use Rattle.jc_world.specs.declared.event.Outcome.TheVariants as outcome
 use Rattle.jc_world.specs.declared.event.Shown.{Shown}
-use Rattle.jc_world.specs.World.{WorldState, start, out_of, with_stored, cached_entry}
+use Rattle.jc_world.specs.World.{WorldState, start, out_of_part, with_stored, cached_entry}
 use Rattle.jc_world.specs.Events.{Run}
 use Rattle.jc_world.specs.Coherent.{Coherent, all_hold}
 use Rattle.jc_world.specs.Audit.{IsOrder, HasShares}
@@ -139,7 +139,7 @@ is_load key (stripe.Evict k cause) = false
 -- an answer of the loader is kept for the commit
 abbrev pub is_loaded : Option Part → Bool
 is_loaded None = false
-is_loaded (Some part) = is_load_given (out_of part).load
+is_loaded (Some part) = is_load_given (out_of_part part).load
 
 abbrev pub CountsLoads : Type 0
 CountsLoads =

@@ -1,6 +1,6 @@
 -- How a world keeps the keys that its calls have reserved: a map by key, of tickets with what was done and answered; and its joins: a
 -- map by call and key. No contract of a public call cites this.
---     HasRun         either the ticket was not asked, and no processor has run; or its own processor's played run is there
+--     HasPlayedRun   either the ticket was not asked, and no processor has run; or its own processor's played run is there
 --     IsAnswerable   the progress of a ticket is that of one whom it asks first, with the run of its processor
 --     parts_of       by key, what was asked and answered: the map that an index map means
 --     joins_of       by call and key, the joins: the same of the joins
@@ -20,9 +20,9 @@ use Rattle.jc_world.specs.Sound.{FitsAsked}
 
 -- 1. Tickets and their answers.
 
-abbrev pub HasRun : TicketClaim → Option (ProcessResult Claim) → Out → Type 0
-HasRun ticket None out = (ticket.asked ≡ false) × (is_process_given out.process ≡ false)
-HasRun ticket (Some done) out =
+abbrev pub HasPlayedRun : TicketClaim → Option (ProcessResult Claim) → Out → Type 0
+HasPlayedRun ticket None out = (ticket.asked ≡ false) × (is_process_given out.process ≡ false)
+HasPlayedRun ticket (Some done) out =
     (ticket.asked ≡ true) × (asks_processor ticket.reservation.first ≡ true)
     × (done.ask ≡ claim_of ticket.reservation) × (done.origin ≡ Played)
     × (done.load ≡ out.load) × (done.process ≡ out.process) × (is_process_given out.process ≡ true)
@@ -31,7 +31,7 @@ pub record IsAnswerable (ticket : TicketClaim) (run : Option (ProcessResult Clai
     (progress : PartProgress) : Type 0 where
   pub of_asked : FitsAsked ticket.reservation.first progress
   pub writer : ticket.writer_asked ≡ false
-  pub run_is : HasRun ticket run progress.out
+  pub run_is : HasPlayedRun ticket run progress.out
 
 -- 2. By key.
 

@@ -4,7 +4,7 @@
 --                       that its last reopening left
 --     HasLastOpening    every run has one
 --     is_dropped        a key is among those that a reopening drops
---     IsReopened        a reopening left an opening in the new shape, with the store and the numbers of calls as they were. Each
+--     IsReopenedWorld   a reopening left an opening in the new shape, with the store and the numbers of calls as they were. Each
 --                       stripe opens with what it keeps, in this order of use. Each key has the entry that it had, but for those
 --                       that are shown, which are dropped. The premises hold then exactly if write-through is on and what is cached
 --                       is the store's
@@ -61,7 +61,7 @@ HasLastOpening =
 abbrev pub is_dropped : Config → WorldState → Bytes → Bool
 is_dropped config old key = list_any (pointwise ◌==◌ key) (keys_dropped config old)
 
-pub record IsReopened (config : Config) (old : WorldState) (s : Shown) (new : WorldState) : Type 0 where
+pub record IsReopenedWorld (config : Config) (old : WorldState) (s : Shown) (new : WorldState) : Type 0 where
   pub opens : IsOpeningWorld new
   pub config_is : new.config ≡ config
   pub store_is : new.store ≡ old.store
@@ -78,4 +78,4 @@ ReopensOpen =
     (first : WorldState) (events : List WorldEvent) (seen : List Shown) (old new : WorldState)
     (config : Config) (s : Shown)
     → Reaches first events seen old → fits old (event.Reopen config) ≡ true
-    → Step old (event.Reopen config) s new → IsReopened config old s new
+    → Step old (event.Reopen config) s new → IsReopenedWorld config old s new

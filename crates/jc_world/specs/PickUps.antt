@@ -2,7 +2,7 @@
 --     ends_join         a pick-up with this outcome ended its join: it did not come too early
 --     is_last_pick_up   an event is the pick-up that ended the call's join of a key
 --     ends_load         an event ended a reservation of the load's call and key: by its commit or its withdrawal
---     IsEnd             an event, with its outcome, is the first that did. The load is out when it is joined, so this ended it
+--     IsLoadEnd         an event, with its outcome, is the first that did. The load is out when it is joined, so this ended it
 --     Resolves          the outcome of a pick-up, by what has become of the load: the answer of the step that committed it, that it was
 --                       withdrawn, or that it is still out
 --     AnswersJoins      after every list of events, each pick-up is so of the load that the call joined, which asked the loader for
@@ -42,7 +42,7 @@ ends_load load (event.Withdraw call key, seen) =
     is_fit seen.outcome && (call == load.caller.call) && pointwise ◌==◌ load.key key
 ends_load load (e, seen) = false
 
-pub record IsEnd (shows : List (WorldEvent × Shown)) (load : Reservation) (at : ℕ)
+pub record IsLoadEnd (shows : List (WorldEvent × Shown)) (load : Reservation) (at : ℕ)
     (e : WorldEvent) (o : Outcome) : Type 0 where
   pub seen : Shown
   pub there : slice_get shows at ≡ Some (e, seen)
@@ -52,10 +52,10 @@ pub record IsEnd (shows : List (WorldEvent × Shown)) (load : Reservation) (at :
 abbrev pub Resolves : WorldState → List (WorldEvent × Shown) → Reservation → Outcome → Type 0
 Resolves w shows load (outcome.PickedUp x) =
     (at : ℕ) × (step : Stepped)
-    × IsEnd shows load at (event.Commit load.caller.call load.key) (outcome.Stepped step)
+    × IsLoadEnd shows load at (event.Commit load.caller.call load.key) (outcome.Stepped step)
     × (step.stripe ≡ x.stripe) × (step.place ≡ x.shared)
 Resolves w shows load outcome.Again =
-    (at : ℕ) × IsEnd shows load at (event.Withdraw load.caller.call load.key) outcome.Withdrawn
+    (at : ℕ) × IsLoadEnd shows load at (event.Withdraw load.caller.call load.key) outcome.Withdrawn
 Resolves w shows load outcome.Waits =
     (part : Part) × (part_of w load.caller.call load.key ≡ Some part) × (part.reservation ≡ load)
     × (list_any (ends_load load) shows ≡ false)

@@ -1,6 +1,6 @@
 -- What is true of every world that a run reaches. The contracts of public calls hand out what callers need of it.
 --     IsWorldStripe                      a stripe of the world: it is reached, and its history is its part of the order
---     IsShaped                      there is a stripe for each number
+--     IsWorldShaped                 there is a stripe for each number
 --     HaveNoneEnded                 of these stripes none has ended a generation
 --     is_up_to, number_up_to        a number is at most the last call's, and so is the number of an event's step
 --     has_answer, has_parked_answer  an answer is parked for a joiner in this state, and for a joiner that is there
@@ -83,7 +83,7 @@ pub record IsWorldStripe (w : WorldState) (number : ℕ) (s : State) : Type 0 wh
   pub reached : IsReached s
   pub share : of_stripe w.config.stripes number w.order ≡ s.history
 
-pub record IsShaped (w : WorldState) : Type 0 where
+pub record IsWorldShaped (w : WorldState) : Type 0 where
   pub config_fits : check w.config ≡ Ok tt
   pub count : length w.stripes ≡ w.config.stripes
   pub each : (number : ℕ) (s : State) → slice_get w.stripes number ≡ Some s → IsWorldStripe w number s
@@ -245,7 +245,7 @@ Sweeps config u =
 
 -- 7. The world. In a fresh one nothing is cached, reserved, joined or under way.
 pub record IsSoundWorld (w : WorldState) : Type 0 where
-  pub shape : IsShaped w
+  pub shape : IsWorldShaped w
   pub order : in_order w.order ≡ true
   pub numbers : list_all (number_up_to w.last) w.order ≡ true
   pub calls : CallsFit w w.calls

@@ -9,7 +9,7 @@
 --     stripe_for                      the stripe of a key
 --     entry_in                        what a stripe caches for a key, if there is a stripe
 --     cached_entry                    what is cached for a key
---     empty_stripe, empty_stripes     a stripe in which nothing has happened, and as many as are asked for, from a number on
+--     fresh_stripe, fresh_stripes     a stripe in which nothing has happened, and as many as are asked for, from a number on
 --     start                           a world before anything has happened
 --     is_busy                         a session has a call under way
 --     is_idle                         no call is under way
@@ -23,13 +23,13 @@
 --     waits_for_report                the writer was asked, and hasn't returned
 --     is_write                        the writer is asked for a write, not for a delete
 --     waits_for_write                 the writer was asked for a write, and hasn't returned
---     is_answered                     all that was asked is answered
+--     is_all_answered                 all that was asked is answered
 --     is_untouched                    nothing was answered outside for the key, and nothing done
 --     has_changed                     the writer has changed the store
 --     writer_change                   what the writer is asked for, if it is
---     out_of                          the outside answers
+--     out_of_part                     the outside answers
 --     join_of                         a call's join of a key, if it has one
---     has_joined, is_joined           among these joins, and in a world, a call has joined a load of a key, and hasn't its answer
+--     has_join, is_joined             among these joins, and in a world, a call has joined a load of a key, and hasn't its answer
 --     is_free_of                      a call has neither reserved a key nor joined a load of it
 --     with_stored                     the world with this value in its store
 use Rattle.std.specs.Prelude.{◌==◌, ℕ, zero, suc, ◌+◌, List, [], ◌∷◌, length, Bool, true, false, not, ◌&&◌, Option, None, Some, find, is_none, is_some, slice_get, if◌then◌else◌}
@@ -102,20 +102,20 @@ abbrev pub cached_entry : WorldState → Bytes → Option Bytes
 cached_entry w key = entry_in (stripe_for w key) key
 
 -- an empty stripe
-abbrev pub empty_stripe : Config → ℕ → State
-empty_stripe config number = opened_stripe config Played number []
+abbrev pub fresh_stripe : Config → ℕ → State
+fresh_stripe config number = opened_stripe config Played number []
 
 -- as many, from a number on
-abbrev pub empty_stripes : Config → ℕ → ℕ → List State
-empty_stripes config number zero = []
-empty_stripes config number (suc count) =
-    empty_stripe config number ∷ empty_stripes config (number + 1) count
+abbrev pub fresh_stripes : Config → ℕ → ℕ → List State
+fresh_stripes config number zero = []
+fresh_stripes config number (suc count) =
+    fresh_stripe config number ∷ fresh_stripes config (number + 1) count
 
 abbrev pub start : Config → WorldState
 start config =
     record {
       config = config;
-      stripes = empty_stripes config 0 config.stripes;
+      stripes = fresh_stripes config 0 config.stripes;
       order = [];
       store = empty;
       last = None;
@@ -180,8 +180,8 @@ abbrev pub waits_for_write : Part → Bool
 waits_for_write part = waits_for_report part && is_write part.progress.change
 
 -- all that was asked is answered
-abbrev pub is_answered : Part → Bool
-is_answered part = not (waits_for_load part) && not (waits_for_process part) && not (waits_for_report part)
+abbrev pub is_all_answered : Part → Bool
+is_all_answered part = not (waits_for_load part) && not (waits_for_process part) && not (waits_for_report part)
 
 -- nothing was answered outside, and nothing done
 abbrev pub is_untouched : Part → Bool
@@ -196,24 +196,24 @@ abbrev pub writer_change : Part → Option Change
 writer_change part = part.progress.change
 
 -- the outside answers
-abbrev pub out_of : Part → Out
-out_of part = part.progress.out
+abbrev pub out_of_part : Part → Out
+out_of_part part = part.progress.out
 
 -- 4. The calls that have joined a load.
 
 abbrev pub join_of : WorldState → ℕ → Bytes → Option JoinClaim
 join_of w call key = map.get w.joins (call, key)
 
-abbrev pub has_joined : Joins → ℕ → Bytes → Bool
-has_joined joins call key = is_some (map.get joins (call, key))
+abbrev pub has_join : Joins → ℕ → Bytes → Bool
+has_join joins call key = is_some (map.get joins (call, key))
 
 abbrev pub is_joined : WorldState → ℕ → Bytes → Bool
-is_joined w call key = has_joined w.joins call key
+is_joined w call key = has_join w.joins call key
 
 -- a call has neither reserved a key nor joined a load of it
 abbrev pub is_free_of : Parts → Joins → ℕ → Bytes → Bool
 is_free_of parts joins call key =
-    is_none (of_call call (map.get parts key)) && not (has_joined joins call key)
+    is_none (of_call call (map.get parts key)) && not (has_join joins call key)
 
 -- 5. The store before anything has happened.
 abbrev pub with_stored : WorldState → Bytes → Bytes → WorldState

@@ -3,7 +3,7 @@ ghost use Rattle.std.specs.Prelude.{◌≡◌, ◌<◌, ◌++◌, true, Some, Ok
 ghost use Rattle.std.specs.Prelude.{OnOk, OnErr, IsSomeAnd};
 ghost use Rattle.std.specs.List.{list_any, remove};
 ghost use Rattle.jc_world.specs.Calls.{has_number, is_of_session, is_going, drop_call, look, meet, new_call, opened, over_of};
-ghost use Rattle.jc_world.specs.Calls.{over_settled, puts_off, settle, with_found};
+ghost use Rattle.jc_world.specs.Calls.{keeps_open, over_settled, settle, with_swept_keys};
 ghost use Rattle.jc_world.specs.OpenCalls.{TakesKeys};
 ghost use Rattle.jc_world.specs.Calls.{CallState, SweepState};
 ghost use Rattle.jc_world.specs.Fits.{is_single, is_playable, is_new};
@@ -146,11 +146,11 @@ pub(crate) fn refuse(
     seen: &mut Shown,
 )
     ensures calls { calls.new.items
-        ≡ cond (puts_off kind refusal) calls.old.items (settle call key.now (Some refusal) calls.old.items) }
-    ensures shown { seen.new ≡ cond (puts_off kind refusal) (not_over (outcome.PutOff refusal))
+        ≡ cond (keeps_open kind refusal) calls.old.items (settle call key.now (Some refusal) calls.old.items) }
+    ensures shown { seen.new ≡ cond (keeps_open kind refusal) (not_over (outcome.PutOff refusal))
         (record { outcome = outcome.Refused refusal; over = over_settled call key.now (Some refusal) calls.old.items }) }
 {
-    if kind.puts_off(&refusal) {
+    if kind.keeps_open(&refusal) {
         show(seen, Outcome::PutOff(refusal));
         return;
     }
@@ -233,7 +233,7 @@ pub(crate) fn look(
     requires { IsSomeAnd (find (has_number call) calls.old.items) (TakesKeys keys.now) }
     ensures ok { OnOk result ((u : CallState) × (sweep : SweepState)
         × (find (has_number call) calls.old.items ≡ Some u) × (u.sweep ≡ Some sweep)
-        × (result ≡ Ok (over_of (with_found stripes stripe keys.now sweep u)))
+        × (result ≡ Ok (over_of (with_swept_keys stripes stripe keys.now sweep u)))
         × (calls.new.items ≡ look call stripes stripe keys.now sweep calls.old.items)) }
     ensures err { OnErr result (calls.new.items ≡ calls.old.items) }
 {

@@ -1,6 +1,6 @@
 //! The commands of calls.
 ghost use Rattle.std.specs.Prelude.{◌≡◌, [], is_some, length, option_map};
-ghost use Rattle.jc_world.specs.Calls.{kind_of, sweep_of, is_bulk, cause_after, puts_off, tasks, has_too_many};
+ghost use Rattle.jc_world.specs.Calls.{kind_of, sweep_of, is_bulk, cause_after, keeps_open, tasks, has_too_many};
 
 use crate::sweep::Sweep;
 use indexmap::{IndexMap, IndexSet};
@@ -171,8 +171,8 @@ impl CallKind {
 
     /// Whether a key of such a call that meets this refusal stays open, to be tried again. In a call of one key each refusal is the
     /// last.
-    pub(crate) fn puts_off(self, refusal: &Refusal) -> bool
-        ensures { result ≡ puts_off self refusal.now }
+    pub(crate) fn keeps_open(self, refusal: &Refusal) -> bool
+        ensures { result ≡ keeps_open self refusal.now }
     {
         match self {
             CallKind::Single => false,

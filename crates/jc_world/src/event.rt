@@ -4,7 +4,7 @@ ghost use Rattle.jc_world.specs.declared.event.Outcome.TheVariants as outcome;
 ghost use Rattle.jc_world.specs.Events.{not_over};
 
 use crate::command::Command;
-use crate::process::{EntryCalls, LoadSource, Processed};
+use crate::process::{EntryCalls, LoadSource, ShownRun};
 use crate::read_only::ReadOnlyList;
 use crate::reports::{LeftKeys, Reported};
 use jc_model::{Change, LoadAnswer, Out, Reply};
@@ -227,7 +227,7 @@ pub enum Outcome {
     /// The loader said this.
     Says(LoadAnswer),
     /// The entry processor has run.
-    Processed(Processed),
+    Processed(ShownRun),
     /// The writer has changed the store.
     Changed,
     /// The writer has returned.

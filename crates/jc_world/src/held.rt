@@ -11,7 +11,7 @@ ghost use Rattle.jc_stripe.specs.Effects.{change_due};
 ghost use Rattle.jc_stripe.specs.Refusals.{reserves};
 ghost use Rattle.jc_outside.specs.declared.done.Origin.TheVariants.{Played};
 ghost use Rattle.jc_world.specs.Premises.{changed_to};
-ghost use Rattle.jc_world.specs.World.{has_changed, out_of, is_answered, is_unanswered, is_untouched, waits_for_load, waits_for_process};
+ghost use Rattle.jc_world.specs.World.{has_changed, out_of_part, is_all_answered, is_unanswered, is_untouched, waits_for_load, waits_for_process};
 ghost use Rattle.jc_world.specs.World.{is_write, waits_for_report, waits_for_write, writer_change};
 ghost use Rattle.jc_world.specs.Fits.{is_in_batch};
 ghost use Rattle.jc_world.specs.Events.{new_part, new_progress, with_loaded, with_change, with_report, run_answers, run_result, progress_after, reported_part};
@@ -154,8 +154,8 @@ impl HeldKey {
     }
 
     /// Whether all that was asked is answered.
-    pub(crate) fn is_answered(&self) -> bool
-        ensures { result ≡ is_answered self.now }
+    pub(crate) fn is_all_answered(&self) -> bool
+        ensures { result ≡ is_all_answered self.now }
     {
         !self.waits_for_load() && !self.waits_for_process() && !self.waits_for_report()
     }
@@ -265,10 +265,10 @@ impl HeldKey {
     /// The last phase. It writes what the step replies to `reply`.
     pub(crate) fn commit(self, stripe: &mut Stripe, reply: &mut Reply) -> Appended
         requires out { IsOut stripe.old self.reservation }
-        requires answered { is_answered self ≡ true }
+        requires answered { is_all_answered self ≡ true }
         requires origin { stripe.old.origin ≡ Played }
         requires due { IsDue stripe.old.config self }
-        ensures { Commits stripe.old self.reservation (out_of self) (with_reply result reply.new) stripe.new }
+        ensures { Commits stripe.old self.reservation (out_of_part self) (with_reply result reply.new) stripe.new }
     {
         let HeldKey {
             ticket,
@@ -335,7 +335,7 @@ impl HeldKey {
     {
         if self.is_unanswered() {
             self.withdraw(stripe);
-        } else if self.is_answered() {
+        } else if self.is_all_answered() {
             let _step = self.commit(stripe, &mut Reply::Unit);
         } else {
             self.commit_failed(stripe);

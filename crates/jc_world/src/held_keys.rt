@@ -152,7 +152,7 @@ pub(crate) fn waits_for_process(held: &HeldKeys, call: u64, key: &Key) -> bool
 }
 
 /// Whether a key of a call is among those for which the writer is asked at once.
-pub(crate) fn is_asked(held: &HeldKeys, call: u64, key: &Key, batch: WriterBatch) -> bool
+pub(crate) fn is_being_written(held: &HeldKeys, call: u64, key: &Key, batch: WriterBatch) -> bool
     ensures { result ≡ passes_in (is_in_batch batch) (parts_of held.now) call key.now }
 {
     match held_by(held, call, key) {

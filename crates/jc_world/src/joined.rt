@@ -2,7 +2,7 @@
 ghost use Rattle.std.specs.Prelude.{◌≡◌, ◌↔◌, ◌<◌, ◌≤◌, ◌+◌, true, Option, Some, None, [], IsTrue, IfSome, IfNone, IfOk, OnOk};
 ghost use Rattle.std.specs.FinMap as map;
 ghost use Rattle.indexmap.specs.IndexMap.{spare, index_map_len};
-ghost use Rattle.jc_world.specs.World.{JoinKey, join_key, has_joined};
+ghost use Rattle.jc_world.specs.World.{JoinKey, join_key, has_join};
 ghost use Rattle.jc_world.specs.Held.{joins_of};
 
 use indexmap::IndexMap;
@@ -75,8 +75,8 @@ pub(crate) fn make_join_room(joins: &mut Joins) -> Result<(), AllocError>
 }
 
 /// Whether a call has joined a load of a key. An empty map is asked for nothing: to hash a key costs time, and most calls join none.
-pub(crate) fn has_joined(joins: &Joins, call: u64, key: &Key) -> bool
-    ensures { result ≡ has_joined (joins_of joins.now) call key.now }
+pub(crate) fn has_join(joins: &Joins, call: u64, key: &Key) -> bool
+    ensures { result ≡ has_join (joins_of joins.now) call key.now }
 {
     if joins.is_empty() {
         false
@@ -101,7 +101,7 @@ pub(crate) fn put_join(joins: &mut Joins, join: Join)
 
 /// Takes a call's join of a key out. The last one takes its place.
 pub(crate) fn take_join(joins: &mut Joins, call: u64, key: &Key) -> Join
-    requires { has_joined (joins_of joins.old) call key.now ≡ true }
+    requires { has_join (joins_of joins.old) call key.now ≡ true }
     ensures join { map.get (joins_of joins.old) (call, key.now) ≡ Some result }
     ensures joins { joins_of joins.new ≡ map.remove (joins_of joins.old) (call, key.now) }
     ensures room { spare joins.old ≤ spare joins.new }

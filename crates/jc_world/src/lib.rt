@@ -44,7 +44,7 @@ pub use event::{
 };
 pub use joined::JoinedLoad;
 pub use open_call::OpenCall;
-pub use process::{EntryCalls, LoadSource, Processed};
+pub use process::{EntryCalls, LoadSource, ShownRun};
 pub use read_only::ReadOnlyList;
 pub use reports::{LeftKeys, Reported, ReportedKey};
 pub use world::World;

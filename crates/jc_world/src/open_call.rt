@@ -6,7 +6,7 @@ ghost use Rattle.std.specs.Cmp.Lexicographic.{pointwise};
 ghost use Rattle.jc_model.specs.declared.event.Op.TheVariants.{Get};
 ghost use Rattle.jc_world.specs.declared.command.Command.TheVariants as command;
 ghost use Rattle.jc_world.specs.Calls.{op_at, op_found, looked_in, open_keys};
-ghost use Rattle.jc_world.specs.Calls.{is_going, new_call, over_of, settled, with_found, with_met, SweepState};
+ghost use Rattle.jc_world.specs.Calls.{is_going, new_call, over_of, settled, with_swept_keys, with_met, SweepState};
 ghost use Rattle.jc_world.specs.OpenCalls.{TakesKeys};
 ghost use Rattle.jc_world.specs.World.{is_free_of, waits_for_process};
 ghost use Rattle.jc_world.specs.Fits.{is_asked_in, is_in_batch, is_to_look, passes_in, writer_batch};
@@ -15,7 +15,7 @@ ghost use Rattle.jc_world.specs.Held.{parts_of, joins_of};
 
 use crate::command::{CallKind, Command};
 use crate::event::Over;
-use crate::held_keys::{HeldKeys, is_asked, waits_for_process};
+use crate::held_keys::{HeldKeys, is_being_written, waits_for_process};
 use crate::joined::Joins;
 use crate::reports::{ReportedKey, WriterBatch};
 use crate::sweep::Sweep;
@@ -235,7 +235,7 @@ impl OpenCall {
             list_any (passes_in (is_in_batch batch) (parts_of held.now) call) (open_keys self.now) }
     {
         match &self.tasks {
-            Tasks::One { key, op } => op.is_some() && is_asked(held, call, key, batch),
+            Tasks::One { key, op } => op.is_some() && is_being_written(held, call, key, batch),
             Tasks::Many { ops, count: _ } => one_asked(call, ops, held, batch),
         }
     }
@@ -259,10 +259,10 @@ impl OpenCall {
     }
 
     /// Whether the call has the writer asked for a key now.
-    pub(crate) fn is_asked(&self, call: u64, key: &Key, held: &HeldKeys) -> bool
+    pub(crate) fn is_being_written(&self, call: u64, key: &Key, held: &HeldKeys) -> bool
         ensures { result ≡ is_asked_in (parts_of held.now) call self.now key.now }
     {
-        is_asked(held, call, key, self.writer_batch(call, held))
+        is_being_written(held, call, key, self.writer_batch(call, held))
     }
 
     /// Whether the call has the writer asked for an open key now.
@@ -305,7 +305,7 @@ impl OpenCall {
     ) -> Result<(), AllocError>
         requires { TakesKeys keys.now self.old }
         ensures ok { OnOk result ((sweep : SweepState) × (self.old.sweep ≡ Some sweep)
-            × (self.new ≡ with_found stripes stripe keys.now sweep self.old)) }
+            × (self.new ≡ with_swept_keys stripes stripe keys.now sweep self.old)) }
         ensures err { OnErr result (self.new ≡ self.old) }
     {
         let Some(sweep) = &self.sweep else {

@@ -86,7 +86,7 @@ impl EntryCalls {
 
 /// An entry processor's run, as it is shown.
 #[derive(Drop)]
-pub struct Processed {
+pub struct ShownRun {
     /// The answers to its calls, in their order. A failed load is the last answer: no call follows it.
     pub answers: ReadOnlyList<EntryAnswer>,
     /// The loader's answer: `NotAsked` if no call asked it. The first `getValue` asks it.

@@ -6,7 +6,7 @@ ghost use Rattle.jc_types.specs.Limits.{check};
 ghost use Rattle.jc_stripe.specs.State.{IsOut, IsJoined};
 ghost use Rattle.jc_stripe.specs.Phases.{MayBegin, begun_with, with_reply, Commits, Withdraws, PicksUp, polled_with};
 ghost use Rattle.jc_outside.specs.declared.done.Origin.TheVariants.{Played};
-ghost use Rattle.jc_world.specs.World.{out_of, is_answered, is_unanswered, empty_stripes};
+ghost use Rattle.jc_world.specs.World.{out_of_part, is_all_answered, is_unanswered, fresh_stripes};
 ghost use Rattle.jc_world.specs.Sound.{IsDue};
 ghost use Rattle.jc_stripe.specs.Reached.{IsReached};
 ghost use Rattle.jc_world.specs.Ending.{AreLeft, HasHeld, HasJoins, NoneReserved};
@@ -56,7 +56,7 @@ impl Stripes {
     pub(crate) fn new(alloc: Global, config: &Config) -> Result<Self, AllocError>
         requires { check config.now ≡ Ok tt }
         ensures stripes { IfOk result (λ made.
-            made.stripes ≡ empty_stripes config.now 0 config.now.stripes) }
+            made.stripes ≡ fresh_stripes config.now 0 config.now.stripes) }
         ensures order { IfOk result (λ made. made.order ≡ []) }
     {
         let items = make_stripes(alloc, config)?;
@@ -81,7 +81,7 @@ impl Stripes {
         requires left { AreLeft config.now self.old.stripes }
         requires held { HasHeld config.now self.old.stripes (parts_of held.old) }
         requires joins { HasJoins config.now self.old.stripes (joins_of joins.old) }
-        ensures stripes { self.new.stripes ≡ empty_stripes config.now 0 config.now.stripes }
+        ensures stripes { self.new.stripes ≡ fresh_stripes config.now 0 config.now.stripes }
         ensures order { self.new.order ≡ [] }
         ensures held { held.new.entries ≡ [] }
         ensures joins { joins.new.entries ≡ [] }
@@ -128,10 +128,10 @@ impl Stripes {
     pub(crate) fn commit(&mut self, number: usize, held: HeldKey, reply: &mut Reply) -> Appended
         requires out { IsSomeAnd (slice_get self.old.stripes number) (λ s. IsOut s held.reservation
             × (s.origin ≡ Played) × IsDue s.config held) }
-        requires answered { is_answered held ≡ true }
+        requires answered { is_all_answered held ≡ true }
         requires room { STEP_PLACES + JOINERS_MAX ≤ self.old.room }
         ensures { IsPhase self.old number
-            (λ from to. Commits from held.reservation (out_of held) (with_reply result reply.new) to) self.new }
+            (λ from to. Commits from held.reservation (out_of_part held) (with_reply result reply.new) to) self.new }
     {
         grows();
         let stripe = &mut self.items[number];
@@ -193,7 +193,7 @@ impl Stripes {
 /// An empty stripe for each number.
 fn make_stripes(alloc: Global, config: &Config) -> Result<Vec<Stripe>, AllocError>
     requires { check config.now ≡ Ok tt }
-    ensures { IfOk result (λ made. made.items ≡ empty_stripes config.now 0 config.now.stripes) }
+    ensures { IfOk result (λ made. made.items ≡ fresh_stripes config.now 0 config.now.stripes) }
 {
     let mut made = Vec::with_capacity(alloc, config.stripes)?;
     for number in 0..config.stripes {
@@ -206,7 +206,7 @@ fn make_stripes(alloc: Global, config: &Config) -> Result<Vec<Stripe>, AllocErro
 fn restart_each(config: &Config, stripes: &mut [Stripe])
     requires left { AreLeft config.now stripes.old }
     requires none { NoneReserved stripes.old }
-    ensures { stripes.new ≡ empty_stripes config.now 0 config.now.stripes }
+    ensures { stripes.new ≡ fresh_stripes config.now 0 config.now.stripes }
 {
     for stripe in stripes.iter_mut() {
         stripe.restart();

@@ -14,8 +14,8 @@ ghost use Rattle.jc_world.specs.Events.{reported_keys};
 ghost use Rattle.jc_world.specs.Held.{parts_of, joins_of};
 
 use crate::command::Command;
-use crate::held_keys::{HeldKeys, held_by, is_asked, reported_key, waits_for_process};
-use crate::joined::{Joins, has_joined};
+use crate::held_keys::{HeldKeys, held_by, is_being_written, reported_key, waits_for_process};
+use crate::joined::{Joins, has_join};
 use crate::reports::{ReportedKey, WriterBatch};
 use indexmap::{IndexMap, IndexSet};
 use jc_model::{Change, Op};
@@ -231,7 +231,7 @@ fn is_open_among(ops: &IndexMap<Key, Option<Op>>, key: &Key) -> bool
 pub(crate) fn is_free_at(call: u64, key: &Key, held: &HeldKeys, joins: &Joins) -> bool
     ensures { result ≡ is_free_of (parts_of held.now) (joins_of joins.now) call key.now }
 {
-    held_by(held, call, key).is_none() && !has_joined(joins, call, key)
+    held_by(held, call, key).is_none() && !has_join(joins, call, key)
 }
 
 /// Whether the call has neither reserved nor joined any of these keys that are open.
@@ -265,7 +265,7 @@ pub(crate) fn one_asked(
     ensures { result ≡ list_any
         (λ task. is_some task.1 && passes_in (is_in_batch batch) (parts_of held.now) call task.0) ops.now.entries }
 {
-    ops.iter().any(|(key, op)| op.is_some() && is_asked(held, call, key, batch))
+    ops.iter().any(|(key, op)| op.is_some() && is_being_written(held, call, key, batch))
 }
 
 /// Appends what a return of the writer shows of a key, if the key is open and the writer returns for it.

@@ -6,7 +6,7 @@ ghost use Rattle.jc_world.specs.Calls.{is_of_session};
 ghost use Rattle.jc_types.specs.Limits.{check};
 ghost use Rattle.jc_world.specs.World.{start, is_busy, is_idle, open_call, part_of, has_progress, waits_for_load, waits_for_process};
 ghost use Rattle.jc_world.specs.World.{waits_for_report, is_joined, with_stored};
-ghost use Rattle.jc_world.specs.Fits.{fits, is_asked, is_new};
+ghost use Rattle.jc_world.specs.Fits.{fits, is_being_written, is_new};
 ghost use Rattle.jc_world.specs.Events.{RunAppending};
 ghost use Rattle.jc_world.specs.Together.{BeginFits, FitTogether};
 ghost use Rattle.jc_world.specs.Coherent.{all_hold, Coherent};
@@ -17,7 +17,7 @@ use crate::audit::Audit;
 use crate::calls::{call_by, find_call, has_call, is_above};
 use crate::event::{Part, Premises, Shown, WorldEvent, nothing_shown};
 use crate::held_keys::{held_by, list_parts, waits_for_load, waits_for_process, waits_for_report};
-use crate::joined::{JoinedLoad, has_joined, list_joins};
+use crate::joined::{JoinedLoad, has_join, list_joins};
 use crate::machine::Machine;
 use crate::open_call::OpenCall;
 use jc_model::Event;
@@ -252,7 +252,7 @@ impl World {
     pub fn is_joined(&self, call: u64, key: &Key) -> bool
         ensures { result ≡ is_joined self.now.world call key.now }
     {
-        has_joined(&self.machine.joins, call, key)
+        has_join(&self.machine.joins, call, key)
     }
 
     /// Whether a call has reserved a key.
@@ -278,10 +278,10 @@ impl World {
 
     /// Whether the writer is asked for a key of a call now: it was asked for it, hasn't returned, and doesn't answer for other keys of
     /// the call before. In an `invokeAll` it answers once no key waits for its processor: first for the writes, then for the deletes.
-    pub fn is_asked(&self, call: u64, key: &Key) -> bool
-        ensures { result ≡ is_asked self.now.world call key.now }
+    pub fn is_being_written(&self, call: u64, key: &Key) -> bool
+        ensures { result ≡ is_being_written self.now.world call key.now }
     {
-        self.machine.is_asked(call, key)
+        self.machine.is_being_written(call, key)
     }
 
     /// Whether the entry processor was asked for a key that a call has reserved, and hasn't run.

@@ -16,7 +16,7 @@
 --     ExitOfTask              a task was carried out, and the status tells how that ended
 --     Exits                   the same of these streams
 --     version_text            the output of `--version`
---     ending_text             the end of the help: the meaning of the statuses, and the task of the repository's script
+--     help_ending             the end of the help: the meaning of the statuses, and the task of the repository's script
 --     IsHelp                  a text of help; `clap`'s contract leaves open the part before the ending
 --     Shows                   a text that was asked for was written; or a write failed
 --     ExitOfFault             the output for these words with an error of this kind: the text that they asked for on standard
@@ -34,12 +34,12 @@ use Rattle.clap.specs.declared.error.kind.ErrorKind.{ErrorKind}
 use Rattle.clap.specs.declared.error.kind.ErrorKind.TheVariants as kind
 use Rattle.std.specs.declared.io.ErrorKind.{ErrorKind as IoErrorKind}
 use Rattle.std.specs.declared.io.ErrorKind.TheVariants as io-kind
-use Rattle.jc_litmus.specs.Running.{Broke as BrokeLitmus, Ran as RanLitmus}
+use Rattle.jc_litmus.specs.Running.{BreaksOffExploration as BrokeLitmus, RunsExploration as RanLitmus}
 use Rattle.jc_litmus.specs.declared.run.LitmusEnd.{LitmusEnd}
 use Rattle.jc_litmus.specs.declared.run.LitmusEnd.TheVariants as litmus
-use Rattle.jc_script.specs.Running.{Broke, Ran}
+use Rattle.jc_script.specs.Running.{BreaksOffScript, RunsScript}
 use Rattle.jc_script.specs.declared.run.RunEnd.TheVariants.{Clean, LineFault}
-use Rattle.jc_shell.specs.Running.{Ran as RanShell, Stopped as StoppedShell}
+use Rattle.jc_shell.specs.Running.{RunsDialogue as RanShell, Stopped as StoppedShell}
 use Rattle.jc_shell.specs.Saving.{Saved}
 use Rattle.jc_shell.specs.declared.run.ShellFault.{ShellFault}
 use Rattle.jc_shell.specs.declared.run.ShellFault.TheVariants as shell
@@ -55,9 +55,9 @@ use Rattle.jcache.specs.declared.report.Report.{Report}
 -- to it
 abbrev pub ExitOfPlay : (status : ℕ) (before after old new : Option (List ℕ)) (silent : Type 0) → Type 0
 ExitOfPlay status before after old new silent =
-    ((status ≡ 0) × Ran before after old new [] [] Clean)
-    ⊎ (((status ≡ 1) × ((line : ℕ) × (told : List ℕ) × Ran before after old new [] told (LineFault line)))
-    ⊎ (((status ≡ 3) × (Broke before after old new ⊎ silent))
+    ((status ≡ 0) × RunsScript before after old new [] [] Clean)
+    ⊎ (((status ≡ 1) × ((line : ℕ) × (told : List ℕ) × RunsScript before after old new [] told (LineFault line)))
+    ⊎ (((status ≡ 3) × (BreaksOffScript before after old new ⊎ silent))
     ⊎ ((status ≡ 4) × silent)))
 
 abbrev pub status_of_fault : ShellFault → ℕ
@@ -113,12 +113,12 @@ Exits prompt asked status before after old new kept saved silent unread =
 abbrev pub version_text : List ℕ
 version_text = codes "jcache 0.2.0\n"
 
-abbrev pub ending_text : List ℕ
-ending_text =
+abbrev pub help_ending : List ℕ
+help_ending =
     codes "\nExit status: 0 done, 1 a line has a fault, 2 wrong words, 3 a stream failed, 4 out of memory, 5 wrong report or an expectation fails,\n  6 the outcomes aren't all known, and no expectation fails\n\nThe script ./jcache of the repository builds this program if it has to, and has further words:\n  run FILE..       Plays these scripts, one after the other, up to the first whose exit status isn't 0; - is standard input\n  explore FILE..   Explores these programs of threads in the same way\n  build [CRATE..]  Proves and builds the program, and these crates with those below them; exit status 125 if that fails\n\nFor example: ./jcache run examples/put_seen_after_commit.script\nThe words of a script, and all limits: docs/SCRIPT.md; of a program of threads: docs/EXPLORE.md\n"
 
 abbrev pub IsHelp : List ℕ → Type 0
-IsHelp text = (before : List ℕ) × (text ≡ before ++ ending_text)
+IsHelp text = (before : List ℕ) × (text ≡ before ++ help_ending)
 
 abbrev pub Shows : (asked : List ℕ → Type 0) (status : ℕ) (old new : Option (List ℕ)) → Type 0
 Shows asked status old new =

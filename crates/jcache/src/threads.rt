@@ -30,7 +30,7 @@ const SPARE_EVENTS: u64 = 16;
 
 /// A thread's own session and entry processor.
 #[derive(Drop)]
-pub struct Worker {
+pub struct Incrementer {
     session: Session,
     increment: Box<dyn EntryProcessor + Send + Drop>,
 }
@@ -108,7 +108,7 @@ fn hire(
     owner: &mut CacheOwner,
     outfits: Vec<Outfit>,
     workers: u32,
-) -> Result<Vec<Worker>, AllocError>
+) -> Result<Vec<Incrementer>, AllocError>
     ensures ready { IfOk result (λ team. All (λ w. HasCounted owner.new.cache 0 w.session) team.items) }
     ensures len { IfOk result (λ team. length team.items ≡ workers + 1) }
 {
@@ -129,7 +129,7 @@ fn enlist(
     alloc: Global,
     owner: &mut CacheOwner,
     outfit: Outfit,
-    team: &mut Vec<Worker>,
+    team: &mut Vec<Incrementer>,
 ) -> Result<(), AllocError>
     requires team { All (λ w. HasCounted owner.old.cache 0 w.session) team.old.items }
     ensures team { OnOk result (All (λ w. HasCounted owner.new.cache 0 w.session) team.new.items) }
@@ -142,7 +142,7 @@ fn enlist(
     } = outfit;
     match owner.session(alloc, Some(loader), Some(writer)) {
         Ok(session) => {
-            team.push(Worker { session, increment })?;
+            team.push(Incrementer { session, increment })?;
             Ok(())
         }
         Err(_) => Err(AllocError),
@@ -156,7 +156,7 @@ fn count<R: Threads + Wait + Sync>(
     alloc: Global,
     owner: CacheOwner,
     store: &SharedStore,
-    team: Vec<Worker>,
+    team: Vec<Incrementer>,
     plan: &Plan,
 ) -> Result<Report, AllocError>
     requires ready { All (λ w. HasCounted owner.cache 0 w.session) team.items }
@@ -187,7 +187,7 @@ fn count<R: Threads + Wait + Sync>(
 fn work_side_by_side<R: Threads + Wait + Sync>(
     rt: &R,
     cache: &Cache,
-    team: Vec<Worker>,
+    team: Vec<Incrementer>,
     key: &Key,
     rounds: u32,
 ) -> Result<Vec<u64>, AllocError>
@@ -197,7 +197,7 @@ fn work_side_by_side<R: Threads + Wait + Sync>(
     thread::map_vec(
         rt,
         team,
-        &|worker: Worker| -> u64
+        &|worker: Incrementer| -> u64
             requires { HasCounted cache.now 0 worker.session }
             ensures { result ≤ rounds }
         { work(rt, cache, worker, key, rounds) },
@@ -205,7 +205,7 @@ fn work_side_by_side<R: Threads + Wait + Sync>(
 }
 
 /// The work of one thread: `rounds` increments. It returns the number of steps that its session has made.
-fn work<R: Wait>(rt: &R, cache: &Cache, worker: Worker, key: &Key, rounds: u32) -> u64
+fn work<R: Wait>(rt: &R, cache: &Cache, worker: Incrementer, key: &Key, rounds: u32) -> u64
     requires { HasCounted cache.now 0 worker.session }
     ensures { result ≤ rounds }
 {
@@ -217,7 +217,7 @@ fn work<R: Wait>(rt: &R, cache: &Cache, worker: Worker, key: &Key, rounds: u32) 
 }
 
 /// Makes one increment, in a thread that has made `made` of them. If it is refused or fails, the final numbers show it.
-fn increment<R: Wait>(rt: &R, cache: &Cache, worker: &mut Worker, key: &Key, made: u32)
+fn increment<R: Wait>(rt: &R, cache: &Cache, worker: &mut Incrementer, key: &Key, made: u32)
     requires { HasCounted cache.now made worker.old.session }
     ensures { HasCounted cache.now (made + 1) worker.new.session }
 {
@@ -225,7 +225,7 @@ fn increment<R: Wait>(rt: &R, cache: &Cache, worker: &mut Worker, key: &Key, mad
 }
 
 /// The counter in the cache, as this worker's session gets it, or `None` if it isn't there or the call fails.
-fn counter<R: Wait>(rt: &R, cache: &Cache, worker: Worker, key: &Key) -> Option<Value>
+fn counter<R: Wait>(rt: &R, cache: &Cache, worker: Incrementer, key: &Key) -> Option<Value>
     requires { MayCall cache.now worker.session }
 {
     let mut worker = worker;

@@ -8,7 +8,7 @@ ghost use Rattle.jc_stripe.specs.State.{IsIdle};
 ghost use Rattle.jc_lock.specs.declared.view.View.{View};
 ghost use Rattle.jc_cache.specs.Caches.{log_of, logs_of};
 ghost use Rattle.jc_cache.specs.Closing.{AreIdle, HasFront, HasLookedOnce, all_lent, lent_at};
-ghost use Rattle.jc_cache.specs.ClosingInside.{AreAtLocks, HasTaken, HaveTaken, IsFreeSeat, IsRowRefusal, IsTakeRefusal, KeepSeats, KeepsSeat, KeepsOwn, Looks, OwnsSeats, Whatever};
+ghost use Rattle.jc_cache.specs.ClosingInside.{AreAtLocks, HasTaken, HaveTaken, IsFreeSeat, IsRowRefusal, IsTakeRefusal, KeepSeats, KeepsSeat, KeepsOwn, LeavesUnchanged, OwnsSeats, Whatever};
 
 use crate::closing::ClosedStripe;
 use jc_lock::{HistLock, Seat};
@@ -19,7 +19,7 @@ use jc_types::Refusal;
 /// Tests that nothing is out at the stripe and nobody else holds it, and gives it back as it was.
 fn test_idle(lock: &HistLock, seat: &mut Seat) -> Result<(), Refusal>
     requires { (seat.old.0 ≡ lock.now) × IsFreeSeat seat.old.1 }
-    ensures keeps { KeepsSeat Looks seat.old seat.new }
+    ensures keeps { KeepsSeat LeavesUnchanged seat.old seat.new }
     ensures free { IsFreeSeat seat.new.1 }
     ensures ok { OnOk result (HasLookedOnce (log_of seat.old.1) (log_of seat.new.1) seat.new.1.noted
         × IsIdle seat.new.1.noted) }
@@ -39,7 +39,7 @@ fn test_idle(lock: &HistLock, seat: &mut Seat) -> Result<(), Refusal>
 /// Tests that nothing is out at any stripe and nobody else holds one, and gives all back as they were.
 pub(super) fn test_all_idle(locks: &[HistLock], own: &mut Vec<Seat>) -> Result<(), Refusal>
     requires { OwnsSeats locks.now own.old.items [] }
-    ensures own { KeepsOwn Looks own.old.items own.new.items [] }
+    ensures own { KeepsOwn LeavesUnchanged own.old.items own.new.items [] }
     ensures ok { OnOk result (AreIdle (logs_of own.old.items) (logs_of own.new.items)) }
     ensures err { IfErr result (λ r. IsRowRefusal r own.old.items own.new.items) }
 {
@@ -52,7 +52,7 @@ pub(super) fn test_all_idle(locks: &[HistLock], own: &mut Vec<Seat>) -> Result<(
 /// Takes the stripe, if nothing is out there and nobody else holds it.
 fn take_idle(lock: &HistLock, seat: &mut Seat) -> Result<ClosedStripe, Refusal>
     requires { (seat.old.0 ≡ lock.now) × IsFreeSeat seat.old.1 }
-    ensures keeps { KeepsSeat Looks seat.old seat.new }
+    ensures keeps { KeepsSeat LeavesUnchanged seat.old seat.new }
     ensures ok { IfOk result (λ s. HasTaken seat.new.1 s × (log_of seat.new.1 ≡ log_of seat.old.1)) }
     ensures err { IfErr result (λ r. IsFreeSeat seat.new.1 × IsTakeRefusal r seat.old.1 seat.new.1) }
 {
@@ -75,7 +75,7 @@ pub(super) fn take_all(
     requires own { OwnsSeats locks.now own.old.items [] }
     requires empty { stripes.items ≡ [] }
     requires room { length locks.now ≤ vec_capacity stripes }
-    ensures keeps { KeepSeats Looks own.old.items own.new.items }
+    ensures keeps { KeepSeats LeavesUnchanged own.old.items own.new.items }
     ensures ok { IfOk result (λ s. HaveTaken own.new.items s.items
         × (length s.items ≡ length own.new.items)
         × (logs_of own.new.items ≡ logs_of own.old.items)) }
@@ -97,7 +97,7 @@ pub(super) fn take_all(
 /// Gives these stripes back to their locks.
 fn give_all(locks: &[HistLock], own: &mut Vec<Seat>, stripes: Vec<ClosedStripe>)
     requires { OwnsSeats locks.now own.old.items stripes.items }
-    ensures own { KeepsOwn Looks own.old.items own.new.items [] }
+    ensures own { KeepsOwn LeavesUnchanged own.old.items own.new.items [] }
     ensures rest { (i : ℕ) → length stripes.items ≤ i → slice_get own.new.items i ≡ slice_get own.old.items i }
 {
     let mut stripes = stripes;

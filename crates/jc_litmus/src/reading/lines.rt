@@ -1,7 +1,7 @@
 //! The lines of a program, by their words.
 ghost use Rattle.std.specs.Prelude.{◌≡◌, ◌||◌, map};
 ghost use Rattle.jc_script.specs.Lines.{ok_with};
-ghost use Rattle.jc_litmus.specs.Reads.{Reads};
+ghost use Rattle.jc_litmus.specs.Reads.{ReadsAs};
 ghost use Rattle.jc_litmus.specs.Program.{after_call, after_expect, after_failing, after_invoke, after_line, after_other_line, after_own_line};
 ghost use Rattle.jc_litmus.specs.Program.{after_script_line, after_thread, invocation, is_outside};
 ghost use Rattle.jc_litmus.specs.Grammar.{quantifier_named};
@@ -15,7 +15,7 @@ use crate::grammar::{
 };
 use crate::line_error::LineError;
 use crate::program::{Expectation, LineFault, Quantifier, THREADS_MAX};
-use crate::reading::{Reading, Room, push_expectation, push_thread};
+use crate::reading::{ProgramParts, ReadBuffers, push_expectation, push_thread};
 use jc_explore::Item;
 use jc_script::fault::{Fault, ReadError};
 use jc_script::read::grammar::{none_empty, read};
@@ -32,7 +32,7 @@ fn bad_line() -> LineError
 /// An entry processor on a key, with the calls that it makes there. `line` is a buffer for a line.
 #[tactic(auto, unfolding(crate::specs::Program::invocation))]
 fn invocation(alloc: Global, words: &[&[u8]], line: &mut Line) -> Result<Item, LineError>
-    ensures { Reads result (invocation (map (λ w. w.now) words.now)) }
+    ensures { ReadsAs result (invocation (map (λ w. w.now) words.now)) }
 {
     match words {
         [k, colon, rest @ ..] => {
@@ -47,11 +47,11 @@ fn invocation(alloc: Global, words: &[&[u8]], line: &mut Line) -> Result<Item, L
     }
 }
 
-impl Reading {
+impl ProgramParts {
     /// Takes a line that a script may have, too.
     #[tactic(auto, unfolding(crate::specs::Program::after_script_line))]
     fn script_line(&mut self, line: &Line) -> Result<(), LineError>
-        ensures { Reads (ok_with self.new result) (after_script_line self.old line.now) }
+        ensures { ReadsAs (ok_with self.new result) (after_script_line self.old line.now) }
     {
         match line {
             Line::Open(config) => Ok(self.open(config)?),
@@ -67,7 +67,7 @@ impl Reading {
     /// Adds a thread.
     #[tactic(auto, unfolding(crate::specs::Program::after_thread))]
     fn thread(&mut self, alloc: Global, words: &[&[u8]]) -> Result<(), LineError>
-        ensures { Reads (ok_with self.new result) (after_thread self.old (map (λ w. w.now) words.now)) }
+        ensures { ReadsAs (ok_with self.new result) (after_thread self.old (map (λ w. w.now) words.now)) }
     {
         if !words.is_empty() {
             return Err(bad_line());
@@ -89,7 +89,7 @@ impl Reading {
         rest: &[&[u8]],
         line: &mut Line,
     ) -> Result<(), LineError>
-        ensures { Reads (ok_with self.new result) (after_call self.old first.now (map (λ w. w.now) rest.now)) }
+        ensures { ReadsAs (ok_with self.new result) (after_call self.old first.now (map (λ w. w.now) rest.now)) }
     {
         begin_line(alloc, first, rest, line)?;
         self.check_open()?;
@@ -100,7 +100,7 @@ impl Reading {
     /// Adds an entry processor on a key, with the calls that it makes there.
     #[tactic(auto, unfolding(crate::specs::Program::after_invoke))]
     fn invoke(&mut self, alloc: Global, words: &[&[u8]], line: &mut Line) -> Result<(), LineError>
-        ensures { Reads (ok_with self.new result) (after_invoke self.old (map (λ w. w.now) words.now)) }
+        ensures { ReadsAs (ok_with self.new result) (after_invoke self.old (map (λ w. w.now) words.now)) }
     {
         let item = invocation(alloc, words, line)?;
         self.add(item)
@@ -109,7 +109,7 @@ impl Reading {
     /// Adds a fault that may happen.
     #[tactic(auto, unfolding(crate::specs::Program::after_failing))]
     fn failing(&mut self, words: &[&[u8]]) -> Result<(), LineError>
-        ensures { Reads (ok_with self.new result) (after_failing self.old (map (λ w. w.now) words.now)) }
+        ensures { ReadsAs (ok_with self.new result) (after_failing self.old (map (λ w. w.now) words.now)) }
     {
         let (failing, code) = may_fail(words)?;
         self.check_open()?;
@@ -126,7 +126,7 @@ impl Reading {
         text: &[u8],
         words: &[&[u8]],
     ) -> Result<(), LineError>
-        ensures { Reads (ok_with self.new result) (after_expect self.old quantifier text.now (map (λ w. w.now) words.now)) }
+        ensures { ReadsAs (ok_with self.new result) (after_expect self.old quantifier text.now (map (λ w. w.now) words.now)) }
     {
         if !are_atoms(words) {
             return Err(bad_line());
@@ -156,7 +156,7 @@ impl Reading {
         words: &[&[u8]],
         line: &mut Line,
     ) -> Result<(), LineError>
-        ensures { Reads (ok_with self.new result) (after_own_line self.old text.now first.now (map (λ w. w.now) words.now) (quantifier_named first.now)) }
+        ensures { ReadsAs (ok_with self.new result) (after_own_line self.old text.now first.now (map (λ w. w.now) words.now) (quantifier_named first.now)) }
     {
         match quantifier_named(first) {
             Some(quantifier) => self.expect(alloc, quantifier, text, words),
@@ -177,7 +177,7 @@ impl Reading {
         words: &[&[u8]],
         line: &mut Line,
     ) -> Result<(), LineError>
-        ensures { Reads (ok_with self.new result) (after_other_line self.old text.now (map (λ w. w.now) words.now)) }
+        ensures { ReadsAs (ok_with self.new result) (after_other_line self.old text.now (map (λ w. w.now) words.now)) }
     {
         if !none_empty(words) {
             return Err(bad_line());
@@ -195,9 +195,9 @@ impl Reading {
         &mut self,
         alloc: Global,
         text: &'a [u8],
-        room: &mut Room<'a>,
+        room: &mut ReadBuffers<'a>,
     ) -> Result<(), LineError>
-        ensures { Reads (ok_with self.new result) (after_line self.old text.now) }
+        ensures { ReadsAs (ok_with self.new result) (after_line self.old text.now) }
     {
         match read(alloc, text, &mut room.words, &mut room.line) {
             Ok(false) => Ok(()),

@@ -7,7 +7,7 @@ ghost use Rattle.jc_world.specs.declared.event.WorldEvent.TheVariants as event;
 ghost use Rattle.jc_world.specs.Calls.{CallState};
 ghost use Rattle.jc_world.specs.World.{open_call};
 ghost use Rattle.jc_world.specs.World.{is_joined, waits_for_process};
-ghost use Rattle.jc_world.specs.Fits.{fits, is_asked, passes_in};
+ghost use Rattle.jc_world.specs.Fits.{fits, is_being_written, passes_in};
 ghost use Rattle.jc_script.specs.declared.read.line.Line.TheVariants as lines;
 ghost use Rattle.jc_script.specs.LineEvents.{is_process, has_but, allows_but, keys_of_act, is_started, is_listed, is_left_failing};
 ghost use Rattle.jc_script.specs.LineEvents.{leaves, is_changed, is_meant, is_left, left_keys, event_at, key_events};
@@ -17,7 +17,7 @@ ghost use Rattle.jc_script.specs.Transcript.{PlaysLine};
 use super::LineBuffers;
 use crate::fault::Fault;
 use crate::read::keys::Keys;
-use crate::read::line::Act;
+use crate::read::line::ScriptAct;
 use indexmap::IndexSet;
 use jc_model::{EntryCall, LoadAnswer, Op};
 use jc_types::{Key, Value};
@@ -35,7 +35,7 @@ pub(super) fn act_on(
     alloc: Global,
     world: &mut World,
     number: u32,
-    act: &Act,
+    act: &ScriptAct,
     buffers: &mut LineBuffers,
     out: &mut Vec<u8>,
 ) -> Result<Option<Fault>, AllocError>
@@ -59,7 +59,7 @@ fn act_at(
     alloc: Global,
     world: &mut World,
     call: u64,
-    act: &Act,
+    act: &ScriptAct,
     buffers: &mut LineBuffers,
     out: &mut Vec<u8>,
 ) -> Result<Option<Fault>, AllocError>
@@ -80,18 +80,18 @@ fn act_at(
     Ok(None)
 }
 
-fn is_process(act: &Act) -> bool
+fn is_process(act: &ScriptAct) -> bool
     ensures { result ≡ is_process act.now }
 {
-    matches!(act, Act::Process { .. })
+    matches!(act, ScriptAct::Process { .. })
 }
 
 /// Whether an act names keys that the writer leaves.
-fn has_but(act: &Act) -> bool
+fn has_but(act: &ScriptAct) -> bool
     ensures { result ≡ has_but act.now }
 {
     match act {
-        Act::Apply(left) | Act::ApplyFail(_, left) => left.is_some(),
+        ScriptAct::Apply(left) | ScriptAct::ApplyFail(_, left) => left.is_some(),
         _ => false,
     }
 }
@@ -104,11 +104,11 @@ fn allows_but(open_call: &OpenCall) -> bool
 }
 
 /// The code with which the loader fails, if the act says so.
-fn load_code(act: &Act) -> Option<u32>
+fn load_code(act: &ScriptAct) -> Option<u32>
     ensures { result ≡ load_code act.now }
 {
     match act {
-        Act::ReadFail(code) => Some(*code),
+        ScriptAct::ReadFail(code) => Some(*code),
         _ => None,
     }
 }
@@ -119,7 +119,7 @@ fn put_keys(
     world: &World,
     call: u64,
     open_call: &OpenCall,
-    act: &Act,
+    act: &ScriptAct,
     keys: &mut Vec<Key>,
 ) -> Result<(), AllocError>
     ensures keys { OnOk result (keys.new.items ≡ keys_of_act world.now.world call act.now open_call.now) }
@@ -160,7 +160,7 @@ pub(super) fn put_key_events(
     alloc: Global,
     world: &World,
     call: u64,
-    act: &Act,
+    act: &ScriptAct,
     keys: &[Key],
     events: &mut Vec<WorldEvent>,
 ) -> Result<(), AllocError>
@@ -178,7 +178,7 @@ fn put_if_meant(
     alloc: Global,
     world: &World,
     call: u64,
-    act: &Act,
+    act: &ScriptAct,
     key: &Key,
     events: &mut Vec<WorldEvent>,
 ) -> Result<(), AllocError>
@@ -192,42 +192,44 @@ fn put_if_meant(
 }
 
 /// Whether an act is about a key.
-fn is_meant(world: &World, call: u64, act: &Act, key: &Key) -> bool
+fn is_meant(world: &World, call: u64, act: &ScriptAct, key: &Key) -> bool
     ensures { result ≡ is_meant world.now.world call act.now key.now }
 {
     match act {
-        Act::Read | Act::ReadFail(_) | Act::Say(_) => world.waits_for_load(call, key),
-        Act::Apply(_) | Act::ApplyFail(..) => is_changed(world, call, act, key),
-        Act::ApplyLie(_) => world.is_asked(call, key),
-        Act::End | Act::Drop => world.is_reserved(call, key),
-        Act::More => true,
-        Act::Take => world.is_joined(call, key),
-        Act::Process { .. } => world.waits_for_process(call, key),
+        ScriptAct::Read | ScriptAct::ReadFail(_) | ScriptAct::Say(_) => world.waits_for_load(
+            call, key,
+        ),
+        ScriptAct::Apply(_) | ScriptAct::ApplyFail(..) => is_changed(world, call, act, key),
+        ScriptAct::ApplyLie(_) => world.is_being_written(call, key),
+        ScriptAct::End | ScriptAct::Drop => world.is_reserved(call, key),
+        ScriptAct::More => true,
+        ScriptAct::Take => world.is_joined(call, key),
+        ScriptAct::Process { .. } => world.waits_for_process(call, key),
     }
 }
 
 /// Whether the writer is asked for a key now, and changes the store there as the act says.
-fn is_changed(world: &World, call: u64, act: &Act, key: &Key) -> bool
+fn is_changed(world: &World, call: u64, act: &ScriptAct, key: &Key) -> bool
     ensures { result ≡ is_changed world.now.world call act.now key.now }
 {
-    world.is_asked(call, key) && !leaves(act, key)
+    world.is_being_written(call, key) && !leaves(act, key)
 }
 
 /// Whether the writer is asked for a key now, and leaves it as the act says.
-fn is_left(world: &World, call: u64, act: &Act, key: &Key) -> bool
+fn is_left(world: &World, call: u64, act: &ScriptAct, key: &Key) -> bool
     ensures { result ≡ is_left world.now.world call act.now key.now }
 {
-    world.is_asked(call, key) && leaves(act, key)
+    world.is_being_written(call, key) && leaves(act, key)
 }
 
 /// Whether an act says that the writer leaves a key.
-fn leaves(act: &Act, key: &Key) -> bool
+fn leaves(act: &ScriptAct, key: &Key) -> bool
     ensures { result ≡ leaves act.now key.now }
 {
     match act {
-        Act::Apply(left) => is_listed(left, key),
-        Act::ApplyFail(_, left) => is_left_failing(left, key),
-        Act::ApplyLie(_) => true,
+        ScriptAct::Apply(left) => is_listed(left, key),
+        ScriptAct::ApplyFail(_, left) => is_left_failing(left, key),
+        ScriptAct::ApplyLie(_) => true,
         _ => false,
     }
 }
@@ -257,7 +259,7 @@ fn put_event_at(
     alloc: Global,
     events: &mut Vec<WorldEvent>,
     call: u64,
-    act: &Act,
+    act: &ScriptAct,
     key: &Key,
 ) -> Result<(), AllocError>
     ensures { OnOk result (events.new.items ≡ events.old.items ++ event_at call act.now key.now ∷ []) }
@@ -265,23 +267,23 @@ fn put_event_at(
     events.try_reserve(1)?;
     let key = *key;
     match act {
-        Act::Read => events.push_reserved(WorldEvent::Read { call, key }),
-        Act::ReadFail(code) => {
+        ScriptAct::Read => events.push_reserved(WorldEvent::Read { call, key }),
+        ScriptAct::ReadFail(code) => {
             let answer = LoadAnswer::Failed(*code);
             events.push_reserved(WorldEvent::Say { call, key, answer })
         }
-        Act::Say(pairs) => {
+        ScriptAct::Say(pairs) => {
             let answer = pairs.said(&key);
             events.push_reserved(WorldEvent::Say { call, key, answer })
         }
-        Act::Apply(_) | Act::ApplyFail(..) | Act::ApplyLie(_) => {
+        ScriptAct::Apply(_) | ScriptAct::ApplyFail(..) | ScriptAct::ApplyLie(_) => {
             events.push_reserved(WorldEvent::Change { call, key })
         }
-        Act::End => events.push_reserved(WorldEvent::Commit { call, key }),
-        Act::Drop => events.push_reserved(WorldEvent::Withdraw { call, key }),
-        Act::More => events.push_reserved(WorldEvent::Start { call, key }),
-        Act::Take => events.push_reserved(WorldEvent::PickUp { call, key }),
-        Act::Process { load, calls, fail } => put_process(
+        ScriptAct::End => events.push_reserved(WorldEvent::Commit { call, key }),
+        ScriptAct::Drop => events.push_reserved(WorldEvent::Withdraw { call, key }),
+        ScriptAct::More => events.push_reserved(WorldEvent::Start { call, key }),
+        ScriptAct::Take => events.push_reserved(WorldEvent::PickUp { call, key }),
+        ScriptAct::Process { load, calls, fail } => put_process(
             alloc, events, call, key, load, calls, *fail,
         )?,
     }
@@ -315,7 +317,7 @@ fn put_end_of_act(
     alloc: Global,
     world: &World,
     call: u64,
-    act: &Act,
+    act: &ScriptAct,
     keys: &[Key],
     events: &mut Vec<WorldEvent>,
 ) -> Result<(), AllocError>
@@ -324,15 +326,15 @@ fn put_end_of_act(
         events.new.items ≡ events.old.items ++ end_of_act world.now.world call act.now keys.now) }
 {
     match act {
-        Act::Apply(_) => {
+        ScriptAct::Apply(_) => {
             let left = left_keys(alloc, world, call, act, keys)?;
             put_report(events, call, left, None)
         }
-        Act::ApplyFail(code, _) | Act::ApplyLie(code) => {
+        ScriptAct::ApplyFail(code, _) | ScriptAct::ApplyLie(code) => {
             let left = left_keys(alloc, world, call, act, keys)?;
             put_report(events, call, left, Some(*code))
         }
-        Act::Drop => put_leave(events, call),
+        ScriptAct::Drop => put_leave(events, call),
         _ => Ok(()),
     }
 }
@@ -361,7 +363,7 @@ fn left_keys(
     alloc: Global,
     world: &World,
     call: u64,
-    act: &Act,
+    act: &ScriptAct,
     keys: &[Key],
 ) -> Result<LeftKeys, AllocError>
     requires { IsDistinct (pointwise ◌==◌) keys.now }
@@ -377,7 +379,7 @@ fn left_keys(
 fn add_if_left(
     world: &World,
     call: u64,
-    act: &Act,
+    act: &ScriptAct,
     key: &Key,
     left: &mut IndexSet<Key>,
 ) -> Result<(), AllocError>
@@ -392,15 +394,18 @@ fn add_if_left(
 }
 
 /// Whether it is the time for an act, by the call's keys and the events at those that it is about.
-fn is_time(world: &World, call: u64, act: &Act, keys: &[Key], events: &[WorldEvent]) -> bool
+fn is_time(world: &World, call: u64, act: &ScriptAct, keys: &[Key], events: &[WorldEvent]) -> bool
     ensures { result ≡ is_time world.now.world call act.now keys.now events.now }
 {
     match act {
-        Act::Read | Act::ReadFail(_) | Act::Say(_) | Act::Process { .. } => is_about_one(events),
-        Act::Apply(_) | Act::ApplyFail(..) | Act::ApplyLie(_) => is_one_asked(world, call, keys),
-        Act::End | Act::More => is_about_one(events) && all_fit(world, events),
-        Act::Drop => all_fit(world, events) && !is_one_joined(world, call, keys),
-        Act::Take => is_about_one(events) && !is_one_started(world, call, keys),
+        ScriptAct::Read | ScriptAct::ReadFail(_) | ScriptAct::Say(_) | ScriptAct::Process { .. } =>
+            is_about_one(events),
+        ScriptAct::Apply(_) | ScriptAct::ApplyFail(..) | ScriptAct::ApplyLie(_) => is_one_asked(
+            world, call, keys,
+        ),
+        ScriptAct::End | ScriptAct::More => is_about_one(events) && all_fit(world, events),
+        ScriptAct::Drop => all_fit(world, events) && !is_one_joined(world, call, keys),
+        ScriptAct::Take => is_about_one(events) && !is_one_started(world, call, keys),
     }
 }
 
@@ -420,9 +425,9 @@ fn all_fit(world: &World, events: &[WorldEvent]) -> bool
 }
 
 fn is_one_asked(world: &World, call: u64, keys: &[Key]) -> bool
-    ensures { result ≡ list_any (is_asked world.now.world call) keys.now }
+    ensures { result ≡ list_any (is_being_written world.now.world call) keys.now }
 {
-    keys.iter().any(|key| world.is_asked(call, key))
+    keys.iter().any(|key| world.is_being_written(call, key))
 }
 
 fn is_one_joined(world: &World, call: u64, keys: &[Key]) -> bool

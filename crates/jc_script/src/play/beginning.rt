@@ -15,7 +15,7 @@ ghost use Rattle.jc_script.specs.Transcript.{PlaysBegin, PlaysLine};
 use super::acting::put_key_events;
 use super::{LineBuffers, play_events};
 use crate::fault::Fault;
-use crate::read::line::{Act, BulkLine, Operation};
+use crate::read::line::{BulkLine, Operation, ScriptAct};
 use jc_model::{LoadAnswer, Op};
 use jc_types::{Key, Value};
 use jc_world::command::Command;
@@ -223,7 +223,7 @@ fn put_starts(
                 alloc,
                 world,
                 call,
-                &Act::More,
+                &ScriptAct::More,
                 &buffers.keys,
                 &mut buffers.events,
             )

@@ -3,7 +3,7 @@ ghost use Rattle.std.specs.Prelude.{◌≡◌, ◌++◌, ◌<◌, map, drop, not
 ghost use Rattle.std.specs.List.{position};
 ghost use Rattle.jc_script.specs.Lines.{is_plain};
 ghost use Rattle.jc_script.specs.Words.{words_of};
-ghost use Rattle.jc_script.specs.Places.{shape_text, what_text, quoted, word_text, byte_text, bytes_text, whole_text, bad_byte_text, is_begin};
+ghost use Rattle.jc_script.specs.Places.{shape_text, what_text, quoted, word_text, byte_text, bytes_text, whole_text, bad_byte_text, begins_call};
 ghost use Rattle.jc_script.specs.Places.{not_now_hint, hint_of, word_meant, fault_text, complaint};
 
 use crate::fault::{Fault, text};
@@ -16,8 +16,8 @@ use jc_types::Field;
 use std::alloc::{AllocError, Global};
 
 /// Whether a line begins a call.
-fn is_begin(words: &[&[u8]]) -> bool
-    ensures { result ≡ is_begin (map (λ w. w.now) words.now) }
+fn begins_call(words: &[&[u8]]) -> bool
+    ensures { result ≡ begins_call (map (λ w. w.now) words.now) }
 {
     match words {
         [] => false,
@@ -42,7 +42,7 @@ fn what_text(fault: Fault, at: usize, words: &[&[u8]]) -> &'static str
     ensures { result.now ≡ what_text fault at (map (λ w. w.now) words.now) }
 {
     match fault {
-        Fault::BadLine => shape_text(is_begin(words), at, words_from(at, words)),
+        Fault::BadLine => shape_text(begins_call(words), at, words_from(at, words)),
         _ => text(fault),
     }
 }

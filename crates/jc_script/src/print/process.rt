@@ -7,7 +7,7 @@ use crate::print::lines::{put_answer, put_asks, put_fails, put_fault_code};
 use crate::print::{Piece, put_key_line, put_pieces};
 use jc_model::{Change, EntryAnswer, LoadAnswer};
 use jc_types::{Key, Value};
-use jc_world::process::{LoadSource, Processed};
+use jc_world::process::{LoadSource, ShownRun};
 use std::alloc::AllocError;
 
 /// The key is reserved, and the processor is asked, about this entry.
@@ -120,7 +120,7 @@ pub fn put_processed(
     call: u64,
     key: &Key,
     verb: &str,
-    seen: &Processed,
+    seen: &ShownRun,
 ) -> Result<(), AllocError>
     ensures { OnOk result (out.new.items ≡ out.old.items ++ processed_text call key.now verb.now seen.now) }
 {

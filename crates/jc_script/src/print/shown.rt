@@ -1,7 +1,7 @@
 //! The outcomes of events, as lines.
 ghost use Rattle.std.specs.Prelude.{◌≡◌, ◌++◌, OnOk};
 ghost use Rattle.std.specs.List.{flat_map};
-ghost use Rattle.jc_script.specs.Printing.{process_text, cause_name, evict_line, victim_text, evicted_text, outcome_text};
+ghost use Rattle.jc_script.specs.Printing.{process_outcome_text, cause_name, evict_line, victim_text, evicted_text, outcome_text};
 ghost use Rattle.jc_script.specs.Printing.{stepped_text, picked_line, dropped_line, refused_line, done_name, change_name};
 ghost use Rattle.jc_script.specs.Printing.{reported_line, reported_text, returned_text};
 ghost use Rattle.jc_script.specs.Printing.{shown_text, begun_text, left_text, foreign_line, reopened_text, told, end_text, event_text, texts};
@@ -15,7 +15,7 @@ use jc_model::{Cause, Change, Reply};
 use jc_stripe::Eviction;
 use jc_types::{Key, Refusal, Value};
 use jc_world::event::{JoinAnswer, Outcome, Over, Shown, Stepped, WorldEvent};
-use jc_world::process::{LoadSource, Processed};
+use jc_world::process::{LoadSource, ShownRun};
 use jc_world::reports::{Reported, ReportedKey};
 use std::alloc::AllocError;
 
@@ -197,7 +197,7 @@ fn put_process_shown(
     source: &LoadSource,
     seen: &Outcome,
 ) -> Result<(), AllocError>
-    ensures { OnOk result (out.new.items ≡ out.old.items ++ process_text call key.now source.now seen.now) }
+    ensures { OnOk result (out.new.items ≡ out.old.items ++ process_outcome_text call key.now source.now seen.now) }
 {
     match seen {
         Outcome::Processed(seen) => put_processed(out, call, key, verb(source), seen),

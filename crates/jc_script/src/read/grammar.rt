@@ -9,7 +9,7 @@ ghost use Rattle.jc_script.specs.Lines.{foreign_of, audit_of, line_of, are_words
 use crate::fault::{Fault, ReadError};
 use crate::read::commands::{begin_command, form_named, has_shape};
 use crate::read::keys::Keys;
-use crate::read::line::{Act, Line, put_line};
+use crate::read::line::{Line, ScriptAct, put_line};
 use crate::read::process_words::{has_process_shape, read_calls, read_source, without_load};
 use crate::read::words::{caller, is, key, keys, number, pairs, split, value, value_or_none};
 use jc_types::{Config, LINE_MAX};
@@ -129,15 +129,15 @@ fn number_alone(words: &[&[u8]]) -> Result<u32, Fault>
     }
 }
 
-fn lone_act(lone: Lone) -> Act
+fn lone_act(lone: Lone) -> ScriptAct
     ensures { result ≡ lone_act lone }
 {
     match lone {
-        Lone::Read => Act::Read,
-        Lone::End => Act::End,
-        Lone::Drop => Act::Drop,
-        Lone::More => Act::More,
-        Lone::Take => Act::Take,
+        Lone::Read => ScriptAct::Read,
+        Lone::End => ScriptAct::End,
+        Lone::Drop => ScriptAct::Drop,
+        Lone::More => ScriptAct::More,
+        Lone::Take => ScriptAct::Take,
     }
 }
 
@@ -150,12 +150,12 @@ fn lone_line(lone: Lone, words: &[&[u8]], line: &mut Line) -> Result<(), Fault>
     Ok(())
 }
 
-fn coded_act(coded: Coded, code: u32) -> Act
+fn coded_act(coded: Coded, code: u32) -> ScriptAct
     ensures { result ≡ coded_act coded code }
 {
     match coded {
-        Coded::ReadFail => Act::ReadFail(code),
-        Coded::ApplyLie => Act::ApplyLie(code),
+        Coded::ReadFail => ScriptAct::ReadFail(code),
+        Coded::ApplyLie => ScriptAct::ApplyLie(code),
     }
 }
 
@@ -210,7 +210,7 @@ fn apply(alloc: Global, words: &[&[u8]], line: &mut Line) -> Result<(), ReadErro
             }
             let n = number(n)?;
             let left = left(alloc, rest)?;
-            put_line(line, Line::OfCall(n, Act::Apply(left)));
+            put_line(line, Line::OfCall(n, ScriptAct::Apply(left)));
             Ok(())
         }
         _ => Err(ReadError::Fault(Fault::BadLine)),
@@ -230,7 +230,7 @@ fn apply_fail(alloc: Global, words: &[&[u8]], line: &mut Line) -> Result<(), Rea
             let n = number(n)?;
             let code = number(c)?;
             let left = left(alloc, rest)?;
-            put_line(line, Line::OfCall(n, Act::ApplyFail(code, left)));
+            put_line(line, Line::OfCall(n, ScriptAct::ApplyFail(code, left)));
             Ok(())
         }
         _ => Err(ReadError::Fault(Fault::BadLine)),
@@ -246,7 +246,7 @@ fn say(alloc: Global, words: &[&[u8]], line: &mut Line) -> Result<(), ReadError>
         [n, rest @ ..] => {
             let n = number(n)?;
             let pairs = pairs(alloc, rest)?;
-            put_line(line, Line::OfCall(n, Act::Say(pairs)));
+            put_line(line, Line::OfCall(n, ScriptAct::Say(pairs)));
             Ok(())
         }
         _ => Err(ReadError::Fault(Fault::BadLine)),
@@ -266,7 +266,10 @@ fn process(alloc: Global, words: &[&[u8]], line: &mut Line) -> Result<(), ReadEr
             let n = number(n)?;
             let load = read_source(rest)?;
             let (calls, fail) = read_calls(alloc, without_load(rest))?;
-            put_line(line, Line::OfCall(n, Act::Process { load, calls, fail }));
+            put_line(
+                line,
+                Line::OfCall(n, ScriptAct::Process { load, calls, fail }),
+            );
             Ok(())
         }
         _ => Err(ReadError::Fault(Fault::BadLine)),

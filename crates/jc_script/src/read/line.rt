@@ -19,7 +19,7 @@ pub struct Operation {
 
 /// The next step of a call.
 #[derive(Drop)]
-pub enum Act {
+pub enum ScriptAct {
     /// The loader reads the store.
     Read,
     /// The loader fails with this code.
@@ -87,7 +87,7 @@ pub enum Line {
     /// A call of many keys with this number, by this session.
     BeginBulk(u32, u32, BulkLine),
     /// The next step of the call with this number.
-    OfCall(u32, Act),
+    OfCall(u32, ScriptAct),
     /// Somebody else writes the store, or deletes in it.
     Foreign(Key, Option<Value>),
     /// The cache is closed and opened again in this shape, with what it had.

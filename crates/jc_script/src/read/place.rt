@@ -49,7 +49,7 @@ pub enum Kind {
 
 /// Which words are looked for.
 #[derive(Clone, Copy)]
-pub enum Search {
+pub enum WordSearch {
     /// A missing or unknown word, of a line without a known shape.
     Shape,
     /// A word that doesn't fit its place.
@@ -133,17 +133,17 @@ fn is_wrong(kind: Kind, word: &[u8]) -> bool
     }
 }
 
-fn is_bad(search: Search, kind: Kind, word: &[u8]) -> bool
+fn is_bad(search: WordSearch, kind: Kind, word: &[u8]) -> bool
     ensures { result ≡ is_bad search kind word.now }
 {
     match search {
-        Search::Shape => word.is_empty() || is_unknown(kind, word),
-        Search::Content => is_wrong(kind, word),
+        WordSearch::Shape => word.is_empty() || is_unknown(kind, word),
+        WordSearch::Content => is_wrong(kind, word),
     }
 }
 
 /// The first word from the left that is looked for, or the place behind the last one.
-fn bad_among(search: Search, kinds: &[Kind], rest: Kind, words: &[&[u8]]) -> usize
+fn bad_among(search: WordSearch, kinds: &[Kind], rest: Kind, words: &[&[u8]]) -> usize
     ensures { result ≡ bad_among search kinds.now rest (map (λ w. w.now) words.now) }
 {
     let mut left = kinds;
@@ -190,7 +190,7 @@ fn operation_kinds(form: Result<Form, Fault>) -> Following
     }
 }
 
-fn bad_in_begin(search: Search, words: &[&[u8]]) -> usize
+fn bad_in_begin(search: WordSearch, words: &[&[u8]]) -> usize
     ensures { result ≡ bad_in_begin search (map (λ w. w.now) words.now) }
 {
     let kinds = operation_kinds(form_in(words));
@@ -221,7 +221,7 @@ fn is_lone(first: &[u8]) -> bool
         || is(first, "take")
 }
 
-fn bad_in_line(search: Search, first: &[u8], words: &[&[u8]]) -> usize
+fn bad_in_line(search: WordSearch, first: &[u8], words: &[&[u8]]) -> usize
     ensures { result ≡ bad_in_line search first.now (map (λ w. w.now) words.now) }
 {
     use Kind::{But, Entry, First, Flag, Key, Nothing, Number, Pair, Value, ValueOrNone};
@@ -250,7 +250,7 @@ fn bad_in_line(search: Search, first: &[u8], words: &[&[u8]]) -> usize
     }
 }
 
-fn bad_word(search: Search, words: &[&[u8]]) -> usize
+fn bad_word(search: WordSearch, words: &[&[u8]]) -> usize
     ensures { result ≡ bad_word search (map (λ w. w.now) words.now) }
 {
     match words {
@@ -304,9 +304,9 @@ pub fn word_meant(alloc: Global, fault: Fault, words: &[&[u8]]) -> Result<usize,
     ensures { IfOk result (λ found. found ≡ word_meant fault (map (λ w. w.now) words.now)) }
 {
     Ok(match fault {
-        Fault::BadLine => bad_word(Search::Shape, words),
+        Fault::BadLine => bad_word(WordSearch::Shape, words),
         Fault::BadNumber | Fault::BadCaller | Fault::BadKey | Fault::BadValue => {
-            bad_word(Search::Content, words)
+            bad_word(WordSearch::Content, words)
         }
         Fault::RepeatedKey => return repeated_word(alloc, words),
         Fault::BadConfig(Field::Stripes) | Fault::NotRising | Fault::NoSuchCall => 1,

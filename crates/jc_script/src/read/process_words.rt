@@ -1,7 +1,7 @@
 //! The words of a `process` line after the call's number: how the loader answers, the processor's calls, and a code.
 ghost use Rattle.std.specs.Prelude.{◌≡◌, ◌&&◌, ◌||◌, drop, map, not};
 ghost use Rattle.jc_script.specs.Lines.{Gives, ok_with};
-ghost use Rattle.jc_script.specs.ProcessWords.{begins_with, is_load_word, is_call, is_fail, are_calls, without_load};
+ghost use Rattle.jc_script.specs.ProcessWords.{begins_with, is_load_word, is_call_word, is_fail, are_calls, without_load};
 ghost use Rattle.jc_script.specs.ProcessWords.{has_process_shape, source_of, call_of, with_word, calls_of, is_entry_word, reads_entry_word};
 
 use crate::fault::{Fault, ReadError};
@@ -31,8 +31,8 @@ fn is_load_word(word: &[u8]) -> bool
     begins_with("loadfail=", word) || begins_with("loadsay=", word)
 }
 
-fn is_call(word: &[u8]) -> bool
-    ensures { result ≡ is_call word.now }
+fn is_call_word(word: &[u8]) -> bool
+    ensures { result ≡ is_call_word word.now }
 {
     is(word, "get") || is(word, "exists") || is(word, "remove") || begins_with("set=", word)
 }
@@ -45,9 +45,9 @@ fn is_fail(word: &[u8]) -> bool
 
 /// Whether a call or a failure may come here: the failure hasn't come yet.
 fn may_follow(ended: bool, word: &[u8]) -> bool
-    ensures { result ≡ (not ended && (is_call word.now || is_fail word.now)) }
+    ensures { result ≡ (not ended && (is_call_word word.now || is_fail word.now)) }
 {
-    !ended && (is_call(word) || is_fail(word))
+    !ended && (is_call_word(word) || is_fail(word))
 }
 
 /// Whether there is no word but calls, and a failure at the end.
@@ -123,7 +123,7 @@ fn read_call(word: &[u8]) -> Result<EntryCall, Fault>
 pub fn is_entry_word(word: &[u8]) -> bool
     ensures { result ≡ is_entry_word word.now }
 {
-    is_load_word(word) || is_call(word) || is_fail(word)
+    is_load_word(word) || is_call_word(word) || is_fail(word)
 }
 
 /// Whether such a word can be read: its code, or its value.

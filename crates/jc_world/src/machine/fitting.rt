@@ -4,13 +4,13 @@ ghost use Rattle.jc_world.specs.declared.event.WorldEvent.TheVariants as event;
 ghost use Rattle.jc_world.specs.World.{is_busy, open_call};
 ghost use Rattle.jc_types.specs.Limits.{is_session};
 ghost use Rattle.jc_world.specs.Fits.{is_playable, is_new, may_start, may_leave, is_free, may_report, fits};
-ghost use Rattle.jc_world.specs.Fits.{is_asked, is_single, may_look};
+ghost use Rattle.jc_world.specs.Fits.{is_being_written, is_single, may_look};
 
 use crate::calls::{find_call, has_call, is_above, is_playable};
 use crate::command::Command;
 use crate::event::WorldEvent;
 use crate::held_keys::{held_by, waits_for_load, waits_for_process};
-use crate::joined::has_joined;
+use crate::joined::has_join;
 use crate::machine::Machine;
 use crate::tasks::is_free_at;
 use jc_types::{Key, is_session};
@@ -32,7 +32,7 @@ impl Machine {
             WorldEvent::Say { call, key, answer } => {
                 answer.is_given() && waits_for_load(&self.held, *call, key)
             }
-            WorldEvent::Change { call, key } => self.is_asked(*call, key),
+            WorldEvent::Change { call, key } => self.is_being_written(*call, key),
             WorldEvent::Report {
                 call,
                 left: _,
@@ -40,24 +40,24 @@ impl Machine {
             } => self.may_report(*call),
             WorldEvent::Process { call, key, .. } => waits_for_process(&self.held, *call, key),
             WorldEvent::Commit { call, key } => {
-                held_by(&self.held, *call, key).is_some_and(|held| held.is_answered())
+                held_by(&self.held, *call, key).is_some_and(|held| held.is_all_answered())
             }
             WorldEvent::Withdraw { call, key } => {
                 held_by(&self.held, *call, key).is_some_and(|held| held.is_untouched())
             }
             WorldEvent::Leave { call } => self.may_leave(*call),
-            WorldEvent::PickUp { call, key } => has_joined(&self.joins, *call, key),
+            WorldEvent::PickUp { call, key } => has_join(&self.joins, *call, key),
             WorldEvent::Foreign { key: _, value: _ } => true,
             WorldEvent::Reopen { config } => self.calls.is_empty() && config.check().is_ok(),
         }
     }
 
     /// Whether a call has the writer asked for a key now.
-    pub(crate) fn is_asked(&self, call: u64, key: &Key) -> bool
-        ensures { result ≡ is_asked self.now call key.now }
+    pub(crate) fn is_being_written(&self, call: u64, key: &Key) -> bool
+        ensures { result ≡ is_being_written self.now call key.now }
     {
         match find_call(&self.calls, call) {
-            Some(u) => u.is_asked(call, key, &self.held),
+            Some(u) => u.is_being_written(call, key, &self.held),
             None => false,
         }
     }

@@ -12,7 +12,7 @@ use crate::event::{Outcome, Shown, show};
 use crate::held_keys::process;
 use crate::machine::Machine;
 use crate::outside::is_honest_load;
-use crate::process::{EntryCalls, LoadSource, Processed};
+use crate::process::{EntryCalls, LoadSource, ShownRun};
 use crate::read_only::ReadOnlyList;
 use crate::run::RunPlan;
 use jc_model::LoadAnswer;
@@ -50,7 +50,7 @@ impl Machine {
         answer: LoadAnswer,
         calls: &EntryCalls,
         fail: Option<u32>,
-    ) -> Result<Processed, AllocError>
+    ) -> Result<ShownRun, AllocError>
         requires waits { has_progress waits_for_process (part_of self.old call key.now) ≡ true }
         requires given { is_load_given answer ≡ true }
         ensures ok { OnOk result ((part : Part) × (part_of self.old call key.now ≡ Some part)
@@ -68,7 +68,7 @@ impl Machine {
         let ran = process(&mut self.held, &self.config, key, &plan, &mut answers);
         let honest = is_honest_load(ran.load, self.stored(key));
         self.premises.loaders &= honest;
-        Ok(Processed {
+        Ok(ShownRun {
             answers: ReadOnlyList::new(answers),
             load: ran.load,
             fault: fail,

@@ -1,4 +1,4 @@
-use Rattle.jc_bulk.proofs.Common.{IsSpent, no_asks, KeysAskAs, ran_more, ran_none, ran_quiet, ran_refused, refused_over, IsTold, HasRun, with_rounds, ops_of, Past, reserved_by, with_round, ◌≡◌, ◌≤◌, ◌∙◌, ap, map, refl, subst, sym}
+use Rattle.jc_bulk.proofs.Common.{IsSpent, no_asks, KeysAskAs, ran_more, ran_none, ran_quiet, ran_refused, refused_over, IsRoundTold, HasRun, with_rounds, ops_of, CallPast, reserved_by, with_round, ◌≡◌, ◌≤◌, ◌∙◌, ap, map, refl, subst, sym}
 use Rattle.jc_bulk.proofs.Filling.{may_fill, may_write}
 use Rattle.jc_bulk.proofs.RoundsOn.{each_takes, have_more, have_none, have_same, left_as, left_empty, left_ready, none_said, ready_later, spent_of, takes_new, told_of}
 use Rattle.jc_bulk.proofs.rounds.run_rounds.Goals.{After-end_round-spent}
@@ -6,8 +6,8 @@ use Rattle.jc_bulk.proofs.rounds.run_rounds.Goals as goal
 
 -- 1. A round that was answered, after those before it.
 
-told : (g : _) (c : After-end_round-spent g) (past : Past) (run : HasRun c.args.cache.now past c.args.session.now c.args.call.now)
-    → IsTold c.args.cache.now (with_rounds past (c.loop.invariant.runs past run).rounds) c.ask_for-answers.ensures.asked.asked.round c.ask_for-answers.new.session (record c.reserve.new.self { tickets = c.ask_for-answers.new.tickets })
+told : (g : _) (c : After-end_round-spent g) (past : CallPast) (run : HasRun c.args.cache.now past c.args.session.now c.args.call.now)
+    → IsRoundTold c.args.cache.now (with_rounds past (c.loop.invariant.runs past run).rounds) c.ask_for-answers.ensures.asked.asked.round c.ask_for-answers.new.session (record c.reserve.new.self { tickets = c.ask_for-answers.new.tickets })
     c.ask_for-answers.result.0 c.ask_for-answers.result.1
 told g c past run =
     let so_far = c.loop.invariant.runs past run in
@@ -16,7 +16,7 @@ told g c past run =
     (c.if-not-reserve.ensures.reserved refl then so_far.run) (ready_later c.loop.call c.reserve.new.self c.loop.next c.reserve.ensures.advances.targets c.reserve.ensures.advances.most c.loop.invariant.ready)
     c.ask_for-answers.ensures.tickets refl c.ask_for-answers.ensures.asked
 
-ended : (g : _) (c : After-end_round-spent g) (past : Past) (run : HasRun c.args.cache.now past c.args.session.now c.args.call.now)
+ended : (g : _) (c : After-end_round-spent g) (past : CallPast) (run : HasRun c.args.cache.now past c.args.session.now c.args.call.now)
     → HasRun c.args.cache.now (with_round (with_rounds past (c.loop.invariant.runs past run).rounds) c.ask_for-answers.ensures.asked.asked.round) c.end_round-spent.new.session c.end_round-spent.new.self
 ended g c past run = c.end_round-spent.ensures.run (with_rounds past (c.loop.invariant.runs past run).rounds) c.ask_for-answers.ensures.asked.asked.round (told g c past run)
 

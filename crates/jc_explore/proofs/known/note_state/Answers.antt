@@ -1,4 +1,4 @@
-use Rattle.jc_explore.proofs.Common.{◌≡◌, List, length, refl, sym, subst, All, AllPairs, All-push, all_pairs_push, KnownState, state_of, HaveOneKey, AreAsLong, IsKnown, IsKnownBy}
+use Rattle.jc_explore.proofs.Common.{◌≡◌, List, length, refl, sym, subst, All, AllPairs, All-push, all_pairs_push, KnownState, scene_state, HaveOneKey, AreAsLong, IsKnown, IsKnownBy}
 use Rattle.jc_explore.proofs.Keys.{known-stay}
 use Rattle.jc_explore.proofs.Searching.{known-before, known-last, grows-refl, places-push, prints-push}
 use Rattle.jc_explore.proofs.Shortest.{adds-none, adds-one}
@@ -14,7 +14,7 @@ returns-then-has c =
       known = record { each = stay; apart = c.requires.known.apart; prints = c.requires.known.prints; places = c.requires.known.places };
       kept = grows-refl known;
       added = adds-none (λ (k : KnownState). length k.schedule.items ≡ length c.args.schedule.items) known;
-      there = known-before c.snapshots_tell.ensures p seen known c.in_ok-key.key (state_of c.args.scene.now) stay c.in_ok-key.ensures.key (c.has.ensures.there c.if-has.true);
+      there = known-before c.snapshots_tell.ensures p seen known c.in_ok-key.key (scene_state c.args.scene.now) stay c.in_ok-key.ensures.key (c.has.ensures.there c.if-has.true);
     }
 
 pub returns : goal.returns
@@ -24,7 +24,7 @@ returns c =
     let seen = c.of.new.seen in
     let stay = known-stay c.snapshots_stay.ensures p c.args.known.now.seen seen known c.in_ok-key.ensures.grows c.requires.known.each in
     let one : KnownState = record { schedule = c.args.schedule; key = c.in_ok-key.key } in
-    let by : IsKnownBy p seen one = record { scene = state_of c.args.scene.now; plays = c.requires.plays; key = c.in_ok-key.ensures.key; sessions = c.requires.sessions } in
+    let by : IsKnownBy p seen one = record { scene = scene_state c.args.scene.now; plays = c.requires.plays; key = c.in_ok-key.ensures.key; sessions = c.requires.sessions } in
     record {
       known = record {
         each = subst (All (IsKnownBy p seen)) (sym c.in_ok-push-2.ensures.items) (All-push (IsKnownBy p seen) known one stay by);
@@ -35,6 +35,6 @@ returns c =
       };
       kept = (_, c.in_ok-push-2.ensures.items);
       added = subst (λ (ks : List KnownState). AreAsLong (length c.args.schedule.items) known ks) (sym c.in_ok-push-2.ensures.items) (adds-one (λ (k : KnownState). length k.schedule.items ≡ length c.args.schedule.items) known one refl);
-      there = subst (λ (ks : List KnownState). IsKnown p ks (state_of c.args.scene.now)) (sym c.in_ok-push-2.ensures.items)
-          (known-last p known one (state_of c.args.scene.now) c.requires.plays);
+      there = subst (λ (ks : List KnownState). IsKnown p ks (scene_state c.args.scene.now)) (sym c.in_ok-push-2.ensures.items)
+          (known-last p known one (scene_state c.args.scene.now) c.requires.plays);
     }

@@ -1,4 +1,4 @@
-use Rattle.jc_explore.proofs.Common.{◌≡◌, ℕ, ◌+◌, ◌++◌, ◌∷◌, [], length, length-append, sym, subst, true≢false, opening, state_of, KnownState, AreAsLong, IsKnown}
+use Rattle.jc_explore.proofs.Common.{◌≡◌, ℕ, ◌+◌, ◌++◌, ◌∷◌, [], length, length-append, sym, subst, true≢false, opening, scene_state, KnownState, AreAsLong, IsKnown}
 use Rattle.jc_explore.proofs.AllMoves.{sessions-push}
 use Rattle.jc_explore.proofs.Runs.{plays-determined, plays-push, plays-stops}
 use Rattle.jc_explore.proofs.Searching.{grows-refl}
@@ -35,7 +35,7 @@ returns c =
       kept = note.kept;
       added = subst (λ (n : ℕ). AreAsLong n c.args.known.now.list.items c.note_next.new.known.list.items) (length-append c.args.schedule.now (c.args.step ∷ [])) note.added;
       all = λ s plays. subst (IsKnown p c.note_next.new.known.list.items)
-          (plays-determined c.runs_are_determined.ensures p (opening p) (state_of c.step.new.self) s (c.args.schedule.now ++ c.args.step ∷ []) here plays) note.there;
-      goes = λ _. (state_of c.step.new.self, here);
+          (plays-determined c.runs_are_determined.ensures p (opening p) (scene_state c.step.new.self) s (c.args.schedule.now ++ c.args.step ∷ []) here plays) note.there;
+      goes = λ _. (scene_state c.step.new.self, here);
       stays = λ f. absurd (true≢false f);
     }

@@ -1,4 +1,4 @@
-use Rattle.jc_explore.proofs.Common.{◌≡◌, ◌<◌, ◌+◌, ℕ, List, true, sym, subst, get_or, arith, slice_get_within, Begin, Move, have_sessions, state_of}
+use Rattle.jc_explore.proofs.Common.{◌≡◌, ◌<◌, ◌+◌, ℕ, List, true, sym, subst, get_or, arith, slice_get_within, Begin, Move, have_sessions, scene_state}
 use Rattle.jc_explore.proofs.Searching.{KeptAt, below_one-more, kept-at, kept-grown, kept-sessions, session-at, there-at}
 use Rattle.jc_explore.proofs.search.keep_moves.Goals as goal
 
@@ -9,7 +9,7 @@ first = record { thread = 0; act = Begin }
 pub loop-step-preserved : goal.loop-step-preserved
 loop-step-preserved c =
     let p = c.args.program.now in
-    let s = state_of c.args.scene.now in
+    let s = scene_state c.args.scene.now in
     let moves = c.args.moves.now in
     let k = c.loop-step.step-index in
     let h = c.loop-step-test.true in

@@ -1,4 +1,4 @@
-use Rattle.jc_explore.proofs.Common.{◌≡◌, List, length, true, sym, subst, Move, Finding, IsFound, final_of, have_sessions, state_of, KeepsMoves}
+use Rattle.jc_explore.proofs.Common.{◌≡◌, List, length, true, sym, subst, Move, Finding, IsFound, final_of, have_sessions, scene_state, KeepsMoves}
 use Rattle.jc_explore.proofs.AllMoves.{sessions-moves}
 use Rattle.jc_explore.proofs.Closing.{Laws, closed-goes, on-no-end, stays-end, end-found}
 use Rattle.jc_explore.proofs.Searching.{grows-refl}
@@ -17,7 +17,7 @@ pub returns-then-any : goal.returns-then-any
 returns-then-any c =
     let p = c.args.program.now in
     let sched = c.args.schedule.now in
-    let w = state_of c.go_to.new.scene in
+    let w = scene_state c.go_to.new.scene in
     let kept = c.deref.result.now in
     let e = c.in_ok-any.ensures in
     let laws : Laws = record { det = c.runs_are_determined.ensures; go = c.worlds_go_on_alike.ensures; tell = c.essences_tell.ensures } in
@@ -37,7 +37,7 @@ returns-then-any c =
 pub note_end-requires-clause-ends : goal.note_end-requires-clause-ends
 note_end-requires-clause-ends c =
     let p = c.args.program.now in
-    let w = state_of c.go_to.new.scene in
+    let w = scene_state c.go_to.new.scene in
     let kept = c.deref.result.now in
     let laws : Laws = record { det = c.runs_are_determined.ensures; go = c.worlds_go_on_alike.ensures; tell = c.essences_tell.ensures } in
     let keeps = subst (λ (ms : List Move). KeepsMoves p w ms kept) c.requires.moves (subst (λ (ks : List Move). KeepsMoves p w c.args.moves.now ks) (sym c.deref.ensures.value) c.in_ok-kept.ensures) in
@@ -47,7 +47,7 @@ pub returns : goal.returns
 returns c =
     let p = c.args.program.now in
     let sched = c.args.schedule.now in
-    let w = state_of c.go_to.new.scene in
+    let w = scene_state c.go_to.new.scene in
     let kept = c.deref.result.now in
     let e = c.in_ok-any.ensures in
     let n = c.in_ok-note_end.ensures in

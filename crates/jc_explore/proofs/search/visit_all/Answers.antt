@@ -1,4 +1,4 @@
-use Rattle.jc_explore.proofs.Common.{◌≡◌, ℕ, eqb, ◌+◌, ◌<◌, List, Some, get_or, length, slice_get, ◌∙◌, ap, subst, arith, true, true≢false, sym, inl, inr, eqb-true, eqb-false, length-append, KnownState, Move, Finding, OUTCOMES_MAX, opening, AreAsLong, AreNew, IsClosedAt, IsClosedUpTo}
+use Rattle.jc_explore.proofs.Common.{◌≡◌, ℕ, eqb, ◌+◌, ◌<◌, List, Some, get_or, length, slice_get, ◌∙◌, ap, subst, arith, true, true≢false, sym, inl, inr, eqb-true, eqb-false, length-append, KnownState, Move, Finding, OUTCOMES_MAX, opening, AreAsLong, AreNew, IsClosedSchedule, IsClosedUpTo}
 use Rattle.jc_explore.proofs.Closing.{closed-more, each-known, has-each}
 use Rattle.jc_explore.proofs.Searching.{known-grown, same-at, there-at}
 use Rattle.jc_explore.proofs.Shortest.{first-breadth, more-breadth}
@@ -72,11 +72,11 @@ loop-place-preserved g c =
       search = e.search;
       opening = known-grown p was now (opening p) e.known_kept i.opening;
       closed = closed-more p was now before found place e.known_kept e.found_kept h i.closed
-          (λ m at. subst (λ (ms : List Move). IsClosedAt p now found ms) (followed m at) e.closed);
+          (λ m at. subst (λ (ms : List Move). IsClosedSchedule p now found ms) (followed m at) e.closed);
       breadth = more-breadth p was now before found place one i.breadth i.closed here e.known_kept e.found_kept
           (subst (λ (ms : List Move). AreAsLong (length ms + 1) was now) (followed one here) e.added)
           (subst (λ (ms : List Move). AreNew ms before found) (followed one here) e.fresh)
-          (subst (λ (ms : List Move). IsClosedAt p now found ms) (followed one here) e.closed);
+          (subst (λ (ms : List Move). IsClosedSchedule p now found ms) (followed one here) e.closed);
       within = omega (arith, h, length-append was e.known_kept.0, ap (λ (ks : List KnownState). length ks) e.known_kept.1);
     }
 

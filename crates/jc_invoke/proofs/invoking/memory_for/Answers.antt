@@ -1,4 +1,4 @@
-use Rattle.jc_invoke.proofs.Common.{spare, IsRoomFor, ops_of, AreRooms, IsNew, ◌≤◌, ap, sym, subst}
+use Rattle.jc_invoke.proofs.Common.{spare, IsRoundRoomFor, ops_of, AreRooms, IsNew, ◌≤◌, ap, sym, subst}
 use Rattle.jc_invoke.proofs.invoking.memory_for.Goals as goal
 
 pub end-progress-requires : goal.end-progress-requires
@@ -16,5 +16,5 @@ returns-in-Ok c =
       results_room = subst (λ n. n ≤ spare c.in_ok-results.results) c.len-keys.ensures c.in_ok-results.ensures.spare;
       targets_are = ap ops_of new.targets_are;
       call_is = subst (λ t. IsNew t stripes c.new-call.result) (sym new.targets_are) new;
-      room_is = subst (λ n. IsRoomFor n c.args.config.now.write_through c.in-Ok.room) c.most.ensures c.in-Ok.ensures;
+      room_is = subst (λ n. IsRoundRoomFor n c.args.config.now.write_through c.in-Ok.room) c.most.ensures c.in-Ok.ensures;
     }

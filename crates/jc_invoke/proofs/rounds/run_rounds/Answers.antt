@@ -1,23 +1,23 @@
-use Rattle.jc_invoke.proofs.Common.{IsInvoked, IsRoomFor, ran_more, ran_none, ran_quiet, ran_refused, refused_over, IsTold, ProcessAll, HasRun, with_rounds, ops_of, Past, with_round, ◌≡◌, ◌≤◌, ◌∙◌, IfSome, None, ap, refl, subst, sym}
+use Rattle.jc_invoke.proofs.Common.{IsInvoked, IsRoundRoomFor, ran_more, ran_none, ran_quiet, ran_refused, refused_over, IsRoundTold, ProcessAll, HasRun, with_rounds, ops_of, CallPast, with_round, ◌≡◌, ◌≤◌, ◌∙◌, IfSome, None, ap, refl, subst, sym}
 use Rattle.jc_invoke.proofs.InvokeRound.{each_invoked, have_more, have_none, have_same, left_none, left_room, left_there, may_run, ready_later, told_of}
 use Rattle.jc_invoke.proofs.rounds.run_rounds.Goals.{After-end_round-spent, After-again-left}
 use Rattle.jc_invoke.proofs.rounds.run_rounds.Goals as goal
 
 -- 1. A round that was answered, after those before it.
 
-told : (g : _) (c : After-end_round-spent g) (past : Past) (run : HasRun c.args.cache.now past c.args.session.now c.args.call.now)
-    → IsTold c.args.cache.now (with_rounds past (c.loop.invariant.runs past run).rounds) (ProcessAll c.ask-answers.ensures.asked.asked.round) c.ask-answers.new.session (record c.reserve.new.self { tickets = c.ask-answers.new.tickets }) c.ask-answers.result.0 None
+told : (g : _) (c : After-end_round-spent g) (past : CallPast) (run : HasRun c.args.cache.now past c.args.session.now c.args.call.now)
+    → IsRoundTold c.args.cache.now (with_rounds past (c.loop.invariant.runs past run).rounds) (ProcessAll c.ask-answers.ensures.asked.asked.round) c.ask-answers.new.session (record c.reserve.new.self { tickets = c.ask-answers.new.tickets }) c.ask-answers.result.0 None
 told g c past run =
     let so_far = c.loop.invariant.runs past run in
     told_of _ c.args.processing.now.args.now c.args.cache.now c.loop.processing.args.now (with_rounds past so_far.rounds) c.reserve.new.session c.ask-answers.new.session c.reserve.new.self _ c.ask-answers.new.tickets c.loop.processing.processor.now c.ask-answers.new.processing.processor.now c.loop.next.through c.ask-answers.result.0
     (c.if-not-reserve.ensures.reserved refl (with_rounds past so_far.rounds) so_far.run) (ready_later c.args.cache.now.config c.loop.call c.reserve.new.self c.loop.next c.reserve.ensures.advances.targets c.reserve.ensures.advances.most c.loop.invariant.ready).invoked
     c.loop.invariant.ready.room_is.through_is c.ask-answers.ensures.same.0 refl c.ask-answers.ensures.asked
 
-ended : (g : _) (c : After-end_round-spent g) (past : Past) (run : HasRun c.args.cache.now past c.args.session.now c.args.call.now)
+ended : (g : _) (c : After-end_round-spent g) (past : CallPast) (run : HasRun c.args.cache.now past c.args.session.now c.args.call.now)
     → HasRun c.args.cache.now (with_round (with_rounds past (c.loop.invariant.runs past run).rounds) (ProcessAll c.ask-answers.ensures.asked.asked.round)) c.end_round-spent.new.session c.end_round-spent.new.self
 ended g c past run = c.end_round-spent.ensures.run (with_rounds past (c.loop.invariant.runs past run).rounds) (ProcessAll c.ask-answers.ensures.asked.asked.round) (told g c past run)
 
-left : (g : _) (c : After-again-left g) → IfSome c.again-left.result (λ room. IsRoomFor c.loop.call.most c.args.cache.now.config.write_through room)
+left : (g : _) (c : After-again-left g) → IfSome c.again-left.result (λ room. IsRoundRoomFor c.loop.call.most c.args.cache.now.config.write_through room)
 left g c =
     left_room c.loop.call.most c.args.cache.now.config.write_through c.loop.next c.end_round-spent.result c.ask-answers.result.1 c.again-left.result c.loop.invariant.ready.room_is c.ask-answers.ensures.left.0 c.again-left.ensures
     (subst (λ n. c.loop.call.most ≤ n) (sym (c.end_round-spent.ensures.room ∙ c.ask-answers.ensures.left.1)) c.loop.invariant.ready.room_is.runs_room)
@@ -80,7 +80,7 @@ end_room-requires g c = (c.loop.call.most, c.args.cache.now.config.write_through
 
 pub next_room-requires : goal.next_room-requires
 next_room-requires g c =
-    subst (λ n. IfSome c.again-left.result (λ room. IsRoomFor n c.args.cache.now.config.write_through room)) (sym (c.most.ensures ∙ c.end_round-spent.ensures.advances.most ∙ c.reserve.ensures.advances.most))
+    subst (λ n. IfSome c.again-left.result (λ room. IsRoundRoomFor n c.args.cache.now.config.write_through room)) (sym (c.most.ensures ∙ c.end_round-spent.ensures.advances.most ∙ c.reserve.ensures.advances.most))
     (left g (goal.at.next_room-requires g c).After-again-left)
 
 -- 3. The rounds.
@@ -109,7 +109,7 @@ pub loop-preserved : goal.loop-preserved
 loop-preserved g c = record {
   ready = record {
     invoked = (c.loop.invariant.ready.invoked.0, ap (λ t. ops_of t.now) (c.end_round-spent.ensures.advances.targets ∙ c.reserve.ensures.advances.targets) ∙ c.loop.invariant.ready.invoked.1);
-    room_is = subst (λ n. IsRoomFor n c.args.cache.now.config.write_through c.in-Ok.room) c.most.ensures c.in-Ok.ensures.0;
+    room_is = subst (λ n. IsRoundRoomFor n c.args.cache.now.config.write_through c.in-Ok.room) c.most.ensures c.in-Ok.ensures.0;
   };
   runs = λ past run.
       let so_far = c.loop.invariant.runs past run in

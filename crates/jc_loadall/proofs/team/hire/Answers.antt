@@ -1,4 +1,4 @@
-use Rattle.jc_loadall.proofs.Common.{◌≡◌, ◌≤◌, [], ◌∷◌, ◌++◌, All, vec_len, vec_capacity, sym, subst, rules, All-push, IsIdle}
+use Rattle.jc_loadall.proofs.Common.{◌≡◌, ◌≤◌, [], ◌∷◌, ◌++◌, All, vec_len, vec_capacity, sym, subst, rules, All-push, IsIdleWorker}
 use Rattle.jc_loadall.proofs.team.hire.Goals as goal
 
 pub hiring-preserved : goal.hiring-preserved
@@ -9,5 +9,5 @@ hiring-preserved g c =
     record {
       few = few;
       room = room;
-      idle = subst (All (IsIdle c.args.load.now c.args.keys.now c.args.pieces)) (sym pushed) (All-push (IsIdle c.args.load.now c.args.keys.now c.args.pieces) c.hiring.team.items c.in_ok-new.field-0 c.hiring.invariant.idle c.in_ok-new.ensures);
+      idle = subst (All (IsIdleWorker c.args.load.now c.args.keys.now c.args.pieces)) (sym pushed) (All-push (IsIdleWorker c.args.load.now c.args.keys.now c.args.pieces) c.hiring.team.items c.in_ok-new.field-0 c.hiring.invariant.idle c.in_ok-new.ensures);
     }

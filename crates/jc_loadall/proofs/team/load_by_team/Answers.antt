@@ -1,4 +1,4 @@
-use Rattle.jc_loadall.proofs.Common.{◌≡◌, ◌==◌, List, Option, All, length, sym, ap, subst, ◌∙◌, arith, rules, IsDistinct, flat_map, pointwise, Refusal, Bytes, TellsDone, Worker, all_noted, first_noted, result_in, piece_count, AreLoadedBy, IsIdle}
+use Rattle.jc_loadall.proofs.Common.{◌≡◌, ◌==◌, List, Option, All, length, sym, ap, subst, ◌∙◌, arith, rules, IsDistinct, flat_map, pointwise, Refusal, Bytes, TellsDone, Worker, all_noted, first_noted, result_in, piece_count, AreLoadedBy, IsIdleWorker}
 use Rattle.jc_loadall.proofs.JoinedNotes.{none_told}
 use Rattle.jc_loadall.proofs.TeamWork.{able_all, front, team_loaded}
 use Rattle.jc_loadall.proofs.team.load_by_team.Goals as goal
@@ -6,7 +6,7 @@ use Rattle.jc_loadall.proofs.team.load_by_team.Goals as goal
 pub run_pieces_with-requires-clause-able : goal.run_pieces_with-requires-clause-able
 run_pieces_with-requires-clause-able g c κs within =
     able_all g.F.Fn c.args.load.now c.as_slice.result.now c.piece_count-pieces.result c.as_mut_slice.result.now c.args.tools.now (search rules)
-    (subst (All (IsIdle c.args.load.now c.as_slice.result.now c.piece_count-pieces.result)) (sym c.as_mut_slice.ensures.value) c.in_ok-workers.ensures.1)
+    (subst (All (IsIdleWorker c.args.load.now c.as_slice.result.now c.piece_count-pieces.result)) (sym c.as_mut_slice.ensures.value) c.in_ok-workers.ensures.1)
     c.requires.able c.requires.keeps
     (subst (IsDistinct (pointwise ◌==◌)) (sym c.as_slice.ensures.keys) c.as_slice.ensures.unique)
     (c.piece_count-pieces.ensures ∙ ap piece_count (c.len.ensures.len ∙ sym (ap length c.as_slice.ensures.keys)))
@@ -25,7 +25,7 @@ returns-clause-ended g c =
     let results = result_in (flat_map (λ w. w.notes.items) c.as_slice-2.result.now) in
     let loaded = team_loaded g.F.Fn c.args.load.now c.as_slice.result.now _ _ c.piece_count-pieces.result c.as_mut_slice.result.now c.run_pieces_with.new.workers c.args.tools.now c.run_pieces_with.new.tools
     (search rules) c.run_pieces_with.ensures.len.0 c.run_pieces_with.ensures.len.1
-    (subst (All (IsIdle c.args.load.now c.as_slice.result.now c.piece_count-pieces.result)) (sym c.as_mut_slice.ensures.value) c.in_ok-workers.ensures.1)
+    (subst (All (IsIdleWorker c.args.load.now c.as_slice.result.now c.piece_count-pieces.result)) (sym c.as_mut_slice.ensures.value) c.in_ok-workers.ensures.1)
     (c.piece_count-pieces.ensures ∙ ap piece_count (c.len.ensures.len ∙ sym (ap length c.as_slice.ensures.keys)))
     c.in_ok-run_pieces_with.ensures.done in
     let cause = c.join_notes-cause.ensures.cause ∙ ap (first_noted results) pieces in

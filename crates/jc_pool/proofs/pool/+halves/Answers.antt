@@ -5,9 +5,9 @@ use Rattle.jc_pool.proofs.pool.+halves.Goals as goal
 pub work_in_halves-join_mut-requires-after_bounds : goal.work_in_halves-join_mut-requires-after_bounds
 work_in_halves-join_mut-requires-after_bounds g t c κs within =
     let off = c.split-other.ensures in
-    let first = begin_first g.W.WorkWith.did g.W.WorkWith.job g.W.WorkWith.can_do g.W.WorkWith.does c.args.desk.counter.now c.args.claimer.now c.split-other.new.claimer c.args.first.now c.args.rest.now c.args.first_tools.now c.args.rest_tools.now
+    let first = begin_first g.W.WorkWith.did g.W.WorkWith.job g.W.WorkWith.can_do g.W.WorkWith.does c.args.context.counter.now c.args.claimer.now c.split-other.new.claimer c.args.first.now c.args.rest.now c.args.first_tools.now c.args.rest_tools.now
     c.requires off.counter.0.0 off.claims.0 in
-    let rest = begin_rest g.W.WorkWith.did g.W.WorkWith.job g.W.WorkWith.can_do g.W.WorkWith.does c.args.desk.counter.now c.args.claimer.now c.split-other.result c.args.first.now c.args.rest.now c.args.first_tools.now c.args.rest_tools.now
+    let rest = begin_rest g.W.WorkWith.did g.W.WorkWith.job g.W.WorkWith.can_do g.W.WorkWith.does c.args.context.counter.now c.args.claimer.now c.split-other.result c.args.first.now c.args.rest.now c.args.first_tools.now c.args.rest_tools.now
     c.requires off.counter.1.0 off.claims.1 in
     search rules
 

@@ -1,4 +1,4 @@
-use Rattle.jc_snapshot.proofs.Common.{[], ◌∷◌, ◌++◌, take, sym, subst, ◌∙◌, framed, AreRows, IsCallRow}
+use Rattle.jc_snapshot.proofs.Common.{[], ◌∷◌, ◌++◌, take, sym, subst, ◌∙◌, framed, AreRows, IsOpenCallRow}
 use Rattle.jc_snapshot.proofs.FlatRows.{rows_stay, rows_push, flat_push}
 use Rattle.jc_snapshot.proofs.TableNumbers.{take_next}
 use Rattle.jc_snapshot.proofs.StripeRows.{call_stays, grows_self, grows_twice}
@@ -16,10 +16,10 @@ loop-call-preserved c =
     let old = c.loop-call.invariant.0 in
     let row = c.in_ok-row.row.items in
     let xs = take i c.args.calls.now in
-    let stays = rows_stay (IsCallRow s) (IsCallRow t) (call_stays s t c.call_row.ensures.grows) xs old.0 old.2 in
-    let all = rows_push (IsCallRow t) xs old.0 x row stays c.in_ok-row.ensures.row in
+    let stays = rows_stay (IsOpenCallRow s) (IsOpenCallRow t) (call_stays s t c.call_row.ensures.grows) xs old.0 old.2 in
+    let all = rows_push (IsOpenCallRow t) xs old.0 x row stays c.in_ok-row.ensures.row in
     let written = c.in_ok-push_row.ensures ∙ (λ j. old.1 j ++ framed (c.deref.ensures.value j)) ∙ sym (flat_push old.0 row) in
-    ((old.0 ++ row ∷ [], written, subst (λ ys. AreRows (IsCallRow t) ys (old.0 ++ row ∷ [])) (sym (take_next c.args.calls.now i x c.loop-call-test.true c.call-item.is)) all), grows_twice _ _ _ c.loop-call.invariant.1 c.call_row.ensures.grows)
+    ((old.0 ++ row ∷ [], written, subst (λ ys. AreRows (IsOpenCallRow t) ys (old.0 ++ row ∷ [])) (sym (take_next c.args.calls.now i x c.loop-call-test.true c.call-item.is)) all), grows_twice _ _ _ c.loop-call.invariant.1 c.call_row.ensures.grows)
 
 pub returns-in_err-push_row-clause-grows : goal.returns-in_err-push_row-clause-grows
 returns-in_err-push_row-clause-grows c = grows_twice _ _ _ c.loop-call.invariant.1 c.call_row.ensures.grows

@@ -1,6 +1,6 @@
 use Rattle.sqlite.specs.Held.{state}
 use Rattle.std.proofs.Common.{subst}
-use Rattle.jc_sqlite.specs.Statements.{write_sql, RunsOnce}
+use Rattle.jc_sqlite.specs.Statements.{write_sql, ExecutesOnce}
 use Rattle.jc_sqlite.proofs.Statements.{bound_entry}
 use Rattle.jc_sqlite.proofs.table.write.Goals as goal
 
@@ -8,4 +8,4 @@ pub returns : goal.returns
 returns g c =
     let given = bound_entry c.params-to_sql.result c.params-to_sql-2.result c.bytes.result.now c.bytes-2.result.now c.args.key.now c.args.value.now c.params-to_sql.ensures c.bytes.ensures.bytes
     c.params-to_sql-2.ensures c.bytes-2.ensures.bytes in
-    λ clean. subst (λ row. RunsOnce write_sql row (state g.S.Store c.args.conn.now) (state g.S.Store c.run_once.new.conn) c.run_once.result) given (c.run_once.ensures clean)
+    λ clean. subst (λ row. ExecutesOnce write_sql row (state g.S.Store c.args.conn.now) (state g.S.Store c.run_once.new.conn) c.run_once.result) given (c.run_once.ensures clean)

@@ -1,4 +1,4 @@
-use Rattle.jc_world.proofs.Common.{◌≡◌, None, Ok, position, sym, ap, ◌∙◌, find_at_place, find_nowhere, has_number, with_found}
+use Rattle.jc_world.proofs.Common.{◌≡◌, None, Ok, position, sym, ap, ◌∙◌, find_at_place, find_nowhere, has_number, with_swept_keys}
 use Rattle.jc_world.proofs.Looked.{ended_at}
 use Rattle.jc_world.proofs.calls.look.Goals as goal
 
@@ -22,5 +22,5 @@ returns-clause-ok c =
     let found = find_at_place (has_number c.args.call) calls c.in-Some.place x at c.index_mut.ensures.value in
     let h = c.in_ok-look.ensures.ok in
     let e = c.end_at.ensures in
-    let end = ended_at c.args.call c.in-Some.place (with_found c.args.stripes c.args.stripe c.args.keys.now h.0) x c.look.new.self e.0 calls _ _ at found h.2 e.1 e.2 e.3 in
+    let end = ended_at c.args.call c.in-Some.place (with_swept_keys c.args.stripes c.args.stripe c.args.keys.now h.0) x c.look.new.self e.0 calls _ _ at found h.2 e.1 e.2 e.3 in
     (x, h.0, found, h.1, ap Ok end.0, end.1)

@@ -1,4 +1,4 @@
-use Rattle.jc_world.proofs.Common.{◌≡◌, ℕ, ◌<◌, List, get_or, slice_get, slice_set, Some, vec_len, sym, ap, ◌∙◌, subst, arith, get, stripe_of, Config, Bytes, State, IsOut, Part, AreLeft, HasHeld, HasJoins, parts_of, joins_of, IsDue, Parts, empty_stripe}
+use Rattle.jc_world.proofs.Common.{◌≡◌, ℕ, ◌<◌, List, get_or, slice_get, slice_set, Some, vec_len, sym, ap, ◌∙◌, subst, arith, get, stripe_of, Config, Bytes, State, IsOut, Part, AreLeft, HasHeld, HasJoins, parts_of, joins_of, IsDue, Parts, fresh_stripe}
 use Rattle.jc_world.proofs.Closing.{IsOver, over, left_set, ended, joins_kept, none_reserved, home_of_key, key_of}
 use Rattle.jc_world.proofs.ending.end_all.Goals.{After-stripe_of-number, After-index_mut-stripe}
 use Rattle.jc_world.proofs.ending.end_all.Goals as goal
@@ -28,13 +28,13 @@ pub stripe_of-number-requires : goal.stripe_of-number-requires
 stripe_of-number-requires c =
     let i = c.ending.invariant in
     let some = c.in-Some.ensures.some in
-    (home_of_key c.args.config.now c.ending.stripes.items (parts_of c.ending.held) some.0 c.in-Some.one (empty_stripe c.args.config.now 0) some.1 i.left i.held).some
+    (home_of_key c.args.config.now c.ending.stripes.items (parts_of c.ending.held) some.0 c.in-Some.one (fresh_stripe c.args.config.now 0) some.1 i.left i.held).some
 
 pub index_mut-stripe-requires : goal.index_mut-stripe-requires
 index_mut-stripe-requires c =
     let i = c.ending.invariant in
     let some = c.in-Some.ensures.some in
-    let w = (home_of_key c.args.config.now c.ending.stripes.items (parts_of c.ending.held) some.0 c.in-Some.one (empty_stripe c.args.config.now 0) some.1 i.left i.held).within_is in
+    let w = (home_of_key c.args.config.now c.ending.stripes.items (parts_of c.ending.held) some.0 c.in-Some.one (fresh_stripe c.args.config.now 0) some.1 i.left i.held).within_is in
     let len = c.ending.stripes.ok in
     subst (λ n. n < vec_len c.ending.stripes) (sym (number (goal.at.index_mut-stripe-requires c).After-stripe_of-number)) (omega arith)
 

@@ -1,4 +1,4 @@
-use Rattle.jc_world.proofs.Common.{◌≡◌, ℕ, ◌<◌, get_or, slice_set, vec_len, sym, ap, ◌∙◌, subst, arith, stripe_of, without_joiner, PicksUp, Picked, polled_with, State, AreLeft, HasJoins, NoneReserved, joins_of, empty_stripe, slice_get, Some, IsJoined}
+use Rattle.jc_world.proofs.Common.{◌≡◌, ℕ, ◌<◌, get_or, slice_set, vec_len, sym, ap, ◌∙◌, subst, arith, stripe_of, without_joiner, PicksUp, Picked, polled_with, State, AreLeft, HasJoins, NoneReserved, joins_of, fresh_stripe, slice_get, Some, IsJoined}
 use Rattle.jc_world.proofs.Closing.{left_set, never_waits, picked_left, picked_up, none_set, home_of_join}
 use Rattle.jc_world.proofs.ending.pick_all.Goals.{After-stripe_of-number, After-index_mut-stripe}
 use Rattle.jc_world.proofs.ending.pick_all.Goals as goal
@@ -21,13 +21,13 @@ pub stripe_of-number-requires : goal.stripe_of-number-requires
 stripe_of-number-requires c =
     let i = c.picking.invariant in
     let some = c.in-Some.ensures.some in
-    (home_of_join c.args.config.now c.picking.stripes.items (joins_of c.picking.joins) some.0 c.in-Some.join (empty_stripe c.args.config.now 0) some.1 i.left i.joins).some
+    (home_of_join c.args.config.now c.picking.stripes.items (joins_of c.picking.joins) some.0 c.in-Some.join (fresh_stripe c.args.config.now 0) some.1 i.left i.joins).some
 
 pub index_mut-stripe-requires : goal.index_mut-stripe-requires
 index_mut-stripe-requires c =
     let i = c.picking.invariant in
     let some = c.in-Some.ensures.some in
-    let w = (home_of_join c.args.config.now c.picking.stripes.items (joins_of c.picking.joins) some.0 c.in-Some.join (empty_stripe c.args.config.now 0) some.1 i.left i.joins).within_is in
+    let w = (home_of_join c.args.config.now c.picking.stripes.items (joins_of c.picking.joins) some.0 c.in-Some.join (fresh_stripe c.args.config.now 0) some.1 i.left i.joins).within_is in
     let len = c.picking.stripes.ok in
     subst (λ n. n < vec_len c.picking.stripes) (sym (number (goal.at.index_mut-stripe-requires c).After-stripe_of-number)) (omega arith)
 

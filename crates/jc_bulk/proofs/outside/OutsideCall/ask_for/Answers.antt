@@ -1,4 +1,4 @@
-use Rattle.jc_bulk.proofs.Common.{items_in, kind_in, room_in, with_ask, is_among, asked_keys, Loads, ◌≡◌, ◌<◌, ◌+◌, ◌-◌, ◌++◌, ◌∷◌, [], length, take, get_or, slice_set, sym, ap, ◌∙◌, arith, length-map}
+use Rattle.jc_bulk.proofs.Common.{items_in, outside_kind, room_in, with_ask, is_among, asked_keys, Loads, ◌≡◌, ◌<◌, ◌+◌, ◌-◌, ◌++◌, ◌∷◌, [], length, take, get_or, slice_set, sym, ap, ◌∙◌, arith, length-map}
 use Rattle.jc_bulk.proofs.Tickets.{answered_loads, answered_writes, loads_rest, ask_of, asked_ticket, asks_next, asks_of, new_next, next_ticket, tickets_next, whole_asks, whole_tickets}
 use Rattle.jc_bulk.proofs.outside.OutsideCall.ask_for.Goals as goal
 
@@ -39,7 +39,7 @@ returns-in-Loads-clause-asked g c =
     let e = c.ask-loaded.ensures.asked in
     let is = c.call.view_is ∙ c.loop-place.invariant.call in
     let ts = c.args.tickets.now.items in
-    let kind = sym (ap (λ s. s.kind) is) ∙ ap kind_in c.in-Loads.is in
+    let kind = sym (ap (λ s. s.kind) is) ∙ ap outside_kind c.in-Loads.is in
     let asks = whole_asks ts c.loop-place.place c.in-Loads.call.items (omega (arith, c.loop-place-test.false, c.len-place-end.ensures, c.args.tickets.now.ok.0)) (sym (ap items_in c.in-Loads.is) ∙ ap (λ s. s.items) is) in
     let room : c.in-Loads.call.room ≡ c.args.self.room - c.loop-place.place = sym (ap room_in c.in-Loads.is) ∙ ap (λ s. s.room) is in
     let many : length c.in-Loads.call.items ≡ length ts = ap length asks ∙ length-map ts ask_of in
@@ -63,7 +63,7 @@ returns-in-Writes-clause-asked g c =
     let is = c.call.view_is ∙ c.loop-place.invariant.call in
     let asks = whole_asks c.args.tickets.now.items c.loop-place.place c.in-Writes.call.items (omega (arith, c.loop-place-test.false, c.len-place-end.ensures, c.args.tickets.now.ok.0)) (sym (ap items_in c.in-Writes.is) ∙ ap (λ s. s.items) is) in
     record {
-      asked = answered_writes _ c.args.session.now c.ask-done.new.session c.in-Writes.call.deletes c.args.self.kind c.args.self.room c.args.tickets.now.items c.in-Writes.call.items c.ask-done.result.1 c.ask-done.result.0 c.writer_fault.result (sym (ap (λ s. s.kind) is) ∙ ap kind_in c.in-Writes.is) asks c.requires.may.some
+      asked = answered_writes _ c.args.session.now c.ask-done.new.session c.in-Writes.call.deletes c.args.self.kind c.args.self.room c.args.tickets.now.items c.in-Writes.call.items c.ask-done.result.1 c.ask-done.result.0 c.writer_fault.result (sym (ap (λ s. s.kind) is) ∙ ap outside_kind c.in-Writes.is) asks c.requires.may.some
           c.requires.may.kind c.writer_fault.ensures e.asked;
       rest = e.rest;
       own = e.own;

@@ -2,7 +2,7 @@ use Rattle.std.proofs.Common.{ap, refl, subst, sym}
 use Rattle.jc_stripe.specs.Phases.{begun_with}
 use Rattle.jc_engine.specs.Needs.{BeginsIfClear, StartsAt}
 use Rattle.jc_engine.specs.Turns.{StartWaits}
-use Rattle.jc_engine.specs.declared.first.First.{First}
+use Rattle.jc_engine.specs.declared.first.BeginCall.{BeginCall}
 use Rattle.jc_cache.specs.Caches.{CacheState}
 use Rattle.jc_cache.proofs.WholeCalls.{some_stripe, at_key, number_near}
 use Rattle.jc_cache.proofs.SessionPhases.{start_needs, phase_map}
@@ -19,13 +19,13 @@ phase_at-requires-clause-who g c = ap (λ first. first.caller.session) c.of-firs
 
 pub phase_at-requires-clause-needs : goal.phase_at-requires-clause-needs
 phase_at-requires-clause-needs g c a found =
-    subst (λ (p : First). BeginsIfClear p.caller p.key.now a) (sym c.of-first.ensures)
+    subst (λ (p : BeginCall). BeginsIfClear p.caller p.key.now a) (sym c.of-first.ensures)
     (start_needs c.args.self.now c.args.session.now c.args.session.now.agent.caller c.args.key.now c.stripe_of-at.result found.0 a c.requires.own c.requires.may refl
     (at_key c.args.self.now _ c.args.key.now _ (ap (λ (z : CacheState). z.config) c.self.view_is) c.stripe_of-at.ensures) found.1 found.2)
 
 pub returns : goal.returns
 returns g c =
     phase_map c.args.self.now _ c.stripe_of-at.result c.args.session.now _ _ _ _ (at_key c.args.self.now _ c.args.key.now _ (ap (λ (z : CacheState). z.config) c.self.view_is) c.stripe_of-at.ensures)
-    (λ a b m. subst (λ (p : First). StartWaits p.how p.caller p.key.now p.op.now a b) c.of-first.ensures m)
-    (λ a b m. subst (λ (p : First). StartsAt p.caller p.key.now p.op.now (begun_with c.phase_at.result c.phase_at.new.reply) a b) c.of-first.ensures m.first)
+    (λ a b m. subst (λ (p : BeginCall). StartWaits p.how p.caller p.key.now p.op.now a b) c.of-first.ensures m)
+    (λ a b m. subst (λ (p : BeginCall). StartsAt p.caller p.key.now p.op.now (begun_with c.phase_at.result c.phase_at.new.reply) a b) c.of-first.ensures m.first)
     c.phase_at.ensures

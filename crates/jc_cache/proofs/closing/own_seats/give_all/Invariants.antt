@@ -1,10 +1,10 @@
 use Rattle.std.proofs.Common.{ℕ, ◌≡◌, ◌≤◌, length, slice_get}
-use Rattle.jc_cache.specs.ClosingInside.{KeepSeats, Looks, HaveTaken}
+use Rattle.jc_cache.specs.ClosingInside.{KeepSeats, LeavesUnchanged, HaveTaken}
 use Rattle.jc_cache.proofs.closing.own_seats.give_all.Given as goal
 
 abbrev pub invariant-loop-closed : goal.invariant-loop-closed
 invariant-loop-closed l = record {
-  keeps : KeepSeats Looks l.initial.own.items l.own.items;
+  keeps : KeepSeats LeavesUnchanged l.initial.own.items l.own.items;
   taken : HaveTaken l.own.items l.stripes.items;
   most : length l.stripes.items ≤ length l.initial.stripes.items;
   rest : (i : ℕ) → length l.initial.stripes.items ≤ i → slice_get l.own.items i ≡ slice_get l.initial.own.items i;

@@ -1,11 +1,11 @@
 use Rattle.std.proofs.Common.{◌≡◌, ◌≤◌, length, vec_capacity}
 use Rattle.jc_cache.specs.Caches.{logs_of}
-use Rattle.jc_cache.specs.ClosingInside.{KeepSeats, Looks, HaveTaken}
+use Rattle.jc_cache.specs.ClosingInside.{KeepSeats, LeavesUnchanged, HaveTaken}
 use Rattle.jc_cache.proofs.closing.own_seats.take_all.Given as goal
 
 abbrev pub invariant-loop-i : goal.invariant-loop-i
 invariant-loop-i l = record {
-  keeps : KeepSeats Looks l.initial.own.items l.own.items;
+  keeps : KeepSeats LeavesUnchanged l.initial.own.items l.own.items;
   taken : HaveTaken l.own.items l.stripes.items;
   logs : logs_of l.own.items ≡ logs_of l.initial.own.items;
   long : l.i ≡ length l.stripes.items;

@@ -3,7 +3,7 @@ use Rattle.jc_stripe.specs.declared.begun.Started.{Started}
 use Rattle.jc_stripe.specs.declared.begun.Started.TheVariants as started
 use Rattle.jc_stripe.specs.Phases.{with_reply}
 use Rattle.jc_session.specs.Counting.{counts_after, counted_started}
-use Rattle.jc_engine.specs.declared.first.First.{First}
+use Rattle.jc_engine.specs.declared.first.BeginCall.{BeginCall}
 use Rattle.jc_engine.specs.declared.first.How.TheVariants.{Alone}
 use Rattle.jc_engine.specs.Doors.{HasTried}
 use Rattle.jc_engine.specs.Turns.{StartWaits}
@@ -62,6 +62,6 @@ returns-in-Err g c = record {
   agent = c.in-Err.ensures.back.1;
   phase = inr (
     refl,
-    subst (λ (p : First). HasTried g.G.Gate.takes g.G.Gate.gives g.G.Gate.finds g.G.Gate.misses c.args.self.now.agent.now.caller.session (StartWaits p.how p.caller p.key.now p.op.now) c.args.self.now.gate.now c.args.self.now.token.now c.try_lend.new.self.gate.now c.try_lend.new.self.token.now) c.of-first.ensures c.in-Err.ensures.back.2,
+    subst (λ (p : BeginCall). HasTried g.G.Gate.takes g.G.Gate.gives g.G.Gate.finds g.G.Gate.misses c.args.self.now.agent.now.caller.session (StartWaits p.how p.caller p.key.now p.op.now) c.args.self.now.gate.now c.args.self.now.token.now c.try_lend.new.self.gate.now c.try_lend.new.self.token.now) c.of-first.ensures c.in-Err.ensures.back.2,
   );
 }

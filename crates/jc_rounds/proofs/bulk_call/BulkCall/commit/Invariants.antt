@@ -1,12 +1,12 @@
 use Rattle.std.proofs.Common.{◌≡◌}
 use Rattle.jc_rounds.specs.Answers.{done_room}
 use Rattle.jc_rounds.specs.Rounds.{Round}
-use Rattle.jc_rounds.specs.Underway.{AdvancesUnnoted, IsAnswered, IsCommitting, Past}
+use Rattle.jc_rounds.specs.Underway.{AdvancesUnnoted, CallPast, IsAnswered, IsCommitting}
 use Rattle.jc_rounds.proofs.bulk_call.BulkCall.commit.Given as goal
 
 abbrev pub invariant-loop-place : goal.invariant-loop-place
 invariant-loop-place g l = record {
   advances : AdvancesUnnoted l.fn.session l.session l.fn.self l.self;
-  committed : (past : Past) (round : Round) → IsAnswered l.fn.cache past round l.fn.session l.fn.self l.fn.answers → IsCommitting l.fn.cache past round l.session l.self l.left l.place;
+  committed : (past : CallPast) (round : Round) → IsAnswered l.fn.cache past round l.fn.session l.fn.self l.fn.answers → IsCommitting l.fn.cache past round l.session l.self l.left l.place;
   room : done_room l.left ≡ done_room l.fn.answers;
 }

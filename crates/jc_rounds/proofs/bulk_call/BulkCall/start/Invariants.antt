@@ -1,12 +1,12 @@
 use Rattle.jc_rounds.specs.Starting.{HaveJoined}
 use Rattle.jc_rounds.specs.Targets.{ops_of}
-use Rattle.jc_rounds.specs.Underway.{AdvancesUnnoted, IsBetween, IsStarting, Past}
+use Rattle.jc_rounds.specs.Underway.{AdvancesUnnoted, CallPast, IsBetween, IsStarting}
 use Rattle.jc_rounds.proofs.Loops.{Held}
 use Rattle.jc_rounds.proofs.bulk_call.BulkCall.start.Given as goal
 
 abbrev pub invariant-loop-place : goal.invariant-loop-place
 invariant-loop-place g l = record {
   advances : AdvancesUnnoted l.fn.session l.session l.fn.self l.self;
-  starting : (past : Past) → IsBetween l.fn.cache past l.fn.session l.fn.self → IsStarting l.fn.cache past l.session l.self l.place × Held l.fn.cache past l.fn.session l.session l.self l.place
+  starting : (past : CallPast) → IsBetween l.fn.cache past l.fn.session l.fn.self → IsStarting l.fn.cache past l.session l.self l.place × Held l.fn.cache past l.fn.session l.session l.self l.place
       × HaveJoined past.caller l.fn.cache.config.stripes (ops_of l.self.targets.now) l.fn.session.seats.items l.session.seats.items l.self.progress.items;
 }

@@ -6,7 +6,7 @@ use Rattle.jc_rounds.proofs.bulk_call.BulkCall.start_at.Goals as goal
 
 pub start_waiting-requires-clause-waits : goal.start_waiting-requires-clause-waits
 start_waiting-requires-clause-waits g c =
-    there_by c.args.self.now.progress.items c.args.place c.index.result.now c.requires.place c.index.ensures ∙ ap Some (waiting_is c.index.result.now (sym c.is_waiting.ensures ∙ c.if-is_waiting.true))
+    there_by c.args.self.now.progress.items c.args.place c.index.result.now c.requires.place c.index.ensures ∙ ap Some (waiting_is c.index.result.now (sym c.waits_for_round.ensures ∙ c.if-waits_for_round.true))
 
 pub returns-then-has_room-clause-starting : goal.returns-then-has_room-clause-starting
 returns-then-has_room-clause-starting g c past starting =
@@ -16,16 +16,16 @@ returns-then-has_room-clause-starting g c past starting =
 pub returns-else-has_room-clause-starting : goal.returns-else-has_room-clause-starting
 returns-else-has_room-clause-starting g c past starting =
     start_else c.args.cache.now past c.args.session.now c.args.self.now c.args.place
-    (there_by c.args.self.now.progress.items c.args.place c.index.result.now c.requires.place c.index.ensures ∙ ap Some (waiting_is c.index.result.now (sym c.is_waiting.ensures ∙ c.if-is_waiting.true)))
+    (there_by c.args.self.now.progress.items c.args.place c.index.result.now c.requires.place c.index.ensures ∙ ap Some (waiting_is c.index.result.now (sym c.waits_for_round.ensures ∙ c.if-waits_for_round.true)))
     (c.has_room.ensures.full c.if-has_room.false) starting
 
-pub returns-else-is_waiting-clause-starting : goal.returns-else-is_waiting-clause-starting
-returns-else-is_waiting-clause-starting g c past starting =
+pub returns-else-waits_for_round-clause-starting : goal.returns-else-waits_for_round-clause-starting
+returns-else-waits_for_round-clause-starting g c past starting =
     start_past c.args.cache.now past c.args.session.now c.args.self.now c.args.place c.index.result.now
-    (there_by c.args.self.now.progress.items c.args.place c.index.result.now c.requires.place c.index.ensures) (sym c.is_waiting.ensures ∙ c.if-is_waiting.false) starting
+    (there_by c.args.self.now.progress.items c.args.place c.index.result.now c.requires.place c.index.ensures) (sym c.waits_for_round.ensures ∙ c.if-waits_for_round.false) starting
 
 pub returns-else-has_room-clause-advances : goal.returns-else-has_room-clause-advances
 returns-else-has_room-clause-advances g c = unnoted_itself c.args.session.now c.args.self.now
 
-pub returns-else-is_waiting-clause-advances : goal.returns-else-is_waiting-clause-advances
-returns-else-is_waiting-clause-advances g c = unnoted_itself c.args.session.now c.args.self.now
+pub returns-else-waits_for_round-clause-advances : goal.returns-else-waits_for_round-clause-advances
+returns-else-waits_for_round-clause-advances g c = unnoted_itself c.args.session.now c.args.self.now

@@ -1,4 +1,4 @@
-use Rattle.jc_snapshot.proofs.Common.{[], ◌∷◌, ◌++◌, map, refl, sym, ap, subst, ◌∙◌, essence_of, framed, flat, AreRows, IsStripeRow, IsCallRow, own_rows}
+use Rattle.jc_snapshot.proofs.Common.{[], ◌∷◌, ◌++◌, map, refl, sym, ap, subst, ◌∙◌, essence_of, framed, flat, AreRows, IsStripeRow, IsOpenCallRow, own_rows}
 use Rattle.jc_snapshot.proofs.FlatRows.{rows_stay, flat_push}
 use Rattle.jc_snapshot.proofs.StripeRows.{grows_twice, stripe_stays, call_stays}
 use Rattle.jc_snapshot.proofs.snapshot.Snapshot.of.Goals as goal
@@ -14,7 +14,7 @@ returns-clause-snapshot c =
     let ca = c.in_ok-calls.ensures.rows in
     let ow = c.in_ok-words.ensures.rows in
     let stripes = rows_stay (IsStripeRow s) (IsStripeRow u) (stripe_stays s u g) (map essence_of c.stripe_list.result.now) st.0 st.2 in
-    let calls = rows_stay (IsCallRow t) (IsCallRow u) (call_stays t u c.own_words.ensures.grows) c.calls.result.now ca.0 ca.2 in
+    let calls = rows_stay (IsOpenCallRow t) (IsOpenCallRow u) (call_stays t u c.own_words.ensures.grows) c.calls.result.now ca.0 ca.2 in
     let own = own_rows ow.0 w in
     let written =
     c.in_ok-push_row-2.ensures
@@ -25,7 +25,7 @@ returns-clause-snapshot c =
       record {
         own = record { config_is = ow.2.config_is; premises_are = ow.2.premises_are; store_is = ow.2.store_is; parts_are = ow.2.parts_are; joins_are = ow.2.joins_are };
         stripes_are = subst (λ ss. AreRows (IsStripeRow u) (map essence_of ss) st.0) c.stripe_list.ensures.stripes stripes;
-        calls_are = subst (λ us. AreRows (IsCallRow u) us ca.0) c.calls.ensures calls;
+        calls_are = subst (λ us. AreRows (IsOpenCallRow u) us ca.0) c.calls.ensures calls;
         rest_is = refl;
       },
       written,

@@ -1,4 +1,4 @@
-use Rattle.jc_world.proofs.Common.{refl, sym, ap, ◌∙◌, subst, Commits, IsOut, Reservation, Part, IsDue, is_answered, out_of}
+use Rattle.jc_world.proofs.Common.{refl, sym, ap, ◌∙◌, subst, Commits, IsOut, Reservation, Part, IsDue, is_all_answered, out_of_part}
 use Rattle.jc_stripe.specs.Phases.{with_reply}
 use Rattle.jc_world.proofs.Committing.{answered_failed, due_told}
 use Rattle.jc_world.proofs.held.HeldKey.commit_failed.Goals as goal
@@ -14,13 +14,13 @@ commit-step-requires c =
     let told = c.report-is_changed.ensures.report in
     record {
       out = subst (λ (p : Part). IsOut c.args.stripe.now p.reservation) (sym told) c.requires.out;
-      answered = ap is_answered told ∙ answered_failed c.args.self 0;
+      answered = ap is_all_answered told ∙ answered_failed c.args.self 0;
       origin = c.requires.origin;
       due = subst (IsDue c.args.stripe.now.config) (sym told) (due_told c.args.stripe.now.config c.args.self.reservation.first c.args.self.progress _ c.requires.due);
     }
 
 pub returns : goal.returns
 returns c =
-    let out = out_of c.report-is_changed.new.self in
+    let out = out_of_part c.report-is_changed.new.self in
     let r = ap (λ (p : Part). p.reservation) c.report-is_changed.ensures.report in
     (out, (with_reply c.commit-step.result c.commit-step.new.reply), subst (λ (r : Reservation). Commits c.args.stripe.now r out (with_reply c.commit-step.result c.commit-step.new.reply) c.commit-step.new.stripe) r c.commit-step.ensures)

@@ -1,4 +1,4 @@
-use Rattle.jc_world.proofs.Common.{◌≡◌, IsSomeAnd, slice_get, Some, sym, ◌∙◌, subst, AreKeys, Outcome, WorldEvent, over_of, with_found, Happens, world_of, TakesKeys, WorldState, open_call}
+use Rattle.jc_world.proofs.Common.{◌≡◌, IsSomeAnd, slice_get, Some, sym, ◌∙◌, subst, AreKeys, Outcome, WorldEvent, over_of, with_swept_keys, Happens, world_of, TakesKeys, WorldState, open_call}
 use Rattle.jc_world.proofs.StripeKeys.{look_found, look_takes}
 use Rattle.jc_world.proofs.machine.Machine.look.Goals as goal
 
@@ -17,7 +17,7 @@ returns-clause-ok c =
     let v : WorldState = world_of c.self.inside in
     let h = c.in_ok-keys.ensures in
     let k = c.in_ok-over.ensures.ok in
-    let over : c.in_ok-over.over ≡ over_of (with_found v.config.stripes c.args.stripe c.deref.result.now k.1 k.0) = cc in
+    let over : c.in_ok-over.over ≡ over_of (with_swept_keys v.config.stripes c.args.stripe c.deref.result.now k.1 k.0) = cc in
     let next = world_of (record c.self.inside { calls = c.look.new.calls }) in
     let R : WorldState → Type 0 = λ x. Happens x (WorldEvent.Look c.args.call c.args.stripe) c.show_end.new.seen next in
     let S : WorldState → Type 0 = λ x. slice_get x.stripes c.args.stripe ≡ Some h.0 in

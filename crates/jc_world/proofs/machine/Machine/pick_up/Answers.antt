@@ -1,4 +1,4 @@
-use Rattle.jc_world.proofs.Common.{◌≡◌, true, Some, sym, refl, ap, ◌∙◌, subst, get, insert, remove, JoinClaim, Picked, polled_with, JoinAnswer, WorldEvent, settle, over_settled, fits, joins_of, world_of, IsSoundWorld, IsQuietPhase, JoinKey, join_key, Joins, WorldState, join_of, has_joined}
+use Rattle.jc_world.proofs.Common.{◌≡◌, true, Some, sym, refl, ap, ◌∙◌, subst, get, insert, remove, JoinClaim, Picked, polled_with, JoinAnswer, WorldEvent, settle, over_settled, fits, joins_of, world_of, IsSoundWorld, IsQuietPhase, JoinKey, join_key, Joins, WorldState, join_of, has_join}
 use Rattle.jc_world.proofs.Maps.{joins_ordered, get-gone, insert-back}
 use Rattle.jc_world.proofs.Phased.{changed_from, PicksAs, joiner_at, picked_answer, picked_again, picked_nothing, Changed, shown_as}
 use Rattle.jc_world.proofs.machine.Machine.pick_up.Goals.{After-take_join-join, After-pick_up}
@@ -34,7 +34,7 @@ restored before after next at join back there left put same own = put ∙ (λ i.
 pub take_join-join-requires : goal.take_join-join-requires
 take_join-join-requires c =
     let F : WorldState → Type 0 = λ w. fits w (WorldEvent.PickUp c.args.call c.args.key.now) ≡ true in
-    ap (λ m. has_joined m c.args.call c.args.key.now) c.in_ok-make_join_room.ensures.joins ∙ subst F (sym c.self.view_is) c.requires.fits
+    ap (λ m. has_join m c.args.call c.args.key.now) c.in_ok-make_join_room.ensures.joins ∙ subst F (sym c.self.view_is) c.requires.fits
 
 pub pick_up-requires : goal.pick_up-requires
 pick_up-requires c =

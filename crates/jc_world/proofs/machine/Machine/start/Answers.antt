@@ -1,4 +1,4 @@
-use Rattle.jc_world.proofs.Common.{◌≡◌, ℕ, true, cond, IsSomeAnd, slice_get, Some, find, option_copied, sym, refl, ap, ◌∙◌, subst, subst₂, get, insert, stripe_of, Caller, MayBegin, TicketClaim, new_part, new_progress, Outcome, WorldEvent, puts_off, has_number, settle, over_settled, not_over, BeginsAs, fits, world_of, IsSoundWorld, OrderedStripes, IsPhase, join_key, WorldState, open_call, rules}
+use Rattle.jc_world.proofs.Common.{◌≡◌, ℕ, true, cond, IsSomeAnd, slice_get, Some, find, option_copied, sym, refl, ap, ◌∙◌, subst, subst₂, get, insert, stripe_of, Caller, MayBegin, TicketClaim, new_part, new_progress, Outcome, WorldEvent, keeps_open, has_number, settle, over_settled, not_over, BeginsAs, fits, world_of, IsSoundWorld, OrderedStripes, IsPhase, join_key, WorldState, open_call, rules}
 use Rattle.jc_stripe.specs.Phases.{begun_with, with_reply}
 use Rattle.jc_stripe.specs.declared.begun.Started.{Started}
 use Rattle.jc_stripe.specs.declared.begun.Started.TheVariants as started
@@ -96,8 +96,8 @@ returns-in-Refused-clause-ok c =
     let next = world_of (record c.self.inside { stripes = c.begin.new.self; calls = c.refuse.new.calls; held = c.make_room.new.held; joins = c.make_join_room.new.joins }) in
     shown_as _ v next (WorldEvent.Start c.args.call key) _ _ c.self.view_is refl
     (started_refused v next c.args.call key _ _ refusal c.refuse.new.seen _ _ c.refuse.new.calls.items p
-    (c.refuse.ensures.shown ∙ (λ i. cond (puts_off (c.kind-kind.ensures i) refusal) (not_over (Outcome.PutOff refusal)) (record { outcome = Outcome.Refused refusal; over = over_settled (c.caller-caller.ensures i).call key (Some refusal) v.calls })))
-    (c.refuse.ensures.calls ∙ (λ i. cond (puts_off (c.kind-kind.ensures i) refusal) v.calls (settle (c.caller-caller.ensures i).call key (Some refusal) v.calls)))
+    (c.refuse.ensures.shown ∙ (λ i. cond (keeps_open (c.kind-kind.ensures i) refusal) (not_over (Outcome.PutOff refusal)) (record { outcome = Outcome.Refused refusal; over = over_settled (c.caller-caller.ensures i).call key (Some refusal) v.calls })))
+    (c.refuse.ensures.calls ∙ (λ i. cond (keeps_open (c.kind-kind.ensures i) refusal) v.calls (settle (c.caller-caller.ensures i).call key (Some refusal) v.calls)))
     (λ i. record v { stripes = c.begin.new.self.stripes; order = c.begin.new.self.order; calls = c.refuse.new.calls.items; parts = c.in_ok-make_room.ensures.parts i; joins = c.in_ok-make_join_room.ensures.joins i }))
 
 pub returns-in-Joined-clause-ok : goal.returns-in-Joined-clause-ok

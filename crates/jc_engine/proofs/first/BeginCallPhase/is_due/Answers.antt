@@ -1,5 +1,5 @@
 use Rattle.std.proofs.Common.{◌∙◌, sym}
-use Rattle.jc_engine.proofs.first.FirstPhase.is_due.Goals as goal
+use Rattle.jc_engine.proofs.first.BeginCallPhase.is_due.Goals as goal
 
 pub returns : goal.returns
 returns c = (λ so. sym c.can_start.ensures ∙ so, λ so. c.can_start.ensures ∙ so)

@@ -3,7 +3,7 @@ use Rattle.jc_rounds.specs.Answers.{AreAnswers}
 use Rattle.jc_rounds.specs.Rounds.{ProcessAll}
 use Rattle.jc_rounds.proofs.Answering.{processes_over}
 use Rattle.jc_rounds.proofs.OutsideCalls.{none_long}
-use Rattle.jc_rounds.proofs.answers.Answers.into_runs.Goals as goal
+use Rattle.jc_rounds.proofs.answers.RoundAnswers.into_runs.Goals as goal
 
 pub destroy_empty-requires : goal.destroy_empty-requires
 destroy_empty-requires c =

@@ -1,6 +1,6 @@
 use Rattle.jc_shell.proofs.Common.{◌≡◌, ◌∙◌, [], refl, sym, help_text, word_of, Help, Line}
 use Rattle.jc_shell.proofs.Turns.{saves_none}
-use Rattle.jc_shell.proofs.session.Session.answer.Goals as goal
+use Rattle.jc_shell.proofs.session.Dialogue.answer.Goals as goal
 
 pub returns-in_ok-put-in-Help-clause-answered : goal.returns-in_ok-put-in-Help-clause-answered
 returns-in_ok-put-in-Help-clause-answered g c =

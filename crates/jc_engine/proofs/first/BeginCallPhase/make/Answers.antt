@@ -4,7 +4,7 @@ use Rattle.jc_stripe.specs.Phases.{Begins, begun_with}
 use Rattle.jc_session.proofs.CallerLemmas.{counted_with}
 use Rattle.jc_engine.specs.Needs.{puts_off}
 use Rattle.jc_engine.proofs.Beginning.{may-start, asks-nobody}
-use Rattle.jc_engine.proofs.first.FirstPhase.make.Goals as goal
+use Rattle.jc_engine.proofs.first.BeginCallPhase.make.Goals as goal
 
 pub begin-started-requires : goal.begin-started-requires
 begin-started-requires c = record { begins = may-start c.caller_numbers.ensures c.args.self.how c.args.stripe.now c.args.self.caller c.args.self.key.now c.args.self.op.now c.requires.due c.requires.needs }

@@ -1,7 +1,7 @@
 use Rattle.std.proofs.Common.{subst, []}
 use Rattle.jc_rounds.specs.Answers.{AreAnswers}
 use Rattle.jc_rounds.proofs.Answering.{processes_over}
-use Rattle.jc_rounds.proofs.answers.Answers.end.Goals as goal
+use Rattle.jc_rounds.proofs.answers.RoundAnswers.end.Goals as goal
 
 pub destroy_empty-requires-in-Processes : goal.destroy_empty-requires-in-Processes
 destroy_empty-requires-in-Processes c = let r = c.requires in (processes_over r.0 r.1 _ _ _ (subst (λ a. AreAnswers r.0 r.1 a []) c.in-Processes.is r.2)).0

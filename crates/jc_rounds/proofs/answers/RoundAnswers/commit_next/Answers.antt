@@ -5,7 +5,7 @@ use Rattle.jc_stripe.specs.Phases.{with_reply}
 use Rattle.jc_rounds.specs.Answers.{AreAnswers, IsReportedOn, TakesReport, done_room}
 use Rattle.jc_rounds.proofs.Answering.{loads_next, processes_next, report_due, run_done, run_over, writes_next}
 use Rattle.jc_rounds.proofs.KeyCalls.{commit_told}
-use Rattle.jc_rounds.proofs.answers.Answers.commit_next.Goals as goal
+use Rattle.jc_rounds.proofs.answers.RoundAnswers.commit_next.Goals as goal
 
 pub next_report-report-requires : goal.next_report-report-requires
 next_report-report-requires g c =
