@@ -9,45 +9,20 @@
 --     tries_to         a call that waits for nobody: its first phase
 --     was_busy         the same, if it wasn't made
 --     tried_left       the same, either way
-use Rattle.std.proofs.Common.{◌≡◌, ◌&&◌, ◌≤◌, ◌+◌, ◌++◌, ⊎_elim, inl, inr, ℕ, zero, suc, Bool, true, false, if◌then◌else◌, nat_lt, Option, None, Some, is_none, Result, Ok, Err, List, [], length, slice_get, refl, sym, ap, subst, ◌∙◌, arith}
-use Rattle.std.proofs.lemmas.Bool.{true≢false}
+use Rattle.jc_cache.proofs.Common.{◌≡◌, ◌&&◌, ◌≤◌, ◌+◌, ◌++◌, ⊎_elim, inl, inr, ℕ, zero, suc, Bool, true, false, if◌then◌else◌, nat_lt, Option, None, Some, is_none, Result, Ok, Err, List, [], length, slice_get, refl, sym, ap, subst, ◌∙◌, arith, true≢false, Caller, Refusal, Bytes, entry_at, Event, Step, Op, Get, Invoke, Out, Reply, State, reservation_of, whole_history, whole_place, GainsOwn, IsPhaseOf, AddsOwn, StepsBehind, may_come_all, after_commit, Reservation, call_below, may_in_all, put_off_or_full, View, prefix-refl, prefix-trans, PhaseLaws, HasTried, Misses, EndsBy, IsCallRow, StartWaits, committing, picking, state_decided, state_found, state_of_step, trying, Starts, Keeps, all_map, begun_row, commits_phase, next_place, picks_phase, row_split, shown_same, starts_phase, waited_keeps, HasSeen, HasMade, IsBusyAt, SeatAfter, SeatTried, TriesTo, WasBusy, IsMadeIn}
 use mathlib.Core.List.{IsPrefix}
-use Rattle.jc_types.specs.declared.caller.Caller.{Caller}
-use Rattle.jc_types.specs.declared.refusal.Refusal.{Refusal}
 use Rattle.jc_types.specs.declared.refusal.Refusal.TheVariants as refusal
 use Rattle.jc_types.specs.Refusals.{is_put_off}
-use Rattle.jc_model.specs.Cache.{Bytes, entry_at}
 use Rattle.jc_model.specs.Group.{nothing_said}
-use Rattle.jc_model.specs.declared.event.Event.{Event}
-use Rattle.jc_model.specs.declared.event.Event.TheVariants.{Step}
-use Rattle.jc_model.specs.declared.event.Op.{Op}
-use Rattle.jc_model.specs.declared.event.Op.TheVariants.{Get, Invoke}
-use Rattle.jc_model.specs.declared.event.Out.{Out}
-use Rattle.jc_model.specs.declared.event.Reply.{Reply}
-use Rattle.jc_stripe.specs.State.{State, reservation_of}
-use Rattle.jc_stripe.specs.Generations.{whole_history, whole_place}
 use Rattle.jc_stripe.specs.Tickets.{TicketClaim, JoinClaim}
 use Rattle.jc_stripe.specs.Refusals.{first_asked, first_refusal, last_number, load_at, load_joined, may_join}
-use Rattle.jc_stripe.specs.OnePhase.{GainsOwn, IsPhaseOf}
-use Rattle.jc_stripe.specs.OwnSteps.{AddsOwn, StepsBehind, may_come_all}
-use Rattle.jc_stripe.specs.Phases.{after_commit}
 use Rattle.jc_stripe.specs.Tests.{asks_outside}
 use Rattle.jc_stripe.specs.Outcomes.{Begun, StepDone}
 use Rattle.jc_stripe.specs.Outcomes as begun
 use Rattle.jc_stripe.specs.Polled as polled
-use Rattle.jc_stripe.specs.declared.ticket.Reservation.{Reservation}
-use Rattle.jc_stripe.proofs.CallerLemmas.{call_below, may_in_all, put_off_or_full}
-use Rattle.jc_lock.specs.declared.view.View.{View}
-use Rattle.jc_lock.proofs.CallerLemmas.{prefix-refl, prefix-trans}
-use Rattle.jc_engine.specs.Rows.{PhaseLaws}
-use Rattle.jc_engine.specs.Doors.{HasTried, Misses}
-use Rattle.jc_engine.specs.Turns.{EndsBy, IsCallRow, StartWaits, committing, picking, state_decided, state_found, state_of_step, trying}
 use Rattle.jc_engine.specs.declared.first.How.TheVariants.{Alone, Waits}
-use Rattle.jc_engine.specs.Needs.{Starts}
 use Rattle.jc_engine.specs.MadeIn.{IsNext}
 use Rattle.jc_engine.specs.Calls.{IsTried, TriesTo as Tries}
-use Rattle.jc_engine.proofs.CallerLemmas.{Keeps, all_map, begun_row, commits_phase, next_place, picks_phase, row_split, shown_same, starts_phase, waited_keeps}
-use Rattle.jc_cache.specs.Fronts.{HasSeen, HasMade, IsBusyAt, SeatAfter, SeatTried, TriesTo, WasBusy, IsMadeIn}
 use Rattle.jc_cache.proofs.Lendings.{lock_takes, lock_gives, lock_finds, lock_misses, Lending, LockRow, HasGrown, added, all_seen, earlier, front_grows, front_on, gained, grown_behind, kept, last_lent, longer_on, row_left, row_seen, seat_itself, seen_on, turn_lent}
 
 -- 1. First phases.

@@ -3,13 +3,7 @@
 --     holds_nothing   a session of a cache holds nothing between two calls
 --     after_asking    a session whose agent has asked outside, and has kept all but its hands, is of its cache as before
 pub use Rattle.jc_cache.proofs.SessionPhases.{holds_nothing}
-use Rattle.std.proofs.Common.{◌≡◌, Option, option_map, ap}
-use Rattle.std.specs.declared.dyn_box.DynBox.{DynBox}
-use Rattle.jc_outside.specs.Calling.{KeepsType}
-use Rattle.jc_session.specs.declared.agent.Agent.{Agent}
-use Rattle.jc_session.specs.declared.session.Session.{Session}
-use Rattle.jc_cache.specs.Caches.{CacheState}
-use Rattle.jc_cache.specs.Sessions.{IsOf}
+use Rattle.jc_cache.proofs.Common.{◌≡◌, Option, option_map, ap, DynBox, KeepsType, Agent, Session, CacheState, IsOf}
 use Rattle.jc_cache.proofs.Seats.{keeps_some}
 use Rattle.jc_cache.proofs.SessionPhases.{of_asked}
 

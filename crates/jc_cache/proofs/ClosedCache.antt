@@ -4,27 +4,13 @@
 --     ended          a cache all of whose stripes were taken
 --     closed         the same, and whose sessions were joined
 --     as_it_was, back, why_ended, why    an owner who is handed back, and why
-use Rattle.std.proofs.Common.{append_assoc, ◌++◌, append-nil, le_refl, ◌≡◌, ◌⊎◌, ⊎_elim, inl, inr, ◌∙◌, ◌<◌, ℕ, suc, List, [], ◌∷◌, length, Some, refl, sym, ap, subst, subst₂, arith}
-use Rattle.std.proofs.lemmas.Option.{slice_get_within, get_or_from_slice_get}
+use Rattle.jc_cache.proofs.Common.{append_assoc, ◌++◌, append-nil, le_refl, ◌≡◌, ◌⊎◌, ⊎_elim, inl, inr, ◌∙◌, ◌<◌, ℕ, suc, List, [], ◌∷◌, length, Some, refl, sym, ap, subst, subst₂, arith, slice_get_within, get_or_from_slice_get, slice_get, All, AllZip, TableId, Config, Refusal, Event, State, IsChain, IsOfSameStripe, prefix-refl, same_itself, Session, Log, CacheOwnerState, log_of, noted_by, fronts_of, logs_of, IsOwnSeat, IsWhole, AreClosed, AreIdle, HasFront, HasFoundHeld, IsInUse, HasOnlyLooked, HasTakenOver, IsTakenAs, all_lent, lent_at, IsClosed, IsClosedAt, IsCloseRefusal, IsEndRefusal, IsHandedBack, KeepsSeat, KeepSeats, LeavesUnchanged, Whatever, IsFreeSeat, IsRowRefusal, HasTaken, HaveTaken}
 use Rattle.std.proofs.lemmas.List.Concat.{flat_map-append}
 use Rattle.std.specs.FinMap.{from_entries}
-use Rattle.std.specs.List.{slice_get, All, AllZip}
 use mathlib.Core.List.{IsPrefix}
-use Rattle.atomic_table.specs.Seated.{TableId}
-use Rattle.jc_types.specs.declared.config.Config.{Config}
-use Rattle.jc_types.specs.declared.refusal.Refusal.{Refusal}
 use Rattle.jc_types.specs.declared.refusal.Refusal.TheVariants.{OutOfMemory}
 use Rattle.jc_model.specs.Legal.{Legal, IsHistory}
-use Rattle.jc_model.specs.declared.event.Event.{Event}
-use Rattle.jc_stripe.specs.State.{State}
 use Rattle.jc_stripe.specs.Laws.{ReachedIsLegal}
-use Rattle.jc_stripe.specs.Generations.{IsChain, IsOfSameStripe}
-use Rattle.jc_lock.proofs.CallerLemmas.{prefix-refl, same_itself}
-use Rattle.jc_session.specs.declared.session.Session.{Session}
-use Rattle.jc_cache.specs.Caches.{Log, CacheOwnerState, log_of, noted_by, fronts_of, logs_of}
-use Rattle.jc_cache.specs.CacheInside.{IsOwnSeat, IsWhole}
-use Rattle.jc_cache.specs.Closing.{AreClosed, AreIdle, HasFront, HasFoundHeld, IsInUse, HasOnlyLooked, HasTakenOver, IsTakenAs, all_lent, lent_at, IsClosed, IsClosedAt, IsCloseRefusal, IsEndRefusal, IsHandedBack}
-use Rattle.jc_cache.specs.ClosingInside.{KeepsSeat, KeepSeats, LeavesUnchanged, Whatever, IsFreeSeat, IsRowRefusal, HasTaken, HaveTaken}
 use Rattle.jc_cache.proofs.Rows.{Seated, length_locks, seat_there}
 use Rattle.jc_cache.proofs.Noted.{log_there, noted_there, handed_back}
 use Rattle.jc_cache.proofs.ClosingSeats.{keep_locks, keep_at, free_at, lent_there, taken_at}

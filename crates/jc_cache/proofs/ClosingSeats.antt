@@ -13,22 +13,10 @@
 --     popped_at, popped_done, popped_long   the last seat of a session that is left
 --     no_front, join_near, join_there, join_step    it is joined
 --     brought_push                          what one session more brings
-use Rattle.std.proofs.Common.{append-nil, le_refl, ◌≡◌, ◌∙◌, ◌<◌, ◌≤◌, ◌+◌, inl, ℕ, zero, suc, true, List, [], ◌∷◌, ◌++◌, length, map, set, get_or, Option, Some, refl, sym, ap, subst, subst₂, append_assoc, length-append, arith}
-use Rattle.std.proofs.lemmas.List.{length-map, map-append}
-use Rattle.std.proofs.lemmas.Option.{none-some, same_Some, slice_get_read, slice_get_within}
-use Rattle.std.specs.List.{slice_get}
+use Rattle.jc_cache.proofs.Common.{append-nil, le_refl, ◌≡◌, ◌∙◌, ◌<◌, ◌≤◌, ◌+◌, inl, ℕ, zero, suc, true, List, [], ◌∷◌, ◌++◌, length, map, set, get_or, Option, Some, refl, sym, ap, subst, subst₂, append_assoc, length-append, arith, length-map, map-append, none-some, same_Some, slice_get_read, slice_get_within, slice_get, TableId, State, IsIdle, whole_history, Finds, IsPhaseBy, IsTurnBy, after_give, after_join, after_take, View, prefix-refl, prefix-trans, same_itself, same_at, same_on, AllLend, lent_at, KeepsSeat, KeepSeats, LeavesUnchanged, Whatever, IsFreeSeat, HasTaken, HaveTaken, AreAtLocks}
 use mathlib.Core.List.{IsPrefix}
 use mathlib.Core.Logic.{dite}
 use native.Mathlib.Decide.{ℕ_discrete}
-use Rattle.atomic_table.specs.Seated.{TableId}
-use Rattle.jc_stripe.specs.State.{State, IsIdle}
-use Rattle.jc_stripe.specs.Generations.{whole_history}
-use Rattle.jc_lock.specs.Views.{Finds, IsPhaseBy, IsTurnBy, after_give, after_join, after_take}
-use Rattle.jc_lock.specs.declared.view.View.{View}
-use Rattle.jc_lock.proofs.CallerLemmas.{prefix-refl, prefix-trans, same_itself, same_at, same_on}
-use Rattle.jc_engine.specs.Rows.{AllLend}
-use Rattle.jc_cache.specs.Closing.{lent_at}
-use Rattle.jc_cache.specs.ClosingInside.{KeepsSeat, KeepSeats, LeavesUnchanged, Whatever, IsFreeSeat, HasTaken, HaveTaken, AreAtLocks}
 use Rattle.jc_cache.proofs.Rows.{Seated, locks_of, length_locks, seat_there, lock_there}
 
 -- 1. The same seats.

@@ -3,24 +3,10 @@
 --     turn_of          a generation was ended, or the stripe is as it was
 --     ended_seen       the seat has seen what it had seen
 --     ended_may        the session may call as before
-use Rattle.std.proofs.Common.{◌≡◌, ℕ, inl, inr, ⊎_elim, List, [], ◌∷◌, set, slice_get, Option, Some, None, Result, Ok, Err, IfOk, IfErr, ◌++◌, refl, sym, ap, subst, ◌∙◌, arith}
+use Rattle.jc_cache.proofs.Common.{◌≡◌, ℕ, inl, inr, ⊎_elim, List, [], ◌∷◌, set, slice_get, Option, Some, None, Result, Ok, Err, IfOk, IfErr, ◌++◌, refl, sym, ap, subst, ◌∙◌, arith, same_Some, Event, State, Renewal, Renews, StaysOrRenews, EndsGeneration, Finds, after_give, after_take, own_steps_of, View, present_generation, prefix-trans, same_on, CacheState, HasSeen, IsEndOf, KeepRow, MayCall, Session}
 use mathlib.Core.List.{IsPrefix}
 use mathlib.Core.Logic.{dite}
 use native.Mathlib.Decide.{ℕ_discrete}
-use Rattle.std.proofs.lemmas.Option.{same_Some}
-use Rattle.jc_model.specs.declared.event.Event.{Event}
-use Rattle.jc_stripe.specs.State.{State}
-use Rattle.jc_stripe.specs.Renewal.{Renewal, Renews, StaysOrRenews, EndsGeneration}
-use Rattle.jc_lock.specs.Views.{Finds, after_give, after_take, own_steps_of}
-use Rattle.jc_lock.specs.declared.view.View.{View}
-use Rattle.jc_stripe.specs.Generations.{present_generation}
-use Rattle.jc_lock.proofs.CallerLemmas.{prefix-trans, same_on}
-use Rattle.jc_cache.specs.Caches.{CacheState}
-use Rattle.jc_cache.specs.Fronts.{HasSeen}
-use Rattle.jc_cache.specs.Generations.{IsEndOf}
-use Rattle.jc_cache.specs.Meeting.{KeepRow}
-use Rattle.jc_cache.specs.Sessions.{MayCall}
-use Rattle.jc_session.specs.declared.session.Session.{Session}
 use Rattle.jc_cache.proofs.Lendings.{seen_itself}
 use Rattle.jc_cache.proofs.Meetings.{got_set, got_other, row_set, may_stay, refreshed_seen}
 use Rattle.jc_cache.proofs.Rows.{Seated}

@@ -1,14 +1,8 @@
 -- Sessions that are given out one after another.
 --     given_next    one more was
-use Rattle.std.proofs.Common.{◌≡◌, ◌∙◌, ◌+◌, ◌++◌, ℕ, List, [], ◌∷◌, length, sym, ap, subst, length-append, arith}
-use Rattle.std.proofs.lemmas.List.{map-append}
-use Rattle.std.proofs.lemmas.List.Elements.{All-push}
-use Rattle.std.specs.List.{All}
+use Rattle.jc_cache.proofs.Common.{◌≡◌, ◌∙◌, ◌+◌, ◌++◌, ℕ, List, [], ◌∷◌, length, sym, ap, subst, length-append, arith, map-append, All-push, All, Session, CacheOwnerState, BeginsAt, IsGivenOut, MayCall}
 use Rattle.jc_outside.specs.declared.hands.Outside.{Outside}
-use Rattle.jc_session.specs.declared.session.Session.{Session}
-use Rattle.jc_cache.specs.Caches.{CacheOwnerState}
 use Rattle.jc_cache.specs.Enlisting.{AreGivenOut, HaveNumbers}
-use Rattle.jc_cache.specs.Sessions.{BeginsAt, IsGivenOut, MayCall}
 
 numbered_next : {I J : Type 0} {D : I → Type 0} {E : J → Type 0} (number last : ℕ) (sessions : List (Session I J D E)) (session : Session I J D E) → HaveNumbers number sessions
     → last ≡ number + length sessions → session.agent.caller ≡ record { session = last; call = 0 } → HaveNumbers number (sessions ++ session ∷ [])

@@ -3,14 +3,8 @@
 --     nothing_more         a list of which another one is a prefix, and which is as long
 --     at_number            a number below the last one is the count
 --     generations_follow   the law
-use Rattle.std.proofs.Common.{◌≡◌, ◌+◌, ◌<◌, ℕ, List, [], ◌∷◌, ◌++◌, length, min, sym, ap, ◌∙◌, append_assoc, append-nil, length-append, arith}
-use Rattle.std.proofs.lemmas.Bool.Decides.{nat_tests}
+use Rattle.jc_cache.proofs.Common.{◌≡◌, ◌+◌, ◌<◌, ℕ, List, [], ◌∷◌, ◌++◌, length, min, sym, ap, ◌∙◌, append_assoc, append-nil, length-append, arith, nat_tests, LAST_NUMBER, Event, State, Generation, past_events, present_generation, GenerationsFollow}
 use mathlib.Core.List.{IsPrefix}
-use Rattle.jc_types.specs.declared.limits.TheConstants.{LAST_NUMBER}
-use Rattle.jc_model.specs.declared.event.Event.{Event}
-use Rattle.jc_stripe.specs.State.{State, Generation}
-use Rattle.jc_stripe.specs.Generations.{past_events, present_generation}
-use Rattle.jc_cache.specs.Generations.{GenerationsFollow}
 
 past_snoc : (gs : List Generation) (g : Generation) → past_events (gs ++ g ∷ []) ≡ past_events gs ++ g.history
 past_snoc [] g = append-nil g.history

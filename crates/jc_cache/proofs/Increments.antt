@@ -3,41 +3,19 @@
 --     next_later     the place of a step is the next one of its state in a longer history too
 --     sets_next      THE LEMMA: the step of a call that returned a value, whose processor set a value that comes next after the entry of the
 --                    state in which the step was made, sets the next value in every later state of the stripe
-use Rattle.std.specs.declared.dyn_box.DynBox.{DynBox}
-use Rattle.std.proofs.Common.{◌≡◌, ◌&&◌, ⊎_elim, inl, inr, ℕ, zero, suc, List, [], ◌∷◌, ◌++◌, length, Bool, true, false, Option, None, Some, is_none, Result, Ok, MatchBool, slice_get, refl, sym, ap, subst, ◌∙◌}
+use Rattle.jc_cache.proofs.Common.{DynBox, ◌≡◌, ◌&&◌, ⊎_elim, inl, inr, ℕ, zero, suc, List, [], ◌∷◌, ◌++◌, length, Bool, true, false, Option, None, Some, is_none, Result, Ok, MatchBool, slice_get, refl, sym, ap, subst, ◌∙◌, and_parts, Config, Caller, Refusal, Bytes, entry_at, Event, Step, Invoke, Out, Reply, LoadRelation, WriteRelation, State, whole_history, IsOfSameStripe, View, prefix-trans, same_on, Session, CacheState, next_call, state_decided, call_in, IsAskedFor, IsBetween}
 use Rattle.std.specs.Bool.{beq}
-use Rattle.std.proofs.lemmas.Bool.{and_parts}
 use mathlib.Core.List.{IsPrefix}
-use Rattle.jc_types.specs.declared.config.Config.{Config}
-use Rattle.jc_types.specs.declared.caller.Caller.{Caller}
-use Rattle.jc_types.specs.declared.refusal.Refusal.{Refusal}
-use Rattle.jc_model.specs.Cache.{Bytes, entry_at}
 use Rattle.jc_model.specs.Table.{first_fault, is_process_given, reply_by_fault}
 use Rattle.jc_model.specs.declared.event.Effect.TheVariants.{Set}
-use Rattle.jc_model.specs.declared.event.Event.{Event}
-use Rattle.jc_model.specs.declared.event.Event.TheVariants.{Step}
-use Rattle.jc_model.specs.declared.event.Op.TheVariants.{Invoke}
-use Rattle.jc_model.specs.declared.event.Out.{Out}
 use Rattle.jc_model.specs.declared.event.ProcessAnswer.TheVariants.{Ended}
-use Rattle.jc_model.specs.declared.event.Reply.{Reply}
 use Rattle.jc_model.specs.declared.event.Reply.TheVariants.{Value}
 use Rattle.jc_model.specs.declared.processor.EntryCall.{EntryCall}
 use Rattle.jc_model.specs.declared.processor.EntryAnswer.{EntryAnswer}
-use Rattle.jc_outside.specs.Calling.{LoadRelation, WriteRelation}
 use Rattle.jc_mutentry.specs.Running.{IsRun, ProcessRelation, RunsOnce}
-use Rattle.jc_stripe.specs.State.{State}
-use Rattle.jc_stripe.specs.Generations.{whole_history, IsOfSameStripe}
-use Rattle.jc_lock.specs.declared.view.View.{View}
-use Rattle.jc_lock.proofs.CallerLemmas.{prefix-trans, same_on}
 use Rattle.jc_engine.specs.MadeIn.{IsNext}
 use Rattle.jc_engine.specs.Increments.{EventsByTable, IsByTable, SetsNext}
-use Rattle.jc_session.specs.declared.session.Session.{Session}
-use Rattle.jc_cache.specs.Caches.{CacheState}
 use Rattle.jc_cache.specs.Calls.{Invoked}
-use Rattle.jc_session.specs.Sessions.{next_call}
-use Rattle.jc_engine.specs.Turns.{state_decided}
-use Rattle.jc_engine.proofs.CallerLemmas.{call_in}
-use Rattle.jc_cache.specs.Fronts.{IsAskedFor, IsBetween}
 
 -- 1. A processor's step.
 

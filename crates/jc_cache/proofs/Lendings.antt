@@ -13,25 +13,9 @@
 --     front_grows                 the front continues the whole history of the state that was found
 --     kept, added                 a phase that leaves the own steps, and one that adds its step
 --     HasGrown, gained            one that gains an own step, whose place in the history is known alone
-use Rattle.std.proofs.Common.{◌≡◌, ◌≤◌, ◌⊎◌, inl, ℕ, false, Option, Some, List, [], ◌∷◌, ◌++◌, length, slice_get, refl, sym, ap, subst, ◌∙◌, append_assoc, append-nil, arith, le_refl}
-use Rattle.std.proofs.lemmas.List.{length-append}
+use Rattle.jc_cache.proofs.Common.{◌≡◌, ◌≤◌, ◌⊎◌, inl, ℕ, false, Option, Some, List, [], ◌∷◌, ◌++◌, length, slice_get, refl, sym, ap, subst, ◌∙◌, append_assoc, append-nil, arith, le_refl, length-append, Event, State, past_events, whole_history, whole_place, IsOfSameStripe, Renews, all_own_steps, IsReached, IsPhaseOf, IsUniform, GainsOwn, own_steps, AddsOwn, HasOneMore, whole_goes_on, own_stay, adds_whole, gains_whole, View, Finds, after_take, after_give, after_miss, own_steps_of, prefix-refl, prefix-trans, same_itself, same_on, AllLend, IsTurn, PhaseLaws, Row, Turn, Keeps, all_append, all_map, all_split, lent_grows, row_split, IsBetween, IsSameSeat, HasSeen, HasAllSeen, HasMade, HasLent}
 use mathlib.Core.List.{IsPrefix}
-use Rattle.jc_model.specs.declared.event.Event.{Event}
-use Rattle.jc_stripe.specs.State.{State}
-use Rattle.jc_stripe.specs.Generations.{past_events, whole_history, whole_place, IsOfSameStripe}
-use Rattle.jc_stripe.specs.Renewal.{Renews, all_own_steps}
-use Rattle.jc_stripe.specs.Reached.{IsReached}
-use Rattle.jc_stripe.specs.OnePhase.{IsPhaseOf, IsUniform, GainsOwn, own_steps}
-use Rattle.jc_stripe.specs.OwnSteps.{AddsOwn, HasOneMore}
-use Rattle.jc_stripe.proofs.CallerLemmas.{whole_goes_on, own_stay, adds_whole, gains_whole}
-use Rattle.jc_lock.specs.declared.view.View.{View}
-use Rattle.jc_lock.specs.Views.{Finds, after_take, after_give, after_miss, own_steps_of}
-use Rattle.jc_lock.proofs.CallerLemmas.{prefix-refl, prefix-trans, same_itself, same_on}
 use Rattle.jc_gate.specs.Lending.{Lends}
-use Rattle.jc_engine.specs.Rows.{AllLend, IsTurn, PhaseLaws, Row, Turn}
-use Rattle.jc_engine.proofs.CallerLemmas.{Keeps, all_append, all_map, all_split, lent_grows, row_split}
-use Rattle.jc_cache.specs.Fronts.{IsBetween, IsSameSeat, HasSeen, HasAllSeen, HasMade}
-use Rattle.jc_cache.specs.Turns.{HasLent}
 
 -- 1. The gate of a lock.
 

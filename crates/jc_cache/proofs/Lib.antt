@@ -1,3 +1,4 @@
+pub mod Common
 pub mod Lendings
 pub mod Seats
 pub mod CallEnds

@@ -8,28 +8,10 @@
 --     there_row                   the seat at a place of a row of a session's seats
 --     teller_seen, hearer_seen    each seat of a row has seen what it had seen
 --     may_stay, teller_may, hearer_may    a session whose seats have seen more may call as before
-use Rattle.std.proofs.Common.{◌≡◌, ◌+◌, ◌<◌, ◌≤◌, ℕ, zero, suc, true, false, Some, IsSome, List, [], ◌∷◌, length, set, get_or, slice_get, refl, sym, ap, subst, subst₂, ◌∙◌, le_refl, arith}
-use Rattle.std.proofs.lemmas.Option.{same_Some, slice_get_read, slice_get_within}
-use Rattle.std.specs.List.{list_all}
+use Rattle.jc_cache.proofs.Common.{◌≡◌, ◌+◌, ◌<◌, ◌≤◌, ℕ, zero, suc, true, false, Some, IsSome, List, [], ◌∷◌, length, set, get_or, slice_get, refl, sym, ap, subst, subst₂, ◌∙◌, le_refl, arith, same_Some, slice_get_read, slice_get_within, list_all, TableId, Event, is_before_call, State, IsOfSameStripe, Finds, after_give, after_join, after_take, front_note, own_steps_of, View, prefix-refl, same_itself, one_more, Agent, CacheState, HasSeen, HasLent, TellsAt, TellEach, IsSessionSeat, AreSessionSeats, KeepRow, IsSeatAt, MayCall, capped_steps, Session}
 use mathlib.Core.List.{IsPrefix}
 use mathlib.Core.Logic.{dite}
 use native.Mathlib.Decide.{ℕ_discrete}
-use Rattle.atomic_table.specs.Seated.{TableId}
-use Rattle.jc_model.specs.declared.event.Event.{Event}
-use Rattle.jc_stripe.specs.OwnSteps.{is_before_call}
-use Rattle.jc_stripe.specs.State.{State}
-use Rattle.jc_stripe.specs.Generations.{IsOfSameStripe}
-use Rattle.jc_lock.specs.Views.{Finds, after_give, after_join, after_take, front_note, own_steps_of}
-use Rattle.jc_lock.specs.declared.view.View.{View}
-use Rattle.jc_lock.proofs.CallerLemmas.{prefix-refl, same_itself}
-use Rattle.jc_session.specs.Counting.{one_more}
-use Rattle.jc_session.specs.declared.agent.Agent.{Agent}
-use Rattle.jc_cache.specs.Caches.{CacheState}
-use Rattle.jc_cache.specs.Fronts.{HasSeen}
-use Rattle.jc_cache.specs.Turns.{HasLent}
-use Rattle.jc_cache.specs.Meeting.{TellsAt, TellEach, IsSessionSeat, AreSessionSeats, KeepRow}
-use Rattle.jc_cache.specs.Sessions.{IsSeatAt, MayCall, capped_steps}
-use Rattle.jc_session.specs.declared.session.Session.{Session}
 use Rattle.jc_cache.proofs.Rows.{Seated, locks_of, length_locks, seat_there, lock_there}
 use Rattle.jc_cache.proofs.Seats.{set_locks, set_total, seat_stays}
 

@@ -5,23 +5,9 @@
 --     may_give           a session that isn't refused: there may be one more, and it has whom it needs
 --     begins_at          it begins with what its owner has noted and seen
 --     may_fresh          it may call the cache
-use Rattle.std.proofs.Common.{◌≡◌, ◌&&◌, ◌+◌, ◌<◌, ℕ, Bool, true, false, not, if◌then◌else◌, nat_le, Option, None, Some, IsSome, List, [], ◌∷◌, map, slice_get, refl, sym, ap, subst, ◌∙◌, arith}
-use Rattle.std.proofs.lemmas.Bool.Decides.{nat_tests}
-use Rattle.std.specs.List.{list_all}
-use Rattle.atomic_table.specs.Seated.{TableId}
-use Rattle.jc_types.specs.declared.caller.Caller.{Caller}
-use Rattle.jc_types.specs.declared.config.Config.{Config}
-use Rattle.jc_types.specs.declared.limits.TheConstants.{SESSIONS_MAX}
+use Rattle.jc_cache.proofs.Common.{◌≡◌, ◌&&◌, ◌+◌, ◌<◌, ℕ, Bool, true, false, not, if◌then◌else◌, nat_le, Option, None, Some, IsSome, List, [], ◌∷◌, map, slice_get, refl, sym, ap, subst, ◌∙◌, arith, nat_tests, list_all, TableId, Caller, Config, SESSIONS_MAX, is_before_call, after_split, session_view, session_number, View, one_more, CacheState, CacheOwnerState, noted_by, fronts_of, logs_of, session_refusal, IsOwnSeat, IsWhole, IsSeatAt, BeginsAt, MayCall, own_total, capped_steps, Session}
 use Rattle.jc_types.specs.declared.refusal.Refusal.TheVariants.{TooManySessions, NoLoader, NoWriter}
-use Rattle.jc_stripe.specs.OwnSteps.{is_before_call}
-use Rattle.jc_lock.specs.Views.{after_split, session_view, session_number}
-use Rattle.jc_lock.specs.declared.view.View.{View}
-use Rattle.jc_session.specs.Counting.{one_more}
 use Rattle.jc_session.specs.declared.counts.Counts.{Counts}
-use Rattle.jc_cache.specs.Caches.{CacheState, CacheOwnerState, noted_by, fronts_of, logs_of, session_refusal}
-use Rattle.jc_cache.specs.CacheInside.{IsOwnSeat, IsWhole}
-use Rattle.jc_cache.specs.Sessions.{IsSeatAt, BeginsAt, MayCall, own_total, capped_steps}
-use Rattle.jc_session.specs.declared.session.Session.{Session}
 use Rattle.jc_cache.proofs.Rows.{Seated, locks_of, map_get}
 use Rattle.jc_cache.proofs.Noted.{noted_same, fronts_same, logs_same}
 

@@ -10,28 +10,10 @@
 --     opening_histories, opening_len, new_history, new_within    stripes in which nothing has happened: each history is empty; how
 --                              many there are; one of them
 --     first_push, new_each     first seats at their locks
-use Rattle.std.proofs.Common.{◌≡◌, ◌∙◌, ◌⊎◌, ⊎_elim, inl, inr, ◌+◌, ◌<◌, ◌≤◌, ℕ, zero, suc, Bool, true, false, Some, List, [], ◌∷◌, ◌++◌, length, map, set, replicate, slice_get, option_map, refl, sym, ap, subst, subst₂, append_assoc, length-append, le_refl, arith}
-use Rattle.std.proofs.lemmas.List.{length-map, map-append}
-use Rattle.std.proofs.lemmas.Option.{same_Some, none-some, slice_get-map}
-use Rattle.std.specs.List.{AllZip}
+use Rattle.jc_cache.proofs.Common.{◌≡◌, ◌∙◌, ◌⊎◌, ⊎_elim, inl, inr, ◌+◌, ◌<◌, ◌≤◌, ℕ, zero, suc, Bool, true, false, Some, List, [], ◌∷◌, ◌++◌, length, map, set, replicate, slice_get, option_map, refl, sym, ap, subst, subst₂, append_assoc, length-append, le_refl, arith, length-map, map-append, same_Some, none-some, slice_get-map, AllZip, Config, Refusal, Bytes, Event, State, IsIdle, whole_history, IsOfSameStripe, live_on, kept, opened_stripe, opened_stripes, opened_len, first_view, View, Log, log_of, noted_by, fronts_of, logs_of, stripes_opening, IsOwnSeat, AreIdle, HasFoundHeld, HasLastFound, HasLookedOnce, HasOnlyLooked, IsInUse, KeepsSeat, KeepSeats, LeavesUnchanged, IsTakeRefusal, IsRowRefusal}
 use mathlib.Core.List.{IsPrefix}
-use Rattle.jc_types.specs.declared.config.Config.{Config}
-use Rattle.jc_types.specs.declared.refusal.Refusal.{Refusal}
-use Rattle.jc_model.specs.Cache.{Bytes}
-use Rattle.jc_model.specs.declared.event.Event.{Event}
 use Rattle.jc_outside.specs.declared.done.Origin.{Origin}
 use Rattle.jc_outside.specs.declared.done.Origin.TheVariants.{Live}
-use Rattle.jc_stripe.specs.State.{State, IsIdle}
-use Rattle.jc_stripe.specs.Generations.{whole_history, IsOfSameStripe}
-use Rattle.jc_stripe.specs.Renewal.{live_on}
-use Rattle.jc_stripe.specs.Reopening.{kept, opened_stripe, opened_stripes}
-use Rattle.jc_stripe.proofs.CallerLemmas.{opened_len}
-use Rattle.jc_lock.specs.Views.{first_view}
-use Rattle.jc_lock.specs.declared.view.View.{View}
-use Rattle.jc_cache.specs.Caches.{Log, log_of, noted_by, fronts_of, logs_of, stripes_opening}
-use Rattle.jc_cache.specs.CacheInside.{IsOwnSeat}
-use Rattle.jc_cache.specs.Closing.{AreIdle, HasFoundHeld, HasLastFound, HasLookedOnce, HasOnlyLooked, IsInUse}
-use Rattle.jc_cache.specs.ClosingInside.{KeepsSeat, KeepSeats, LeavesUnchanged, IsTakeRefusal, IsRowRefusal}
 use Rattle.jc_cache.proofs.ClosingSeats.{keep_at}
 use Rattle.jc_cache.proofs.Meetings.{got_other}
 use Rattle.jc_cache.proofs.Rows.{Seated, map_get, push_get}

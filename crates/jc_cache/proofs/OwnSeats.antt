@@ -1,7 +1,6 @@
 -- The cache's own seats.
 --     split_read, split_own, split_seats    one seat gives the next one out: what was read, and what it leaves
-use Rattle.std.proofs.Common.{◌≡◌, ◌+◌, ◌<◌, ℕ, List, [], ◌∷◌, ◌++◌, length, map, take, drop, get_or, set, append_assoc, sym, ap, ◌∙◌}
-use Rattle.std.proofs.lemmas.List.{map-append, take_more}
+use Rattle.jc_cache.proofs.Common.{◌≡◌, ◌+◌, ◌<◌, ℕ, List, [], ◌∷◌, ◌++◌, length, map, take, drop, get_or, set, append_assoc, sym, ap, ◌∙◌, map-append, take_more}
 use Rattle.jc_cache.proofs.Rows.{Seated, part_get, part_set}
 
 -- at a place, the cache's seat gives the next seat out

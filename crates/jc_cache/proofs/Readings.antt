@@ -5,21 +5,11 @@
 --     counted_next, counted_all         what the first stripes count, with one more, and what all count
 --     stripes_next, stripes_all         the same of the states of stripes
 --     read_may                          a session that has read may call as before
-use Rattle.std.proofs.Common.{◌≡◌, ◌+◌, ◌<◌, ◌≤◌, ℕ, zero, suc, Some, List, [], ◌∷◌, ◌++◌, length, set, take, slice_get, refl, sym, ap, subst, subst₂, ◌∙◌, le_refl, add-one, arith, append_assoc, append-nil}
-use Rattle.std.proofs.lemmas.Option.{same_Some, slice_get_within}
-use Rattle.std.proofs.lemmas.List.{map-append}
+use Rattle.jc_cache.proofs.Common.{◌≡◌, ◌+◌, ◌<◌, ◌≤◌, ℕ, zero, suc, Some, List, [], ◌∷◌, ◌++◌, length, set, take, slice_get, refl, sym, ap, subst, subst₂, ◌∙◌, le_refl, add-one, arith, append_assoc, append-nil, same_Some, slice_get_within, map-append, TableId, Occurrence, statistics_of, together, StatisticsLaws, State, CacheState, noted_by, HasRead, HasReadEach, occurred_in, KeepRow, MayCall, Session}
 use mathlib.Core.Logic.{dite}
 use native.Mathlib.Decide.{ℕ_discrete}
-use Rattle.atomic_table.specs.Seated.{TableId}
 use Rattle.jc_model.specs.declared.statistics.Statistics.{Statistics}
-use Rattle.jc_model.specs.Statistics.{Occurrence, statistics_of, together, StatisticsLaws}
-use Rattle.jc_stripe.specs.State.{State}
 use Rattle.jc_stripe.specs.Occurrences.{all_occurrences}
-use Rattle.jc_cache.specs.Caches.{CacheState, noted_by}
-use Rattle.jc_cache.specs.Counting.{HasRead, HasReadEach, occurred_in}
-use Rattle.jc_cache.specs.Meeting.{KeepRow}
-use Rattle.jc_cache.specs.Sessions.{MayCall}
-use Rattle.jc_session.specs.declared.session.Session.{Session}
 use Rattle.jc_cache.proofs.Rows.{Seated, length_locks, seat_there}
 use Rattle.jc_cache.proofs.Meetings.{HasRest, got_set, got_other, may_stay}
 

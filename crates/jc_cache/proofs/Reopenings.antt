@@ -3,23 +3,13 @@
 --     asked_of                   whether one more of all stripes shares a key with a later one
 --     found_repeated             what is known once that was asked of all
 --     reopened_so                a cache that was opened with all entries
-use Rattle.std.proofs.Common.{◌≡◌, ◌<◌, ◌+◌, ◌-◌, ℕ, suc, List, [], ◌∷◌, ◌++◌, Ok, map, subst, length, length-drop, take, drop, get_or, Bool, true, false, not, ◌||◌, refl, sym, ap, ◌∙◌, drop-cons, arith}
+use Rattle.jc_cache.proofs.Common.{◌≡◌, ◌<◌, ◌+◌, ◌-◌, ℕ, suc, List, [], ◌∷◌, ◌++◌, Ok, map, subst, length, length-drop, take, drop, get_or, Bool, true, false, not, ◌||◌, refl, sym, ap, ◌∙◌, drop-cons, arith, list_any, All, check, Config, Bytes, State, IsReached, live_on, all_entries, dropped, entries_of, opened_stripes, shares_key, some_share_key, KeepsOrDrops, CacheOwnerState, OpensWith, stripes_opening, once_unless_shared}
 use Rattle.std.proofs.Math.Bool.{or_assoc}
 use Rattle.std.proofs.Math.Seq.{take-length}
-use Rattle.std.specs.List.{list_any, All}
 use Rattle.std.specs.List.Sorted.{IsPermutation}
-use Rattle.jc_types.specs.Limits.{check}
-use Rattle.jc_types.specs.declared.config.Config.{Config}
-use Rattle.jc_model.specs.Cache.{Bytes}
 use Rattle.jc_model.specs.Listed.{has_distinct_keys}
 use Rattle.jc_outside.specs.declared.done.Origin.TheVariants.{Live}
-use Rattle.jc_stripe.specs.State.{State}
-use Rattle.jc_stripe.specs.Reached.{IsReached}
-use Rattle.jc_stripe.specs.Renewal.{live_on}
-use Rattle.jc_stripe.specs.Reopening.{all_entries, dropped, entries_of, opened_stripes, shares_key, some_share_key, KeepsOrDrops}
-use Rattle.jc_cache.specs.Caches.{CacheOwnerState, OpensWith, stripes_opening}
 use Rattle.jc_cache.specs.Reopening.{IsReopened, refusal_by}
-use Rattle.jc_stripe.proofs.CallerLemmas.{once_unless_shared}
 
 rest_at : (xs : List State) (i : ℕ) (x : State) → i < length xs → x ≡ get_or xs i x → drop i xs ≡ x ∷ drop (i + 1) xs
 rest_at xs i x near is = let next : suc i ≡ i + 1 = omega arith in drop-cons xs i x near ∙ (λ j. sym is j ∷ drop (next j) xs)

@@ -2,10 +2,7 @@
 --     got_value      a value was written there
 --     got_nothing    there is none
 --     got_error      the call has failed
-use Rattle.std.proofs.Common.{◌≡◌, true, false, None, Some, Result, Ok, Err, ap, refl}
-use Rattle.jc_types.specs.declared.refusal.Refusal.{Refusal}
-use Rattle.jc_model.specs.Cache.{Bytes}
-use Rattle.jc_model.specs.declared.event.Reply.{Reply}
+use Rattle.jc_cache.proofs.Common.{◌≡◌, true, false, None, Some, Result, Ok, Err, ap, refl, Refusal, Bytes, Reply}
 use Rattle.jc_model.specs.declared.event.Reply.TheVariants as reply
 use Rattle.jc_engine.specs.Values.{value_in, value_into}
 

@@ -8,11 +8,7 @@
 --     part_get, part_set       the first seats of a row are mapped, and now the next one is
 --     length_locks             there are as many seats as locks
 --     locks_push               a row with one more seat
-use Rattle.std.proofs.Common.{◌≡◌, ◌⊎◌, ⊎_elim, inl, inr, ◌+◌, ◌<◌, ℕ, zero, suc, Some, List, [], ◌∷◌, ◌++◌, length, map, take, drop, get_or, set, slice_get, option_map, refl, sym, ap, ◌∙◌, arith}
-use Rattle.std.proofs.lemmas.List.{length-map, map-append}
-use Rattle.std.proofs.lemmas.Option.{same_Some, slice_get-map}
-use Rattle.atomic_table.specs.Seated.{TableId}
-use Rattle.jc_lock.specs.declared.view.View.{View}
+use Rattle.jc_cache.proofs.Common.{◌≡◌, ◌⊎◌, ⊎_elim, inl, inr, ◌+◌, ◌<◌, ℕ, zero, suc, Some, List, [], ◌∷◌, ◌++◌, length, map, take, drop, get_or, set, slice_get, option_map, refl, sym, ap, ◌∙◌, arith, length-map, map-append, same_Some, slice_get-map, TableId, View}
 
 abbrev pub Seated : Type 0
 Seated = TableId × View

@@ -5,38 +5,11 @@
 --     set_get, set_locks, set_total    one seat of a row is replaced: the seats, their locks, and how many own steps there are
 --     one_longer, capped_more          one own step more, and its count
 --     seat_stays        a seat of a session stays one
-use Rattle.std.specs.declared.dyn_box.DynBox.{DynBox}
-use Rattle.std.proofs.Common.{◌≡◌, ◌⊎◌, ⊎_elim, inl, inr, ◌+◌, ℕ, zero, suc, true, false, if◌then◌else◌, nat_lt, Option, None, Some, IsSome, Result, Ok, Err, List, [], ◌∷◌, length, map, set, slice_get, slice_set, refl, sym, ap, subst, ◌∙◌, arith}
-use Rattle.std.proofs.lemmas.List.{length-append}
-use Rattle.std.proofs.lemmas.Bool.{and_parts, true≢false}
-use Rattle.std.proofs.lemmas.Bool.Decides.{nat_tests}
-use Rattle.std.proofs.lemmas.Option.{same_Some}
-use Rattle.std.specs.List.{list_all}
-use Rattle.atomic_table.specs.Seated.{TableId}
-use Rattle.jc_types.specs.declared.caller.Caller.{Caller}
-use Rattle.jc_types.specs.declared.config.Config.{Config}
-use Rattle.jc_types.specs.declared.refusal.Refusal.{Refusal}
-use Rattle.jc_model.specs.Cache.{Bytes}
-use Rattle.jc_model.specs.declared.event.Event.{Event}
-use Rattle.jc_model.specs.declared.event.Event.TheVariants.{Step}
-use Rattle.jc_model.specs.declared.event.Op.{Op}
-use Rattle.jc_model.specs.declared.event.Op.TheVariants.{Get}
-use Rattle.jc_model.specs.declared.event.Out.{Out}
-use Rattle.jc_model.specs.declared.event.Reply.{Reply}
+use Rattle.jc_cache.proofs.Common.{DynBox, ◌≡◌, ◌⊎◌, ⊎_elim, inl, inr, ◌+◌, ℕ, zero, suc, true, false, if◌then◌else◌, nat_lt, Option, None, Some, IsSome, Result, Ok, Err, List, [], ◌∷◌, length, map, set, slice_get, slice_set, refl, sym, ap, subst, ◌∙◌, arith, length-append, and_parts, true≢false, nat_tests, same_Some, list_all, TableId, Caller, Config, Refusal, Bytes, Event, Step, Op, Get, Out, Reply, KeepsType, HasOneMore, OwnNumbers, is_before_call, View, one_more, Agent, CacheState, next_call, IsSameSeat, SeatAfter, SeatTried, IsSeatAt, MayCall, own_total, capped_steps, Session}
 use Rattle.jc_model.specs.declared.event.Reply.TheVariants.{Flag}
 use Rattle.jc_model.specs.Group.{nothing_said}
-use Rattle.jc_outside.specs.Calling.{KeepsType}
 use Rattle.jc_stripe.specs.Refusals.{last_number}
-use Rattle.jc_stripe.specs.OwnSteps.{HasOneMore, OwnNumbers, is_before_call}
-use Rattle.jc_lock.specs.declared.view.View.{View}
-use Rattle.jc_session.specs.Counting.{one_more}
-use Rattle.jc_session.specs.declared.agent.Agent.{Agent}
 use Rattle.jc_engine.specs.Asking.{KeepsTypes, own_after}
-use Rattle.jc_cache.specs.Caches.{CacheState}
-use Rattle.jc_session.specs.Sessions.{next_call}
-use Rattle.jc_cache.specs.Fronts.{IsSameSeat, SeatAfter, SeatTried}
-use Rattle.jc_cache.specs.Sessions.{IsSeatAt, MayCall, own_total, capped_steps}
-use Rattle.jc_session.specs.declared.session.Session.{Session}
 use Rattle.jc_cache.proofs.CallEnds.{IsBelow}
 
 -- 1. What a call leaves of its own steps.

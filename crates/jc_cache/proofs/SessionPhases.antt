@@ -10,45 +10,17 @@
 --     look_lent                a look is a phase in which nothing was done
 --     number_at, shape_found, agent_same   the seat at a stripe with a number, the shape of the stripe, and the agent after a look
 --     holds_one                the agent that has taken a stripe, and its seat
-use Rattle.std.proofs.Common.{◌≡◌, ⊎_elim, inl, ◌+◌, ◌<◌, ℕ, true, false, Some, IsSome, List, [], ◌++◌, filter, length, get_or, zero, suc, ◌∷◌, slice_get, slice_set, refl, sym, ap, subst, ◌∙◌, arith}
-use Rattle.std.proofs.lemmas.Bool.{true≢false}
-use Rattle.std.proofs.lemmas.Option.{slice_get_read, same_Some}
-use Rattle.std.proofs.lemmas.List.{length-append}
-use Rattle.jc_types.specs.Stripes.{stripe_of}
-use Rattle.jc_types.specs.declared.caller.Caller.{Caller}
-use Rattle.jc_types.specs.declared.config.Config.{Config}
-use Rattle.jc_model.specs.Cache.{Bytes}
-use Rattle.jc_model.specs.declared.event.Event.{Event}
-use Rattle.jc_model.specs.declared.event.Reply.{Reply}
-use Rattle.jc_stripe.specs.State.{State}
-use Rattle.jc_stripe.specs.Reached.{IsReached}
-use Rattle.jc_stripe.specs.Generations.{past_events, whole_history}
-use Rattle.jc_stripe.specs.Renewal.{all_own_steps}
-use Rattle.jc_stripe.specs.OnePhase.{IsPhaseOf, is_own_step, own_steps}
-use Rattle.jc_stripe.specs.OwnSteps.{may_come_all}
+use Rattle.jc_cache.proofs.Common.{◌≡◌, ⊎_elim, inl, ◌+◌, ◌<◌, ℕ, true, false, Some, IsSome, List, [], ◌++◌, filter, length, get_or, zero, suc, ◌∷◌, slice_get, slice_set, refl, sym, ap, subst, ◌∙◌, arith, true≢false, slice_get_read, same_Some, length-append, stripe_of, Caller, Config, Bytes, Event, Reply, State, IsReached, past_events, whole_history, all_own_steps, IsPhaseOf, is_own_step, own_steps, may_come_all, polled_with, Finds, View, IsCounted, one_more, counts_after, Agent, LentPhase, PhaseLaws, Turn, BeginsIfClear, CommitsHere, IsReported, PicksUpBy, PicksUpLate, Keeps, all_map, counted_longer, once, steps_in, CacheState, IsSameSeat, GoesOn, IsSeatAt, IsOf, HoldsNothing, own_total, capped_steps, Session, HasLent}
 use Rattle.jc_stripe.specs.Tickets.{TicketClaim, JoinClaim}
-use Rattle.jc_stripe.specs.Phases.{polled_with}
 use Rattle.jc_stripe.specs.declared.begun.Picked.{Picked}
 use Rattle.jc_stripe.specs.declared.begun.Picked.TheVariants as picked
-use Rattle.jc_lock.specs.Views.{Finds}
-use Rattle.jc_lock.specs.declared.view.View.{View}
-use Rattle.jc_session.specs.Counting.{IsCounted, one_more, counts_after}
-use Rattle.jc_session.specs.declared.agent.Agent.{Agent}
 use Rattle.jc_session.specs.declared.counts.Counted.{Counted}
 use Rattle.jc_session.specs.declared.counts.Counted.TheVariants.{Nothing, Step as OneStep, Reserved, Committed, Joined, Answered, Retried, Withdrawn}
 use Rattle.jc_session.specs.declared.counts.Counts.{Counts}
 use Rattle.jc_gate.specs.Lending.{ComesAfter}
 use Rattle.jc_engine.specs.Answered.{CallAnswer, IsAnswered}
-use Rattle.jc_engine.specs.Rows.{LentPhase, PhaseLaws, Turn}
-use Rattle.jc_engine.specs.Needs.{BeginsIfClear, CommitsHere, IsReported, PicksUpBy, PicksUpLate}
-use Rattle.jc_engine.proofs.CallerLemmas.{Keeps, all_map, counted_longer, once, steps_in}
-use Rattle.jc_cache.specs.Caches.{CacheState}
-use Rattle.jc_cache.specs.Fronts.{IsSameSeat}
 use Rattle.jc_cache.specs.PhaseCalls.{SeatPhase, PhaseAt, MayStart}
-use Rattle.jc_cache.specs.Sessions.{GoesOn, IsSeatAt, IsOf, HoldsNothing, own_total, capped_steps}
-use Rattle.jc_session.specs.declared.session.Session.{Session}
 use Rattle.jc_cache.proofs.Lendings.{lock_takes, lock_gives, lock_finds, Lending, row_left, turn_lent}
-use Rattle.jc_cache.specs.Turns.{HasLent}
 use Rattle.jc_cache.proofs.Rows.{Seated, locks_of, length_locks}
 use Rattle.jc_cache.proofs.Seats.{set_get, set_locks, set_total, capped_more, seat_stays}
 

@@ -4,16 +4,8 @@
 --     skipped          a session whose next call comes after the call with this number
 --     skipped_of       it is of its cache as before
 --     skipped_may      and may call it
-use Rattle.std.proofs.Common.{◌≡◌, ◌==◌, ◌||◌, ◌≤◌, ℕ, true, false, not, nat_lt, refl, arith}
-use Rattle.std.proofs.lemmas.Bool.Decides.{nat_tests}
+use Rattle.jc_cache.proofs.Common.{◌≡◌, ◌==◌, ◌||◌, ◌≤◌, ℕ, true, false, not, nat_lt, refl, arith, nat_tests, Event, Step, Evict, is_before_call, one_more, CacheState, IsOf, MayCall, Session}
 use Rattle.jc_types.proofs.CallerLemmas.{all_imply}
-use Rattle.jc_model.specs.declared.event.Event.{Event}
-use Rattle.jc_model.specs.declared.event.Event.TheVariants.{Step, Evict}
-use Rattle.jc_stripe.specs.OwnSteps.{is_before_call}
-use Rattle.jc_session.specs.Counting.{one_more}
-use Rattle.jc_cache.specs.Caches.{CacheState}
-use Rattle.jc_cache.specs.Sessions.{IsOf, MayCall}
-use Rattle.jc_session.specs.declared.session.Session.{Session}
 
 -- 1. Numbers.
 

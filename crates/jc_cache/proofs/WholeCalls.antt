@@ -13,48 +13,14 @@
 --     called, invoked, tried
 --                        a whole call, one that runs a processor, and one that waits for nobody: what is said of the session, and that
 --                        it may call again
-use Rattle.std.specs.declared.dyn_box.DynBox.{DynBox}
-use Rattle.std.proofs.Common.{◌≡◌, ◌<◌, ◌&&◌, MatchBool, Option, is_none, ℕ, List, length, sum, get_or, Bool, true, false, cond, nat_le, Some, IsSome, Result, Ok, Err, arith, slice_get, slice_set, option_map, refl, sym, ap, subst, ◌∙◌}
+use Rattle.jc_cache.proofs.Common.{DynBox, ◌≡◌, ◌<◌, ◌&&◌, MatchBool, Option, is_none, ℕ, List, length, sum, get_or, Bool, true, false, cond, nat_le, Some, IsSome, Result, Ok, Err, arith, slice_get, slice_set, option_map, refl, sym, ap, subst, ◌∙◌, and_parts, leb-true, length-map, slice_get_read, slice_get_within, TableId, check, is_between, stripe_of, Config, STRIPES_MAX, Caller, Refusal, Bytes, entry_at, Event, Out, Op, Get, Invoke, Reply, LoadRelation, WriteRelation, State, OwnNumbers, StepsBehind, may_come_all, View, Finds, Agent, BeginsIfClear, IsReady, PhaseLaws, HasLookedFirst, state_decided, state_found, call_in, IsBetween, CacheState, IsShaped, next_call, Completes, IsOf, MayCall, Session}
 use Rattle.std.proofs.Math.Nat.{mod-lt}
-use Rattle.std.proofs.lemmas.Bool.{and_parts, leb-true}
-use Rattle.std.proofs.lemmas.List.{length-map}
-use Rattle.std.proofs.lemmas.Option.{slice_get_read, slice_get_within}
-use Rattle.atomic_table.specs.Seated.{TableId}
-use Rattle.jc_types.specs.Limits.{check, is_between}
-use Rattle.jc_types.specs.Stripes.{stripe_of}
-use Rattle.jc_types.specs.declared.config.Config.{Config}
-use Rattle.jc_types.specs.declared.limits.TheConstants.{STRIPES_MAX}
-use Rattle.jc_types.specs.declared.caller.Caller.{Caller}
-use Rattle.jc_types.specs.declared.refusal.Refusal.{Refusal}
-use Rattle.jc_model.specs.Cache.{Bytes, entry_at}
 use Rattle.jc_model.specs.Table.{is_process_given}
-use Rattle.jc_model.specs.declared.event.Event.{Event}
-use Rattle.jc_model.specs.declared.event.Out.{Out}
-use Rattle.jc_model.specs.declared.event.Op.{Op}
-use Rattle.jc_model.specs.declared.event.Op.TheVariants.{Get, Invoke}
-use Rattle.jc_model.specs.declared.event.Reply.{Reply}
-use Rattle.jc_outside.specs.Calling.{LoadRelation, WriteRelation}
 use Rattle.jc_mutentry.specs.Running.{ProcessRelation, RunsOnce}
-use Rattle.jc_stripe.specs.State.{State}
-use Rattle.jc_stripe.specs.OwnSteps.{OwnNumbers, StepsBehind, may_come_all}
-use Rattle.jc_lock.specs.declared.view.View.{View}
-use Rattle.jc_lock.specs.Views.{Finds}
-use Rattle.jc_session.specs.declared.agent.Agent.{Agent}
 use Rattle.jc_engine.specs.Asking.{own_after}
-use Rattle.jc_engine.specs.Needs.{BeginsIfClear}
 use Rattle.jc_engine.specs.Calls.{IsCall, IsInvocation, IsTried, MayCallHere}
-use Rattle.jc_engine.specs.Doors.{IsReady}
 use Rattle.jc_engine.specs.declared.access.Access.{Access}
-use Rattle.jc_engine.specs.Rows.{PhaseLaws}
-use Rattle.jc_engine.specs.Turns.{HasLookedFirst, state_decided, state_found}
-use Rattle.jc_engine.proofs.CallerLemmas.{call_in}
-use Rattle.jc_cache.specs.Fronts.{IsBetween}
-use Rattle.jc_cache.specs.Caches.{CacheState}
-use Rattle.jc_cache.specs.CacheInside.{IsShaped}
 use Rattle.jc_cache.specs.Calls.{CallsAt, Tried, Invoked}
-use Rattle.jc_session.specs.Sessions.{next_call}
-use Rattle.jc_cache.specs.Sessions.{Completes, IsOf, MayCall}
-use Rattle.jc_session.specs.declared.session.Session.{Session}
 use Rattle.jc_cache.proofs.Lendings.{lock_takes, lock_gives, lock_finds, lock_misses, lock_speaks_for, RowLeft, row_left}
 use Rattle.jc_cache.proofs.CallEnds.{CallLeft, call_left, tried_left}
 use Rattle.jc_cache.proofs.Rows.{length_locks, lock_there}

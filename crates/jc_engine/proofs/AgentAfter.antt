@@ -7,12 +7,9 @@
 --     after_both     after a first phase that reserves, an outside call, and a last phase
 --     after_answer   after a join and its answer
 --     after_retry    after a join that was told to retry
-use Rattle.std.proofs.Common.{◌≡◌, ◌-◌, IsSome, sym, ap, subst, ◌∙◌}
-use Rattle.jc_session.specs.Counting.{one_more, counts_after, counts_ended}
+use Rattle.jc_engine.proofs.Common.{◌≡◌, ◌-◌, IsSome, sym, ap, subst, ◌∙◌, one_more, counts_after, counts_ended, Joined, Answered, Retried, Agent}
 use Rattle.jc_session.specs.declared.counts.Counts.{Counts}
 use Rattle.jc_session.specs.declared.counts.Counted.{Counted}
-use Rattle.jc_session.specs.declared.counts.Counted.TheVariants.{Joined, Answered, Retried}
-use Rattle.jc_session.specs.declared.agent.Agent.{Agent}
 
 ended : (counts : Counts) → counts.reservations ≡ 0 → counts_ended (record counts { reservations = one_more counts.reservations }) ≡ record counts { own = one_more counts.own }
 ended counts none = (λ i. record counts { reservations = one_more (none i) - 1; own = one_more counts.own }) ∙ (λ i. record counts { reservations = sym none i; own = one_more counts.own })

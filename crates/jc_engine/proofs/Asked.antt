@@ -1,15 +1,7 @@
 -- A call that has somebody to ask.
 --     of_caller       its reservation is the caller's, of the key
 --     asked_since     what the next take finds comes after what a take could have found at first
-use Rattle.std.proofs.Common.{◌≡◌, List, ap}
-use Rattle.jc_types.specs.declared.caller.Caller.{Caller}
-use Rattle.jc_model.specs.Cache.{Bytes}
-use Rattle.jc_model.specs.declared.event.Op.{Op}
-use Rattle.jc_stripe.specs.State.{State}
-use Rattle.jc_stripe.specs.Outcomes.{Asks}
-use Rattle.jc_stripe.specs.Tickets.{TicketClaim}
-use Rattle.jc_engine.specs.Rows.{PhaseLaws, Row}
-use Rattle.jc_engine.specs.Turns.{IsBegunRow}
+use Rattle.jc_engine.proofs.Common.{◌≡◌, List, ap, Caller, Bytes, Op, State, Asks, TicketClaim, PhaseLaws, Row, IsBegunRow}
 use Rattle.jc_engine.proofs.Rows.{Since, asked_keeps, row_since, since_found}
 
 module _ (caller : Caller) (key : Bytes) (op : Op) (ticket : TicketClaim) (row : List (State × State)) (x : IsBegunRow caller key op (Asks ticket) row) where

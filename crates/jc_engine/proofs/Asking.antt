@@ -4,20 +4,10 @@
 --                               else of the agent stays
 --     loader_asked, writer_asked
 --                               so it is after the agent has asked
-use Rattle.std.proofs.Common.{◌≡◌, ◌∙◌, ℕ, List, true, MatchBool, Option, option_map, refl, sym, subst, ap}
-use Rattle.jc_model.specs.Cache.{Bytes}
-use Rattle.jc_model.specs.declared.event.Change.{Change}
-use Rattle.jc_model.specs.declared.event.LoadAnswer.{LoadAnswer}
-use Rattle.jc_model.specs.declared.event.ProcessAnswer.TheVariants.{NotAsked}
+use Rattle.jc_engine.proofs.Common.{◌≡◌, ◌∙◌, ℕ, List, true, MatchBool, Option, option_map, refl, sym, subst, ap, Bytes, Change, LoadAnswer, NotAsked, LoadRelation, LoadsOnce, WriteRelation, WritesOnce, Claim, TicketClaim, asks_loader, asks_writer, change_asked, claim_of, boxed, Agent, CallAnswer, IsAnswered, Loaded, Written, out_of, AsksLoader, AsksWriter, KeepsTypes}
 use Rattle.jc_model.specs.declared.event.WriteAnswer.{WriteAnswer}
-use Rattle.jc_outside.specs.Calling.{LoadRelation, LoadsOnce, WriteRelation, WritesOnce}
 use Rattle.jc_outside.specs.Done.{LoadResult, WriteResult}
-use Rattle.jc_stripe.specs.Tickets.{Claim, TicketClaim, asks_loader, asks_writer, change_asked, claim_of}
 use Rattle.jc_session.specs.Asked.{LoaderAsked, WriterAsked}
-use Rattle.jc_session.specs.Boxed.{boxed}
-use Rattle.jc_session.specs.declared.agent.Agent.{Agent}
-use Rattle.jc_engine.specs.Answered.{CallAnswer, IsAnswered, Loaded, Written, out_of}
-use Rattle.jc_engine.specs.Asking.{AsksLoader, AsksWriter, KeepsTypes}
 
 module _ {L : Type 0} (loads : LoadRelation L) (state : L → List ℕ) where
   pub loader_for : (old start now new : Option L) (key asked : Bytes) (answer : LoadAnswer)

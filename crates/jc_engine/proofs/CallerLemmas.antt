@@ -8,29 +8,10 @@
 --     steps_in, counted_longer
 --                    how many own steps of its session what was counted stands for, and that so many more are there after it
 --     reached_cache  what is cached is what the whole history leaves of the first opening
-use Rattle.std.proofs.Common.{◌≡◌, ◌==◌, ◌&&◌, ◌+◌, ◌++◌, ◌∷◌, map, inl, inr, ℕ, Bool, true, false, if◌then◌else◌, Option, None, Some, is_some, is_none, List, length, slice_get, append_assoc, refl, sym, ap, subst, ◌∙◌, arith}
-use Rattle.std.proofs.lemmas.List.{length-append}
+use Rattle.jc_engine.proofs.Common.{◌≡◌, ◌==◌, ◌&&◌, ◌+◌, ◌++◌, ◌∷◌, map, inl, inr, ℕ, Bool, true, false, if◌then◌else◌, Option, None, Some, is_some, is_none, List, length, slice_get, append_assoc, refl, sym, ap, subst, ◌∙◌, arith, length-append, Caller, Bytes, entry_at, Group, victim_events, evicted_events, step_event, shared_event, step_place, entry_after, Event, Evict, Op, Invoke, Out, State, is_key, past_events, whole_history, whole_place, IsReached, TicketClaim, entry_seen, first_asked, Commits, Steps, new_group, StepDone, Reservation, ask_found, stands_at}
 use Rattle.std.specs.FinMap.{len}
-use Rattle.jc_types.specs.declared.caller.Caller.{Caller}
-use Rattle.jc_model.specs.Cache.{Bytes, entry_at}
-use Rattle.jc_model.specs.Group.{Group, victim_events, evicted_events, step_event, shared_event, step_place}
-use Rattle.jc_model.specs.Table.{entry_after}
 use Rattle.jc_model.specs.declared.event.Cause.TheVariants.{Full}
-use Rattle.jc_model.specs.declared.event.Event.{Event}
-use Rattle.jc_model.specs.declared.event.Event.TheVariants.{Evict}
-use Rattle.jc_model.specs.declared.event.Op.{Op}
-use Rattle.jc_model.specs.declared.event.Op.TheVariants.{Invoke}
-use Rattle.jc_model.specs.declared.event.Out.{Out}
-use Rattle.jc_stripe.specs.State.{State, is_key}
-use Rattle.jc_stripe.specs.Generations.{past_events, whole_history, whole_place}
 use Rattle.jc_stripe.specs.OrderOfUse.{least_used}
-use Rattle.jc_stripe.specs.Reached.{IsReached}
-use Rattle.jc_stripe.specs.Tickets.{TicketClaim, entry_seen}
-use Rattle.jc_stripe.specs.Refusals.{first_asked}
-use Rattle.jc_stripe.specs.Phases.{Commits, Steps, new_group}
-use Rattle.jc_stripe.specs.Outcomes.{StepDone}
-use Rattle.jc_stripe.specs.declared.ticket.Reservation.{Reservation}
-use Rattle.jc_stripe.proofs.CallerLemmas.{ask_found, stands_at}
 use Rattle.jc_engine.specs.MadeIn.{IsNext}
 pub use Rattle.jc_engine.proofs.Counted.{steps_in, counted_longer}
 pub use Rattle.jc_engine.proofs.Increments.{reached_cache}

@@ -1,27 +1,11 @@
 -- What a phase counts says how many own steps it adds.
 --     counted_longer    at most one phase of a session, which changes this of its counts, leaves so many own steps more
-use Rattle.std.proofs.Common.{◌≡◌, ◌+◌, ◌∙◌, inl, inr, ℕ, List, ◌∷◌, None, length, ap, sym, subst, arith}
-use Rattle.std.proofs.lemmas.List.{length-append}
-use Rattle.jc_types.specs.declared.caller.Caller.{Caller}
-use Rattle.jc_model.specs.Cache.{Bytes}
-use Rattle.jc_model.specs.Group.{nothing_said}
-use Rattle.jc_model.specs.declared.event.Event.{Event}
-use Rattle.jc_model.specs.declared.event.Event.TheVariants.{Step}
-use Rattle.jc_model.specs.declared.event.Op.{Op}
-use Rattle.jc_stripe.specs.State.{State}
-use Rattle.jc_stripe.specs.Reached.{IsReached}
-use Rattle.jc_stripe.specs.OnePhase.{own_steps}
-use Rattle.jc_stripe.specs.OwnSteps.{OwnSteps, HasOneMore}
-use Rattle.jc_stripe.specs.Phases.{MayBegin, Begins, PicksUp}
-use Rattle.jc_stripe.specs.Tickets.{JoinClaim}
-use Rattle.jc_stripe.specs.Outcomes.{Begun}
+use Rattle.jc_engine.proofs.Common.{◌≡◌, ◌+◌, ◌∙◌, inl, inr, ℕ, List, ◌∷◌, None, length, ap, sym, subst, arith, length-append, Caller, Bytes, nothing_said, Event, Step, Op, State, IsReached, own_steps, OwnSteps, HasOneMore, MayBegin, Begins, PicksUp, JoinClaim, Begun, adds_one, gains_one, IsCounted, counted_begun, counted_polled, Nothing, Reserved, Committed, Joined, Answered, Retried, Withdrawn}
 use Rattle.jc_stripe.specs.Polled.{Polled}
 use Rattle.jc_stripe.specs.Outcomes as begun
 use Rattle.jc_stripe.specs.Polled as polled
-use Rattle.jc_stripe.proofs.CallerLemmas.{adds_one, gains_one}
-use Rattle.jc_session.specs.Counting.{IsCounted, counted_begun, counted_polled}
 use Rattle.jc_session.specs.declared.counts.Counted.{Counted}
-use Rattle.jc_session.specs.declared.counts.Counted.TheVariants.{Nothing, Step as OneStep, Reserved, Committed, Joined, Answered, Retried, Withdrawn}
+use Rattle.jc_session.specs.declared.counts.Counted.TheVariants.{Step as OneStep}
 
 abbrev pub steps_in : Counted → ℕ
 steps_in Nothing = 0

@@ -2,27 +2,7 @@
 --     unasked_call    one that asks nobody
 --     asked_ends      a call that was asked and committed, from where it had somebody to ask
 --     asked_call      one that reserves its key, asks, and commits
-use Rattle.std.proofs.Common.{◌≡◌, ◌∙◌, ◌++◌, ℕ, List, Result, Ok, Some, option_map, refl, ap, subst}
-use Rattle.jc_types.specs.declared.refusal.Refusal.{Refusal}
-use Rattle.jc_model.specs.Cache.{Bytes}
-use Rattle.jc_model.specs.Group.{nothing_said}
-use Rattle.jc_model.specs.declared.event.Op.{Op}
-use Rattle.jc_model.specs.declared.event.Out.{Out}
-use Rattle.jc_model.specs.declared.event.Reply.{Reply}
-use Rattle.jc_outside.specs.Calling.{LoadRelation, WriteRelation}
-use Rattle.jc_stripe.specs.State.{State}
-use Rattle.jc_stripe.specs.Tickets.{TicketClaim}
-use Rattle.jc_stripe.specs.Outcomes.{Asks, StepDone}
-use Rattle.jc_stripe.specs.declared.ticket.Reservation.{Reservation}
-use Rattle.jc_session.specs.Boxed.{boxed}
-use Rattle.jc_session.specs.Counting.{counts_ended}
-use Rattle.jc_session.specs.declared.agent.Agent.{Agent}
-use Rattle.jc_engine.specs.Answered.{CallAnswer, out_of}
-use Rattle.jc_engine.specs.Asking.{AsksLoader, AsksWriter, KeepsTypes, change_wanted, own_after}
-use Rattle.jc_engine.specs.Entering.{counts_entered}
-use Rattle.jc_engine.specs.Rows.{LentPhase, Row}
-use Rattle.jc_engine.specs.Turns.{IsBegunRow, IsCallRow, committing}
-use Rattle.jc_engine.specs.Calls.{AsksAndEnds, IsCall}
+use Rattle.jc_engine.proofs.Common.{◌≡◌, ◌∙◌, ◌++◌, ℕ, List, Result, Ok, Some, option_map, refl, ap, subst, Refusal, Bytes, nothing_said, Op, Out, Reply, LoadRelation, WriteRelation, State, TicketClaim, Asks, StepDone, Reservation, boxed, counts_ended, Agent, CallAnswer, out_of, AsksLoader, AsksWriter, KeepsTypes, change_wanted, own_after, counts_entered, LentPhase, Row, IsBegunRow, IsCallRow, committing, AsksAndEnds, IsCall}
 use Rattle.jc_engine.proofs.AgentAfter.{after_first, after_both}
 use Rattle.jc_engine.proofs.Asked.{of_caller}
 use Rattle.jc_engine.proofs.Asking.{IsAsked, loader_for, writer_for}

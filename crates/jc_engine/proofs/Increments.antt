@@ -3,39 +3,22 @@
 --     leaves_next       the law of the next value
 --     leaves_sum        the law of sums
 --     by_table          the law of events
-use Rattle.std.proofs.Common.{◌≡◌, ◌==◌, ◌&&◌, ◌+◌, ⊎_elim, ℕ, zero, suc, List, [], ◌∷◌, ◌++◌, map, take, length, Bool, true, false, cond, Option, None, Some, is_none, slice_get, append-nil, append_assoc, refl, sym, ap, subst, ◌∙◌, arith}
+use Rattle.jc_engine.proofs.Common.{◌≡◌, ◌==◌, ◌&&◌, ◌+◌, ⊎_elim, ℕ, zero, suc, List, [], ◌∷◌, ◌++◌, map, take, length, Bool, true, false, cond, Option, None, Some, is_none, slice_get, append-nil, append_assoc, refl, sym, ap, subst, ◌∙◌, arith, length-append, Caller, Config, Bytes, Cache, entry_at, key_cmp, Group, cache_after_group, cache_before_step, events_of, evicted_events, history_of, shared_event, step_event, step_place, victim_events, entry_after, entry_by_fault, after_effect, value_after_load, first_fault, Event, Step, Evict, LoadAnswer, Invoke, Out, Ended, Reply, State, Generation, IsChain, opening_after, past_events, whole_history, first_opening, IsReached, stands_at}
 use Rattle.std.specs.Ordering.{eq_by_cmp}
 use Rattle.std.specs.Cmp.{eq_by_cmp_equiv}
 use Rattle.std.specs.Cmp.Lexicographic.{pointwise, same_text, texts_ties}
 use Rattle.std.specs.FinMap.{find, from_entries, get-from_entries}
 use Rattle.std.proofs.Math.Seq.{take-append_seam}
 use Rattle.std.proofs.lemmas.Cmp.{nat_list_cmp_total}
-use Rattle.std.proofs.lemmas.List.{length-append}
 use Rattle.std.proofs.lemmas.List.Sums.{sum_by-append}
-use Rattle.jc_types.specs.declared.caller.Caller.{Caller}
-use Rattle.jc_types.specs.declared.config.Config.{Config}
-use Rattle.jc_model.specs.Cache.{Bytes, Cache, entry_at, key_cmp}
-use Rattle.jc_model.specs.Group.{Group, cache_after_group, cache_before_step, events_of, evicted_events, history_of, shared_event, step_event, step_place, victim_events}
 use Rattle.jc_model.specs.Lawful.{AreLawful, IsLawful}
 use Rattle.jc_model.specs.Legal.{IsHistory, event_key}
 use Rattle.jc_model.specs.Listed.{others, with_entry_first}
-use Rattle.jc_model.specs.Table.{entry_after, entry_by_fault, after_effect, value_after_load, first_fault}
 use Rattle.jc_model.specs.declared.event.Cause.{Cause}
 use Rattle.jc_model.specs.declared.event.Cause.TheVariants.{Full}
 use Rattle.jc_model.specs.declared.event.Effect.TheVariants.{Set}
-use Rattle.jc_model.specs.declared.event.Event.{Event}
-use Rattle.jc_model.specs.declared.event.Event.TheVariants.{Step, Evict}
-use Rattle.jc_model.specs.declared.event.LoadAnswer.{LoadAnswer}
-use Rattle.jc_model.specs.declared.event.Op.TheVariants.{Invoke}
-use Rattle.jc_model.specs.declared.event.Out.{Out}
-use Rattle.jc_model.specs.declared.event.ProcessAnswer.TheVariants.{Ended}
-use Rattle.jc_model.specs.declared.event.Reply.{Reply}
 use Rattle.jc_model.proofs.CallerLemmas.{find-others}
-use Rattle.jc_stripe.specs.State.{State, Generation}
-use Rattle.jc_stripe.specs.Generations.{IsChain, opening_after, past_events, whole_history, first_opening}
 use Rattle.jc_stripe.specs.OrderOfUse.{by_use, is_use, order_after_event}
-use Rattle.jc_stripe.specs.Reached.{IsReached}
-use Rattle.jc_stripe.proofs.CallerLemmas.{stands_at}
 use Rattle.jc_engine.specs.Increments.{AllSetNext, EventsByTable, IsByTable, LeavesNext, LeavesSum, SetsNext, count_at, next_times, opening_entry}
 
 -- 1. What a whole history leaves.

@@ -1,24 +1,8 @@
 -- A look for a hit in vain is one more lending in which a get waited.
 --     later_row     the row of a whole call after it
 --     later_call    the whole call
-use Rattle.std.proofs.Common.{◌≡◌, ◌∙◌, inr, ℕ, zero, suc, List, [], ◌∷◌, ◌++◌, Result, refl, sym, ap, subst}
-use Rattle.jc_types.specs.declared.caller.Caller.{Caller}
-use Rattle.jc_types.specs.declared.refusal.Refusal.{Refusal}
-use Rattle.jc_model.specs.Cache.{Bytes}
-use Rattle.jc_model.specs.declared.event.Op.TheVariants.{Get}
-use Rattle.jc_model.specs.declared.event.Out.{Out}
-use Rattle.jc_model.specs.declared.event.Reply.{Reply}
-use Rattle.jc_outside.specs.Calling.{LoadRelation, WriteRelation}
-use Rattle.jc_stripe.specs.State.{State}
-use Rattle.jc_stripe.specs.Outcomes.{Begun}
+use Rattle.jc_engine.proofs.Common.{◌≡◌, ◌∙◌, inr, ℕ, zero, suc, List, [], ◌∷◌, ◌++◌, Result, refl, sym, ap, subst, Caller, Refusal, Bytes, Get, Out, Reply, LoadRelation, WriteRelation, State, Begun, boxed, Agent, AsksWriter, change_wanted, HasMissed, IsLending, IsTurn, AreRejoins, IsBegunRow, IsCallRow, starting, state_found, IsCall}
 use Rattle.jc_stripe.specs.Outcomes as begun
-use Rattle.jc_session.specs.Boxed.{boxed}
-use Rattle.jc_session.specs.declared.agent.Agent.{Agent}
-use Rattle.jc_engine.specs.Asking.{AsksWriter, change_wanted}
-use Rattle.jc_engine.specs.Needs.{HasMissed}
-use Rattle.jc_engine.specs.Rows.{IsLending, IsTurn}
-use Rattle.jc_engine.specs.Turns.{AreRejoins, IsBegunRow, IsCallRow, starting, state_found}
-use Rattle.jc_engine.specs.Calls.{IsCall}
 
 module _ (caller : Caller) (key : Bytes) (a b : State) (missed : HasMissed caller key a b) where
   abbrev pub later_turn : (begun : Begun) (row : List (State × State)) → IsTurn (starting caller key Get begun) row → IsTurn (starting caller key Get begun) ((a, b) ∷ row)

@@ -1,3 +1,4 @@
+pub mod Common
 pub mod Beginning
 pub mod Rows
 pub mod Tries

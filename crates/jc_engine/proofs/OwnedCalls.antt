@@ -5,38 +5,10 @@
 --     ends_owned    how the call ends there
 --     owned_call    the whole call
 --     owned_as      the same of an equal agent and an equal owner after it
-use Rattle.std.proofs.Common.{◌≡◌, ◌⊎◌, ⊎_elim, ◌+◌, ◌∙◌, ℕ, zero, suc, List, [], ◌∷◌, Bool, true, false, cond, Option, Some, None, IsSome, Result, refl, sym, ap, subst}
+use Rattle.jc_engine.proofs.Common.{◌≡◌, ◌⊎◌, ⊎_elim, ◌+◌, ◌∙◌, ℕ, zero, suc, List, [], ◌∷◌, Bool, true, false, cond, Option, Some, None, IsSome, Result, refl, sym, ap, subst, Caller, Refusal, Bytes, entry_at, nothing_said, Op, Get, Out, Reply, LoadRelation, WriteRelation, Begun, StepDone, First, Nobody, State, IsIdle, TicketClaim, JoinClaim, first_asked, load_joined, reserves, Steps, Begins, Commits, IsReached, WholeCall, JoinsOnlyLoads, stays_alone, stays_or_renews, boxed, Agent, AllLend, IsTurn, Row, Turn, HasWaited, AreRejoins, EndsBy, IsCallRow, StartWaits, committing, starting, state_found, HasMissed, Starts, Waits, AsksLoader, AsksWriter, KeepsTypes, change_wanted, own_after, IsCall}
 use Rattle.std.proofs.lemmas.Option.{same_Some}
-use Rattle.jc_types.specs.declared.caller.Caller.{Caller}
-use Rattle.jc_types.specs.declared.refusal.Refusal.{Refusal}
-use Rattle.jc_model.specs.Cache.{Bytes, entry_at}
-use Rattle.jc_model.specs.Group.{nothing_said}
-use Rattle.jc_model.specs.declared.event.Op.{Op}
-use Rattle.jc_model.specs.declared.event.Op.TheVariants.{Get}
-use Rattle.jc_model.specs.declared.event.Out.{Out}
-use Rattle.jc_model.specs.declared.event.Reply.{Reply}
-use Rattle.jc_outside.specs.Calling.{LoadRelation, WriteRelation}
-use Rattle.jc_stripe.specs.Outcomes.{Begun, StepDone}
 use Rattle.jc_stripe.specs.Outcomes as begun
-use Rattle.jc_stripe.specs.declared.ticket.First.{First}
-use Rattle.jc_stripe.specs.declared.ticket.First.TheVariants.{Nobody}
-use Rattle.jc_stripe.specs.State.{State, IsIdle}
-use Rattle.jc_stripe.specs.Tickets.{TicketClaim, JoinClaim}
-use Rattle.jc_stripe.specs.Refusals.{first_asked, load_joined, reserves}
-use Rattle.jc_stripe.specs.Phases.{Steps, Begins, Commits}
-use Rattle.jc_stripe.specs.Reached.{IsReached}
-use Rattle.jc_stripe.specs.OwnSteps.{WholeCall, JoinsOnlyLoads}
-use Rattle.jc_stripe.proofs.CallerLemmas.{stays_alone, stays_or_renews}
-use Rattle.jc_session.specs.Boxed.{boxed}
-use Rattle.jc_session.specs.declared.agent.Agent.{Agent}
 use Rattle.jc_gate.specs.Owned.{OwnerState}
-use Rattle.jc_engine.specs.Rows.{AllLend, IsTurn, Row, Turn}
-use Rattle.jc_engine.specs.Doors.{HasWaited}
-use Rattle.jc_engine.specs.Turns.{AreRejoins, EndsBy, IsCallRow, StartWaits, committing, starting, state_found}
-use Rattle.jc_engine.specs.Needs.{HasMissed, Starts}
-use Rattle.jc_engine.specs.declared.first.How.TheVariants.{Waits}
-use Rattle.jc_engine.specs.Asking.{AsksLoader, AsksWriter, KeepsTypes, change_wanted, own_after}
-use Rattle.jc_engine.specs.Calls.{IsCall}
 use Rattle.jc_engine.specs.Owned.{next_after, OneStep, EndsCall, IsOwnedCall}
 use Rattle.jc_engine.proofs.Rows.{all_map, row_split}
 

@@ -1,16 +1,8 @@
 -- What a call that runs a processor says of the processor.
 --     ran    the processor was run once, on the entry that the first phase found
-use Rattle.std.proofs.Common.{◌≡◌, ◌&&◌, ℕ, List, Bool, true, false, is_none, MatchBool, refl, sym, subst}
-use Rattle.jc_model.specs.Cache.{Bytes, entry_at}
-use Rattle.jc_model.specs.declared.event.Op.TheVariants.{Invoke}
-use Rattle.jc_model.specs.declared.event.LoadAnswer.{LoadAnswer}
+use Rattle.jc_engine.proofs.Common.{◌≡◌, ◌&&◌, ℕ, List, Bool, true, false, is_none, MatchBool, refl, sym, subst, Bytes, entry_at, Invoke, LoadAnswer, wanted_if, is_process_given, First, State, entry_seen, is_loadable, first_asked, is_wanted}
 use Rattle.jc_model.specs.declared.event.ProcessAnswer.{ProcessAnswer}
-use Rattle.jc_model.specs.Table.{wanted_if, is_process_given}
 use Rattle.jc_mutentry.specs.Running.{ProcessRelation, RunsOnce}
-use Rattle.jc_stripe.specs.declared.ticket.First.{First}
-use Rattle.jc_stripe.specs.State.{State}
-use Rattle.jc_stripe.specs.Tickets.{entry_seen, is_loadable}
-use Rattle.jc_stripe.specs.Refusals.{first_asked, is_wanted}
 
 wanted : (b : Bool) → is_wanted (wanted_if b) ≡ b
 wanted true = refl

@@ -10,28 +10,10 @@
 --     at_once       no rounds, and a first phase
 --     done_row      a call that ends with its first phase
 --     shared_row    one that picks the answer of a load up
-use Rattle.std.proofs.Common.{◌≡◌, Bor, inl, ℕ, zero, suc, List, [], ◌++◌, Result, Ok, refl, sym, subst, append-nil}
-use Rattle.jc_types.specs.declared.caller.Caller.{Caller}
-use Rattle.jc_types.specs.declared.refusal.Refusal.{Refusal}
-use Rattle.jc_model.specs.Cache.{Bytes}
-use Rattle.jc_model.specs.Group.{nothing_said}
-use Rattle.jc_model.specs.declared.event.Op.{Op}
-use Rattle.jc_model.specs.declared.event.Reply.{Reply}
-use Rattle.jc_stripe.specs.State.{State}
-use Rattle.jc_stripe.specs.Outcomes.{Begun}
+use Rattle.jc_engine.proofs.Common.{◌≡◌, Bor, inl, ℕ, zero, suc, List, [], ◌++◌, Result, Ok, refl, sym, subst, append-nil, Caller, Refusal, Bytes, nothing_said, Op, Reply, State, Begun, Started, begun_with, JoinClaim, IsTurn, LentPhase, PhaseLaws, Row, Turn, turn_of, TriesTo, IsAgain, BeginsIfClear, StartsBy, AreRejoins, EndsBy, IsBegunRow, IsCallRow, StartWaits, picking, starting, trying, How, Waits, Alone}
 use Rattle.jc_stripe.specs.Outcomes as begun
 use Rattle.jc_stripe.specs.Polled as polled
-use Rattle.jc_stripe.specs.declared.begun.Started.{Started}
-use Rattle.jc_stripe.specs.Phases.{begun_with}
-use Rattle.jc_stripe.specs.Tickets.{JoinClaim}
-use Rattle.jc_engine.specs.Rows.{IsTurn, LentPhase, PhaseLaws, Row, Turn, turn_of}
-use Rattle.jc_engine.specs.Calls.{TriesTo}
-use Rattle.jc_engine.specs.Doors.{IsAgain}
-use Rattle.jc_engine.specs.Needs.{BeginsIfClear, StartsBy}
-use Rattle.jc_engine.specs.Turns.{AreRejoins, EndsBy, IsBegunRow, IsCallRow, StartWaits, picking, starting, trying}
 use Rattle.jc_engine.specs.declared.first.BeginCall.{BeginCall}
-use Rattle.jc_engine.specs.declared.first.How.{How}
-use Rattle.jc_engine.specs.declared.first.How.TheVariants.{Waits, Alone}
 use Rattle.jc_engine.specs.Stays.{begins-stays}
 use Rattle.jc_engine.proofs.Rows.{lent_map, rejoins_keep, row_append, row_since, since_found}
 

@@ -16,35 +16,11 @@
 --     begun_since               what a call's first phase found
 --     starts_phase, commits_phase, picks_phase
 --                               what each phase of a call is: one phase of its session
-use Rattle.std.proofs.Common.{◌≡◌, ◌⊎◌, ⊎_elim, inl, inr, ℕ, zero, suc, List, [], ◌∷◌, ◌++◌, refl, sym, ap, subst, ◌∙◌, append_assoc, append-nil, le_refl, arith, ◌≤◌, Result}
+use Rattle.jc_engine.proofs.Common.{◌≡◌, ◌⊎◌, ⊎_elim, inl, inr, ℕ, zero, suc, List, [], ◌∷◌, ◌++◌, refl, sym, ap, subst, ◌∙◌, append_assoc, append-nil, le_refl, arith, ◌≤◌, Result, Caller, Refusal, Bytes, Op, Get, Out, Reply, State, IsReached, whole_history, present_generation, IsOfSameStripe, IsPhaseOf, Begins, Commits, PicksUp, Renewal, Renews, StaysOrRenews, all_own_steps, JoinClaim, TicketClaim, Begun, StepDone, Reservation, of_same, whole_goes_on, own_stay, stays_or_renews, ComesAfter, AllLend, IsLending, IsTurn, LentPhase, PhaseLaws, Row, Turn, HasWaited, IsLeft, HasMissed, StartsBy, AreRejoins, EndsBy, IsBegunRow, IsCallRow, IsRejoin, StartWaits, committing, picking, starting, state_decided, state_found, state_of_step, How, Waits}
 use mathlib.Core.List.{IsPrefix}
-use Rattle.jc_types.specs.declared.caller.Caller.{Caller}
-use Rattle.jc_types.specs.declared.refusal.Refusal.{Refusal}
-use Rattle.jc_model.specs.Cache.{Bytes}
-use Rattle.jc_model.specs.declared.event.Op.{Op}
-use Rattle.jc_model.specs.declared.event.Op.TheVariants.{Get}
-use Rattle.jc_model.specs.declared.event.Out.{Out}
-use Rattle.jc_model.specs.declared.event.Reply.{Reply}
-use Rattle.jc_stripe.specs.State.{State}
-use Rattle.jc_stripe.specs.Reached.{IsReached}
-use Rattle.jc_stripe.specs.Generations.{whole_history, present_generation, IsOfSameStripe}
-use Rattle.jc_stripe.specs.OnePhase.{IsPhaseOf}
-use Rattle.jc_stripe.specs.Phases.{Begins, Commits, PicksUp}
-use Rattle.jc_stripe.specs.Renewal.{Renewal, Renews, StaysOrRenews, all_own_steps}
-use Rattle.jc_stripe.specs.Tickets.{JoinClaim, TicketClaim}
-use Rattle.jc_stripe.specs.Outcomes.{Begun, StepDone}
 use Rattle.jc_stripe.specs.Polled.{Polled}
 use Rattle.jc_stripe.specs.Outcomes as begun
 use Rattle.jc_stripe.specs.Polled as polled
-use Rattle.jc_stripe.specs.declared.ticket.Reservation.{Reservation}
-use Rattle.jc_stripe.proofs.CallerLemmas.{of_same, whole_goes_on, own_stay, stays_or_renews}
-use Rattle.jc_gate.specs.Lending.{ComesAfter}
-use Rattle.jc_engine.specs.Rows.{AllLend, IsLending, IsTurn, LentPhase, PhaseLaws, Row, Turn}
-use Rattle.jc_engine.specs.Doors.{HasWaited, IsLeft}
-use Rattle.jc_engine.specs.Needs.{HasMissed, StartsBy}
-use Rattle.jc_engine.specs.Turns.{AreRejoins, EndsBy, IsBegunRow, IsCallRow, IsRejoin, StartWaits, committing, picking, starting, state_decided, state_found, state_of_step}
-use Rattle.jc_engine.specs.declared.first.How.{How}
-use Rattle.jc_engine.specs.declared.first.How.TheVariants.{Waits}
 
 -- 1. What is so of each.
 

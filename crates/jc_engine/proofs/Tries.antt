@@ -7,15 +7,7 @@
 --     tried_twice    two of them
 --     made_again     a phase that was made at the second try
 --     tried_since    what is found after one try comes after what a take could have found before it
-use Rattle.std.proofs.Common.{◌≡◌, ⊎_elim, ℕ, List, [], ◌∷◌, ◌++◌, Bool, true, false, MatchBool, refl, sym, subst}
-use Rattle.std.proofs.lemmas.Bool.{true≢false}
-use Rattle.jc_stripe.specs.OnePhase.{IsPhaseOf}
-use Rattle.jc_stripe.specs.State.{State}
-use Rattle.jc_stripe.specs.Reached.{IsReached}
-use Rattle.jc_stripe.specs.Renewal.{is_renewable}
-use Rattle.jc_gate.specs.Lending.{ComesAfter}
-use Rattle.jc_engine.specs.Rows.{AllLend, IsLending, LentPhase, PhaseLaws, Row, turn_of}
-use Rattle.jc_engine.specs.Doors.{AreTries, HasTried, HasTriedOnce, IsAgain, IsLeft}
+use Rattle.jc_engine.proofs.Common.{◌≡◌, ⊎_elim, ℕ, List, [], ◌∷◌, ◌++◌, Bool, true, false, MatchBool, refl, sym, subst, true≢false, IsPhaseOf, State, IsReached, is_renewable, ComesAfter, AllLend, IsLending, LentPhase, PhaseLaws, Row, turn_of, AreTries, HasTried, HasTriedOnce, IsAgain, IsLeft}
 use Rattle.jc_engine.proofs.Rows.{Keeps, Since, all_append, left_once, once, row_append, row_since, since_found}
 
 -- 1. Tries until the phase is made.

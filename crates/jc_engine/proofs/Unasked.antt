@@ -4,24 +4,9 @@
 --     no_done, no_join    and it is given nothing else, unless it is refused
 --     no_ticket, no_share
 --                         a call that asks nobody outside is given neither a ticket nor a join
-use Rattle.std.proofs.Common.{◌≡◌, ◌∙◌, ◌&&◌, ◌||◌, if◌then◌else◌, ℕ, Bool, true, false, Option, None, Some, is_none, refl, sym, ap}
-use Rattle.jc_types.specs.declared.caller.Caller.{Caller}
-use Rattle.jc_types.specs.declared.config.Config.{Config}
-use Rattle.jc_model.specs.declared.event.Change.{Change}
-use Rattle.jc_model.specs.declared.event.Op.{Op}
-use Rattle.jc_model.specs.declared.event.Op.TheVariants.{Get, Invoke}
-use Rattle.jc_model.specs.Cache.{Bytes, entry_at}
-use Rattle.jc_model.specs.Table.{is_invoke, loader_ask}
-use Rattle.jc_stripe.specs.Outcomes.{StepDone}
+use Rattle.jc_engine.proofs.Common.{◌≡◌, ◌∙◌, ◌&&◌, ◌||◌, if◌then◌else◌, ℕ, Bool, true, false, Option, None, Some, is_none, refl, sym, ap, Caller, Config, Change, Op, Get, Invoke, Bytes, entry_at, is_invoke, loader_ask, StepDone, First, Nobody, Loader, Writer, Processor, first_asked, first_by, may_join, reserves, TicketClaim, JoinClaim, asks_loader, asks_processor, asks_writer, State, Begins, invokes}
 use Rattle.jc_stripe.specs.Outcomes as begun
-use Rattle.jc_stripe.specs.declared.ticket.First.{First}
-use Rattle.jc_stripe.specs.declared.ticket.First.TheVariants.{Nobody, Loader, Writer, Processor}
-use Rattle.jc_stripe.specs.Refusals.{first_asked, first_by, may_join, reserves}
-use Rattle.jc_stripe.specs.Tickets.{TicketClaim, JoinClaim, asks_loader, asks_processor, asks_writer}
-use Rattle.jc_stripe.specs.State.{State}
-use Rattle.jc_stripe.specs.Phases.{Begins}
 use Rattle.jc_stripe.specs.Tests.{asks_outside}
-use Rattle.jc_stripe.proofs.CallerLemmas.{invokes}
 
 clash : (b : Bool) → b ≡ true → b ≡ false → ⊥
 clash true is other = cc

@@ -1,20 +1,10 @@
 -- What the writer is asked for.
 --     writes_through    the writer is asked only with write-through on
 --     wanted_is_asked   and then for the change that the writer table asks for
-use Rattle.std.proofs.Common.{◌≡◌, Bool, true, false, cond, Option, None, Some, ap, refl, ◌∙◌}
-use Rattle.jc_types.specs.declared.config.Config.{Config}
-use Rattle.jc_model.specs.declared.event.Change.{Change}
-use Rattle.jc_model.specs.declared.event.Op.{Op}
+use Rattle.jc_engine.proofs.Common.{◌≡◌, Bool, true, false, cond, Option, None, Some, ap, refl, ◌∙◌, Config, Change, Op, NotAsked, Bytes, loader_ask, write_ask, is_invoke, First, Processor, asks_writer, change_asked, first_asked, first_by, is_wanted}
 use Rattle.jc_model.specs.declared.event.ProcessAnswer.{ProcessAnswer}
-use Rattle.jc_model.specs.declared.event.ProcessAnswer.TheVariants.{NotAsked}
 use Rattle.jc_model.specs.declared.table.LoaderAsk.{LoaderAsk}
 use Rattle.jc_model.specs.declared.table.LoaderAsk.TheVariants.{Never, Always, IfWanted}
-use Rattle.jc_model.specs.Cache.{Bytes}
-use Rattle.jc_model.specs.Table.{loader_ask, write_ask, is_invoke}
-use Rattle.jc_stripe.specs.declared.ticket.First.{First}
-use Rattle.jc_stripe.specs.declared.ticket.First.TheVariants.{Processor}
-use Rattle.jc_stripe.specs.Tickets.{asks_writer, change_asked}
-use Rattle.jc_stripe.specs.Refusals.{first_asked, first_by, is_wanted}
 
 asks_through : (invokes : Bool) (seen : Option Bytes) (wanted : Bool) (ask : LoaderAsk) (through : Bool) (change : Option Change) (first : First) → cond invokes (Processor seen wanted) (first_by ask (cond through change None)) ≡ first
     → asks_writer first ≡ true → through ≡ true

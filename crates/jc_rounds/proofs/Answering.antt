@@ -4,22 +4,12 @@
 --     report_due                 the writer's report on it
 --     run_over                   what is left, and what was answered
 --     processes_over    no answer is left
-use Rattle.std.proofs.Common.{◌≡◌, ◌++◌, List, [], ◌∷◌, length, map, reverse, Bool, true, false, Option, vec_len, refl, sym, ap, subst, ◌∙◌}
-use Rattle.std.proofs.lemmas.List.{reverse-reverse}
-use Rattle.std.specs.Global.{Vec}
-use Rattle.std.specs.List.{AllByRecursion, IsAmong}
-use Rattle.jc_types.specs.declared.config.Config.{Config}
-use Rattle.jc_model.specs.Group.{load_only, write_only}
-use Rattle.jc_outside.specs.CallingAll.{loads_done, writes_done}
+use Rattle.jc_rounds.proofs.Common.{◌≡◌, ◌++◌, List, [], ◌∷◌, length, map, reverse, Bool, true, false, Option, vec_len, refl, sym, ap, subst, ◌∙◌, reverse-reverse, Vec, AllByRecursion, IsAmong, Config, load_only, write_only, loads_done, writes_done, Claim, asks_loader, asks_processor, asks_writer, claim_of, entry_seen, is_loadable, Reservation, AreAnswers, IsReportedOn, IsToBeAnswered, RunState, TakesReport, asked_key, done_of, key_run, reports, reservations_of, IsAnswer, LoadAll, ProcessAll, ProcessRound, Round, WriteAll}
 use Rattle.jc_outside.specs.Done.{LoadResult, WriteResult}
 use Rattle.jc_outside.specs.declared.done.Origin.TheVariants.{Live}
 use Rattle.jc_mutentry.specs.Done.{ProcessResult}
 use Rattle.jc_stripe.specs.Effects.{HasReport, change_due, process_out}
-use Rattle.jc_stripe.specs.Tickets.{Claim, asks_loader, asks_processor, asks_writer, claim_of, entry_seen, is_loadable}
-use Rattle.jc_stripe.specs.declared.ticket.Reservation.{Reservation}
 use Rattle.jc_rounds.specs.declared.answers.RoundAnswers.TheVariants as answers
-use Rattle.jc_rounds.specs.Answers.{AreAnswers, IsReportedOn, IsToBeAnswered, RunState, TakesReport, asked_key, done_of, key_run, reports, reservations_of}
-use Rattle.jc_rounds.specs.Rounds.{IsAnswer, LoadAll, ProcessAll, ProcessRound, Round, WriteAll}
 use Rattle.jc_rounds.proofs.Underway.{last_first}
 
 -- 1. The loader, and the writer.

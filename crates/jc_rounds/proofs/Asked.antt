@@ -8,42 +8,13 @@
 --     asked_set                         the key at a place goes on
 --     asked_more, asked_on              one round more, for the keys that are reserved
 --     types_on                          the loader and the writer stay of their types
-use Rattle.std.proofs.Common.{◌≡◌, ◌==◌, ◌||◌, ◌⊎◌, ⊎_elim, inl, inr, ◌<◌, ◌++◌, ℕ, zero, suc, List, [], ◌∷◌, append-nil, length, map, cond, set, slice_get, Bool, true, false, true≢false, MatchBool, Some, refl, sym, ap, ◌∙◌, subst, arith}
-use Rattle.std.proofs.lemmas.Cmp.{nat_list_eq_equiv}
-use Rattle.std.proofs.lemmas.List.Concat.{flat_map-append}
-use Rattle.std.proofs.lemmas.List.Elements.{All-append, All-cons, All-nil}
-use Rattle.std.proofs.lemmas.List.Folds.{list_any-append}
-use Rattle.std.proofs.lemmas.Map.Keys.{IsDistinct-cons, IsDistinct-head, IsDistinct-tail}
-use Rattle.std.proofs.lemmas.Option.{same_Some}
-use Rattle.std.specs.List.{All, AllByRecursion, IsAmong, IsDistinct, filter}
-use Rattle.std.specs.Map.{keys_of}
-use Rattle.std.specs.Cmp.Lexicographic.{pointwise}
-use Rattle.jc_types.specs.declared.caller.Caller.{Caller}
-use Rattle.jc_types.specs.declared.config.Config.{Config}
-use Rattle.jc_model.specs.Batches.{is_among}
-use Rattle.jc_model.specs.Cache.{Bytes}
-use Rattle.jc_model.specs.declared.event.Op.{Op}
-use Rattle.jc_stripe.specs.declared.ticket.Reservation.{Reservation}
-use Rattle.jc_stripe.proofs.CallerLemmas.{none_twice}
-use Rattle.jc_stripe.specs.Tickets.{JoinClaim}
-use Rattle.jc_session.specs.declared.agent.Agent.{Agent}
+use Rattle.jc_rounds.proofs.Common.{◌≡◌, ◌==◌, ◌||◌, ◌⊎◌, ⊎_elim, inl, inr, ◌<◌, ◌++◌, ℕ, zero, suc, List, [], ◌∷◌, append-nil, length, map, cond, set, slice_get, Bool, true, false, true≢false, MatchBool, Some, refl, sym, ap, ◌∙◌, subst, arith, nat_list_eq_equiv, flat_map-append, All-append, All-cons, All-nil, list_any-append, IsDistinct-cons, IsDistinct-head, IsDistinct-tail, same_Some, All, AllByRecursion, IsAmong, IsDistinct, filter, keys_of, pointwise, Caller, Config, is_among, Bytes, Op, Reservation, none_twice, JoinClaim, Agent, CacheState, Session, KeyProgress, Ended, IsTicketFor, Waiting, Reserved, Joined, AsksFor, HasAskedSoFar, IsInOrder, reserved_keys, holds_reservation, is_held_back, Round, asked_in, keys_asked, AreIn, IsSoFar, IsUnderway, IsOf}
 use Rattle.jc_engine.specs.Asking.{KeepsTypes}
-use Rattle.jc_cache.specs.Caches.{CacheState}
-use Rattle.jc_session.specs.declared.session.Session.{Session}
-use Rattle.jc_rounds.specs.declared.progress.KeyProgress.{KeyProgress}
-use Rattle.jc_rounds.specs.declared.progress.KeyProgress.TheVariants.{Ended}
-use Rattle.jc_rounds.specs.Keys.{IsTicketFor}
 use Rattle.jc_rounds.proofs.SeatPhases.{Seated}
 use Rattle.jc_rounds.proofs.SoFar.{or_parts}
 use Rattle.jc_outside.proofs.CallerLemmas.{at_place}
-use Rattle.jc_rounds.specs.declared.progress.KeyProgress.TheVariants.{Waiting, Reserved, Joined}
-use Rattle.jc_rounds.specs.Asking.{AsksFor, HasAskedSoFar, IsInOrder, reserved_keys}
-use Rattle.jc_rounds.specs.KeyProgress.{holds_reservation, is_held_back}
-use Rattle.jc_rounds.specs.Rounds.{Round, asked_in, keys_asked}
-use Rattle.jc_rounds.specs.SoFar.{AreIn, IsSoFar, IsUnderway}
 use Rattle.jc_rounds.proofs.Out.{is_no}
 use Rattle.jc_rounds.proofs.SoFar.{key_at, more_rounds}
-use Rattle.jc_cache.specs.Sessions.{IsOf}
 
 -- 1. Lists.
 

@@ -6,25 +6,7 @@
 --     others-gained, former-gained, before-gained    it leaves the steps at other keys, those of former calls, and the numbers
 --     may-come-all                     a step of the call may come at a key at which it has none
 --     no-steps, still-before           before the call it has no step, and all steps are of former calls
-use Rattle.std.proofs.Common.{◌≡◌, ◌==◌, ◌&&◌, ◌||◌, ◌+◌, ℕ, List, [], ◌∷◌, ◌++◌, filter, cond, Bool, true, false, not, Option, nat_lt, if◌then◌else◌, refl, sym, ap, ◌∙◌, arith}
-use Rattle.std.proofs.lemmas.Bool.{and_parts}
-use Rattle.std.proofs.lemmas.Bool.Decides.{nat_tests}
-use Rattle.std.proofs.lemmas.Cmp.{nat_list_eq_equiv}
-use Rattle.std.specs.List.{list_all}
-use Rattle.std.specs.Cmp.Lexicographic.{pointwise}
-use Rattle.jc_types.specs.declared.caller.Caller.{Caller}
-use Rattle.jc_model.specs.Cache.{Bytes}
-use Rattle.jc_model.specs.Legal.{may_come}
-use Rattle.jc_model.specs.declared.event.Event.{Event}
-use Rattle.jc_model.specs.declared.event.Event.TheVariants.{Step, Evict}
-use Rattle.jc_model.specs.declared.event.Op.{Op}
-use Rattle.jc_model.specs.declared.event.Out.{Out}
-use Rattle.jc_model.specs.declared.event.Reply.{Reply}
-use Rattle.jc_stripe.specs.OwnSteps.{is_before_call, may_come_all}
-use Rattle.jc_stripe.specs.Refusals.{last_number}
-use Rattle.jc_session.specs.Counting.{one_more}
-use Rattle.jc_rounds.specs.Keys.{IsEarly}
-use Rattle.jc_rounds.specs.Recorded.{is_step_of, steps_of, is_former, former_steps, are_before}
+use Rattle.jc_rounds.proofs.Common.{◌≡◌, ◌==◌, ◌&&◌, ◌||◌, ◌+◌, ℕ, List, [], ◌∷◌, ◌++◌, filter, cond, Bool, true, false, not, Option, nat_lt, if◌then◌else◌, refl, sym, ap, ◌∙◌, arith, and_parts, nat_tests, nat_list_eq_equiv, list_all, pointwise, Caller, Bytes, may_come, Event, Step, Evict, Op, Out, Reply, is_before_call, may_come_all, last_number, one_more, IsEarly, is_step_of, steps_of, is_former, former_steps, are_before}
 
 -- 1. Lists with one element more.
 

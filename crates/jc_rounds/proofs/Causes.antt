@@ -1,27 +1,8 @@
 -- The cause that a call tells is one of the first that it met.
 --     first_kept    so it stays when the call goes on
 --     first_more    and by one round more
-use Rattle.std.proofs.Common.{◌≡◌, ◌⊎◌, ⊎_elim, inl, inr, ◌++◌, ℕ, zero, suc, List, [], ◌∷◌, length, append-nil, append_assoc, Option, None, Some, Result, Ok, Err, slice_get, refl, sym, ap, ◌∙◌, subst, arith}
-use Rattle.std.proofs.lemmas.Option.{same_Some}
-use Rattle.std.specs.List.{IsAmong}
-use Rattle.jc_types.specs.declared.caller.Caller.{Caller}
-use Rattle.jc_types.specs.declared.config.Config.{Config}
-use Rattle.jc_types.specs.declared.refusal.Refusal.{Refusal}
-use Rattle.jc_model.specs.Cache.{Bytes}
-use Rattle.jc_model.specs.declared.event.Event.TheVariants.{Step}
-use Rattle.jc_model.specs.declared.event.Op.{Op}
-use Rattle.jc_model.specs.declared.event.Out.{Out}
-use Rattle.jc_model.specs.declared.event.Reply.{Reply}
+use Rattle.jc_rounds.proofs.Common.{◌≡◌, ◌⊎◌, ⊎_elim, inl, inr, ◌++◌, ℕ, zero, suc, List, [], ◌∷◌, length, append-nil, append_assoc, Option, None, Some, Result, Ok, Err, slice_get, refl, sym, ap, ◌∙◌, subst, arith, same_Some, IsAmong, Caller, Config, Refusal, Bytes, Step, Op, Out, Reply, KeyProgress, Waiting, Reserved, Joined, Ended, HasFailed, HasMet, HasRefused, IsFirst, IsCauseIn, KeepsCause, failures, refusal_in, EndsKey, IsAt, Round, faults_in, view_of, IsSoFar, RoundEnd, rounds_asked}
 use Rattle.jc_model.specs.declared.event.Reply.TheVariants as reply
-use Rattle.jc_rounds.specs.declared.progress.KeyProgress.{KeyProgress}
-use Rattle.jc_rounds.specs.declared.progress.KeyProgress.TheVariants.{Waiting, Reserved, Joined, Ended}
-use Rattle.jc_rounds.specs.Causes.{HasFailed, HasMet, HasRefused, IsFirst}
-use Rattle.jc_rounds.specs.KeyProgress.{IsCauseIn, KeepsCause, failures, refusal_in}
-use Rattle.jc_rounds.specs.Keys.{EndsKey, IsAt}
-use Rattle.jc_rounds.specs.Rounds.{Round, faults_in}
-use Rattle.jc_rounds.specs.Seats.{view_of}
-use Rattle.jc_rounds.specs.SoFar.{IsSoFar}
-use Rattle.jc_rounds.specs.Starting.{RoundEnd, rounds_asked}
 use Rattle.jc_rounds.proofs.Asked.{among_there, place_among, some_there}
 use Rattle.jc_rounds.proofs.Failures.{among_after, among_either, ended_there, failed_there}
 use Rattle.jc_rounds.proofs.SeatPhases.{Seated}

@@ -7,16 +7,8 @@
 --     cause_met        so is a cause that was noted
 --     met_fault        a fault of the writer is noted
 --     keeps_itself, keeps_same, keeps_both, keeps_noted, keeps_or    a cause that was noted stays
-use Rattle.std.proofs.Common.{◌≡◌, ◌<◌, ◌+◌, ◌++◌, ◌⊎◌, inl, inr, ℕ, zero, suc, List, [], ◌∷◌, append-nil, length, get_or, take, Option, None, Some, Result, slice_get, refl, sym, ap, ◌∙◌, subst, arith}
-use Rattle.std.proofs.lemmas.List.{take_more}
-use Rattle.std.proofs.lemmas.List.Elements.{filter_map-append}
-use Rattle.std.specs.List.{IsAmong, cons_option}
-use Rattle.std.specs.Option.{option_or}
-use Rattle.jc_types.specs.declared.refusal.Refusal.{Refusal}
-use Rattle.jc_model.specs.declared.event.Reply.{Reply}
-use Rattle.jc_rounds.specs.declared.progress.KeyProgress.{KeyProgress}
+use Rattle.jc_rounds.proofs.Common.{◌≡◌, ◌<◌, ◌+◌, ◌++◌, ◌⊎◌, inl, inr, ℕ, zero, suc, List, [], ◌∷◌, append-nil, length, get_or, take, Option, None, Some, Result, slice_get, refl, sym, ap, ◌∙◌, subst, arith, take_more, filter_map-append, IsAmong, cons_option, option_or, Refusal, Reply, KeyProgress, IsCauseIn, IsMet, IsNoted, KeepsCause, StayEnded, first_of, failures, failure_at, refusal_in}
 use Rattle.jc_rounds.specs.declared.progress.KeyProgress.TheVariants as progress
-use Rattle.jc_rounds.specs.KeyProgress.{IsCauseIn, IsMet, IsNoted, KeepsCause, StayEnded, first_of, failures, failure_at, refusal_in}
 use Rattle.jc_rounds.proofs.SoFar.{among_more}
 
 -- 1. One more.

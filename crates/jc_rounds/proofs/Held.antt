@@ -10,40 +10,9 @@
 --     fewer_out                            if some key isn't such, fewer are out than there are keys
 --     full_by, full_later                  there is no room: the round is full, and stays so
 --     have_more                            each key that has joined a load has done so since before the round, by one key more
-use Rattle.std.proofs.Common.{◌≡◌, ◌==◌, ◌*◌, ◌⊎◌, ⊎_elim, inl, inr, ◌<◌, ◌≤◌, ◌+◌, ℕ, zero, suc, List, [], ◌∷◌, length, set, slice_get, Bool, true, false, true≢false, MatchBool, if◌then◌else◌, Some, Result, Err, refl, sym, ap, ◌∙◌, subst, arith}
-use Rattle.std.proofs.lemmas.Option.{same_Some}
-use Rattle.std.proofs.lemmas.Map.Keys.{IsDistinct-cons, IsDistinct-head, IsDistinct-tail}
-use Rattle.std.specs.List.{AllByRecursion, IsAmong, IsDistinct}
-use Rattle.std.specs.Map.{keys_of}
-use Rattle.std.specs.Cmp.Lexicographic.{pointwise}
-use Rattle.jc_stripe.proofs.CallerLemmas.{none_twice}
-use Rattle.jc_types.specs.Stripes.{stripe_of}
+use Rattle.jc_rounds.proofs.Common.{◌≡◌, ◌==◌, ◌*◌, ◌⊎◌, ⊎_elim, inl, inr, ◌<◌, ◌≤◌, ◌+◌, ℕ, zero, suc, List, [], ◌∷◌, length, set, slice_get, Bool, true, false, true≢false, MatchBool, if◌then◌else◌, Some, Result, Err, refl, sym, ap, ◌∙◌, subst, arith, same_Some, IsDistinct-cons, IsDistinct-head, IsDistinct-tail, AllByRecursion, IsAmong, IsDistinct, keys_of, pointwise, none_twice, stripe_of, Caller, Config, Refusal, Bytes, Op, Get, Reply, JoinClaim, Begun, Reservation, whole_history, View, prefix-trans, same_on, KeyProgress, Waiting, Reserved, Joined, Ended, is_held_back, is_settled, waits_for_joined_load, waits_for_round, HasBegun, HasJoined, IsHeldBack, IsJoinFor, HasGrown, view_at, view_of, AreHeldBack, AreIn, IsHeldAt, IsKept, KeysAdvance, AreManyJoined, HaveJoined, IsFull, IsRoomFor, IsTicketFor, holds_reservation, JOINERS_MAX, RESERVATIONS_MAX, TicketClaim}
 use Rattle.jc_types.specs.Refusals.{is_put_off}
-use Rattle.jc_types.specs.declared.caller.Caller.{Caller}
-use Rattle.jc_types.specs.declared.config.Config.{Config}
-use Rattle.jc_types.specs.declared.refusal.Refusal.{Refusal}
-use Rattle.jc_model.specs.Cache.{Bytes}
-use Rattle.jc_model.specs.declared.event.Op.{Op}
-use Rattle.jc_model.specs.declared.event.Op.TheVariants.{Get}
-use Rattle.jc_model.specs.declared.event.Reply.{Reply}
-use Rattle.jc_stripe.specs.Tickets.{JoinClaim}
-use Rattle.jc_stripe.specs.Outcomes.{Begun}
 use Rattle.jc_stripe.specs.Outcomes as begun
-use Rattle.jc_stripe.specs.declared.ticket.Reservation.{Reservation}
-use Rattle.jc_stripe.specs.Generations.{whole_history}
-use Rattle.jc_lock.specs.declared.view.View.{View}
-use Rattle.jc_lock.proofs.CallerLemmas.{prefix-trans, same_on}
-use Rattle.jc_rounds.specs.declared.progress.KeyProgress.{KeyProgress}
-use Rattle.jc_rounds.specs.declared.progress.KeyProgress.TheVariants.{Waiting, Reserved, Joined, Ended}
-use Rattle.jc_rounds.specs.KeyProgress.{is_held_back, is_settled, waits_for_joined_load, waits_for_round}
-use Rattle.jc_rounds.specs.Keys.{HasBegun, HasJoined, IsHeldBack, IsJoinFor}
-use Rattle.jc_rounds.specs.Seats.{HasGrown, view_at, view_of}
-use Rattle.jc_rounds.specs.SoFar.{AreHeldBack, AreIn, IsHeldAt, IsKept, KeysAdvance}
-use Rattle.jc_rounds.specs.Starting.{AreManyJoined, HaveJoined, IsFull, IsRoomFor}
-use Rattle.jc_rounds.specs.Keys.{IsTicketFor}
-use Rattle.jc_rounds.specs.KeyProgress.{holds_reservation}
-use Rattle.jc_types.specs.declared.limits.TheConstants.{JOINERS_MAX, RESERVATIONS_MAX}
-use Rattle.jc_stripe.specs.Tickets.{TicketClaim}
 use Rattle.jc_rounds.proofs.Asked.{among_there}
 use Rattle.jc_rounds.proofs.Out.{is_no}
 use Rattle.jc_rounds.proofs.SeatPhases.{Seated, found_later, found_since, grown_itself, grown_on}

@@ -4,34 +4,12 @@
 --     commit_told       a commit
 --     pick_over         a pick-up that isn't too early
 --     pick_told         a pick-up
-use Rattle.std.proofs.Common.{◌≡◌, ℕ, true, List, [], sym, ap, subst, ◌∙◌}
-use Rattle.jc_types.specs.Stripes.{stripe_of}
-use Rattle.jc_types.specs.declared.caller.Caller.{Caller}
-use Rattle.jc_model.specs.Cache.{Bytes}
-use Rattle.jc_model.specs.declared.event.Op.{Op}
-use Rattle.jc_model.specs.declared.event.Op.TheVariants.{Get}
-use Rattle.jc_model.specs.declared.event.Out.{Out}
-use Rattle.jc_stripe.specs.State.{State}
-use Rattle.jc_stripe.specs.OnePhase.{OnePhase}
-use Rattle.jc_stripe.specs.OwnSteps.{OwnSteps, StepsBehind, may_come_all}
-use Rattle.jc_stripe.specs.Tickets.{JoinClaim}
-use Rattle.jc_stripe.specs.Outcomes.{Begun, StepDone}
-use Rattle.jc_stripe.specs.Polled.{Polled}
+use Rattle.jc_rounds.proofs.Common.{◌≡◌, ℕ, true, List, [], sym, ap, subst, ◌∙◌, stripe_of, Caller, Bytes, Op, Get, Out, State, OnePhase, OwnSteps, StepsBehind, may_come_all, JoinClaim, Begun, StepDone, Polled, Reservation, View, Turn, CacheState, MayStart, PhaseAt, IsOf, Session, HasBegun, HasPicked, IsCommitted, IsEarly, IsJoinFor, IsPickedUp, steps_of, AreBefore, HasGrown, MovesAtKey, view_at, view_of}
 use Rattle.jc_stripe.specs.Polled as polled
-use Rattle.jc_stripe.specs.declared.ticket.Reservation.{Reservation}
-use Rattle.jc_lock.specs.declared.view.View.{View}
 use Rattle.jc_session.specs.declared.counts.Counted.{Counted}
-use Rattle.jc_engine.specs.Rows.{Turn}
 use Rattle.jc_engine.specs.Needs.{PicksUpLate}
 use Rattle.jc_engine.specs.Turns.{committing}
 use Rattle.jc_cache.specs.Turns.{picking_late, starting_now}
-use Rattle.jc_cache.specs.Caches.{CacheState}
-use Rattle.jc_cache.specs.PhaseCalls.{MayStart, PhaseAt}
-use Rattle.jc_cache.specs.Sessions.{IsOf}
-use Rattle.jc_session.specs.declared.session.Session.{Session}
-use Rattle.jc_rounds.specs.Keys.{HasBegun, HasPicked, IsCommitted, IsEarly, IsJoinFor, IsPickedUp}
-use Rattle.jc_rounds.specs.Recorded.{steps_of}
-use Rattle.jc_rounds.specs.Seats.{AreBefore, HasGrown, MovesAtKey, view_at, view_of}
 use Rattle.jc_rounds.proofs.KeyPhases.{key_begun, key_committed, key_picked}
 use Rattle.jc_rounds.proofs.CallSteps.{may-come-all}
 use Rattle.jc_rounds.proofs.SeatPhases.{Seated, moves_all, view_here, view_there}

@@ -5,24 +5,9 @@
 --     entries_new     the next key is in none of them
 --     entries_whole   the entries of all keys
 --     failures_are    the failures are those of the entries that failed
-use Rattle.std.proofs.Common.{◌≡◌, ◌==◌, ◌||◌, ◌<◌, ◌≤◌, ◌+◌, ◌++◌, ℕ, zero, suc, List, [], ◌∷◌, length, map, take, get_or, min, false, Option, None, Some, option_map, Result, slice_get, append_assoc, refl, sym, ap, ◌∙◌, arith, append-nil}
-use Rattle.std.proofs.lemmas.Bool.{or_parts}
-use Rattle.std.proofs.lemmas.List.{take_all, take_more, length-take, take-map}
-use Rattle.std.proofs.lemmas.List.Elements.{filter_map-append}
-use Rattle.std.proofs.lemmas.Option.{same_Some}
-use Rattle.std.specs.List.{cons_option, list_any, IsDistinct}
-use Rattle.std.specs.Map.{keys_of}
-use Rattle.std.specs.Cmp.Lexicographic.{pointwise}
-use Rattle.jc_types.specs.declared.refusal.Refusal.{Refusal}
-use Rattle.jc_model.specs.Cache.{Bytes}
-use Rattle.jc_model.specs.declared.event.Op.{Op}
-use Rattle.jc_model.specs.declared.event.Op.TheVariants.{Get}
-use Rattle.jc_model.specs.declared.event.Reply.{Reply}
+use Rattle.jc_rounds.proofs.Common.{◌≡◌, ◌==◌, ◌||◌, ◌<◌, ◌≤◌, ◌+◌, ◌++◌, ℕ, zero, suc, List, [], ◌∷◌, length, map, take, get_or, min, false, Option, None, Some, option_map, Result, slice_get, append_assoc, refl, sym, ap, ◌∙◌, arith, append-nil, or_parts, take_all, take_more, length-take, take-map, filter_map-append, same_Some, cons_option, list_any, IsDistinct, keys_of, pointwise, Refusal, Bytes, Op, Get, Reply, KeyProgress, Waiting, Reserved, Joined, Ended, failure_at, failures, refusal_in}
 use Rattle.jc_batch.proofs.CallerLemmas.{not_before}
-use Rattle.jc_rounds.specs.declared.progress.KeyProgress.{KeyProgress}
-use Rattle.jc_rounds.specs.declared.progress.KeyProgress.TheVariants.{Waiting, Reserved, Joined, Ended}
 use Rattle.jc_rounds.specs.Ends.{KeyEnd, entries_by, failed_entries, key_end, key_ends, reply_value, value_at}
-use Rattle.jc_rounds.specs.KeyProgress.{failure_at, failures, refusal_in}
 
 -- 1. One key more.
 

@@ -4,49 +4,15 @@
 --     key_committed      a commit
 --     key_picked         a pick-up that isn't too early
 --     start_may          the session's own steps let the call begin at a key at which it has none
-use Rattle.std.proofs.Common.{◌≡◌, ◌&&◌, inl, inr, ◌≤◌, ℕ, List, [], ◌∷◌, ◌++◌, length, Bool, true, false, cond, Option, None, Some, slice_get, refl, sym, ap, subst, ◌∙◌, arith}
-use Rattle.std.proofs.lemmas.Bool.{and_parts}
-use Rattle.std.proofs.lemmas.List.{length-append}
-use Rattle.std.proofs.lemmas.List.Folds.{list_all-append}
-use Rattle.std.specs.List.{list_all}
+use Rattle.jc_rounds.proofs.Common.{◌≡◌, ◌&&◌, inl, inr, ◌≤◌, ℕ, List, [], ◌∷◌, ◌++◌, length, Bool, true, false, cond, Option, None, Some, slice_get, refl, sym, ap, subst, ◌∙◌, arith, and_parts, length-append, list_all-append, list_all, Caller, Config, Bytes, entry_at, nothing_said, may_come, Event, Step, Op, Get, Out, Reply, State, is_key, whole_history, whole_place, OnePhase, own_steps, AddsOwn, OwnSteps, StepsBehind, may_come_all, after_commit, with_joiner, first_asked, first_refusal, may_join, TicketClaim, JoinClaim, Begun, StepDone, Polled, Reservation, View, prefix-trans, Turn, ask_found, adds_whole, call_below, gains_whole, may_in_all, of_same, put_off_or_full, SeatPhase, HasBegun, HasPicked, IsCommitted, IsEarly, IsJoinFor, steps_of, HasFound, HasGrown}
 use mathlib.Core.List.{IsPrefix}
-use Rattle.jc_types.specs.declared.caller.Caller.{Caller}
-use Rattle.jc_types.specs.declared.config.Config.{Config}
-use Rattle.jc_model.specs.Cache.{Bytes, entry_at}
-use Rattle.jc_model.specs.Group.{nothing_said}
-use Rattle.jc_model.specs.Legal.{may_come}
-use Rattle.jc_model.specs.declared.event.Event.{Event}
-use Rattle.jc_model.specs.declared.event.Event.TheVariants.{Step}
-use Rattle.jc_model.specs.declared.event.Op.{Op}
-use Rattle.jc_model.specs.declared.event.Op.TheVariants.{Get}
-use Rattle.jc_model.specs.declared.event.Out.{Out}
-use Rattle.jc_model.specs.declared.event.Reply.{Reply}
-use Rattle.jc_stripe.specs.State.{State, is_key}
-use Rattle.jc_stripe.specs.Generations.{whole_history, whole_place}
 use Rattle.jc_stripe.specs.Renewal.{all_own_steps}
-use Rattle.jc_stripe.specs.OnePhase.{OnePhase, own_steps}
-use Rattle.jc_stripe.specs.OwnSteps.{AddsOwn, OwnSteps, StepsBehind, may_come_all}
-use Rattle.jc_stripe.specs.Phases.{after_commit, with_joiner}
-use Rattle.jc_stripe.specs.Refusals.{first_asked, first_refusal, may_join}
-use Rattle.jc_stripe.specs.Tickets.{TicketClaim, JoinClaim}
-use Rattle.jc_stripe.specs.Outcomes.{Begun, StepDone}
-use Rattle.jc_stripe.specs.Polled.{Polled}
 use Rattle.jc_stripe.specs.Outcomes as begun
 use Rattle.jc_stripe.specs.Polled as polled
-use Rattle.jc_stripe.specs.declared.ticket.Reservation.{Reservation}
-use Rattle.jc_lock.specs.declared.view.View.{View}
-use Rattle.jc_lock.proofs.CallerLemmas.{prefix-trans}
 use Rattle.jc_engine.specs.MadeIn.{IsNext}
-use Rattle.jc_engine.specs.Rows.{Turn}
 use Rattle.jc_engine.specs.Turns.{committing}
 use Rattle.jc_cache.specs.Turns.{picking_late, starting_now}
 use Rattle.jc_engine.proofs.CallerLemmas.{next_place}
-use Rattle.jc_stripe.proofs.CallerLemmas.{ask_found}
-use Rattle.jc_stripe.proofs.CallerLemmas.{adds_whole, call_below, gains_whole, may_in_all, of_same, put_off_or_full}
-use Rattle.jc_cache.specs.PhaseCalls.{SeatPhase}
-use Rattle.jc_rounds.specs.Keys.{HasBegun, HasPicked, IsCommitted, IsEarly, IsJoinFor}
-use Rattle.jc_rounds.specs.Recorded.{steps_of}
-use Rattle.jc_rounds.specs.Seats.{HasFound, HasGrown}
 use Rattle.jc_rounds.proofs.CallSteps.{steps-gained}
 use Rattle.jc_rounds.proofs.SeatPhases.{IsTurnOfCall, MovesSeat, all_now, front_found, found_phase, gained_phase, grown_phase, seen_own, seen_phase, uniform}
 

@@ -1,3 +1,4 @@
+pub mod Common
 pub mod CallSteps
 pub mod SeatPhases
 pub mod KeyPhases

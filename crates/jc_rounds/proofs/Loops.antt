@@ -4,27 +4,7 @@
 --     start_else, start_past                   a key for which there is no room, and one that doesn't wait
 --     commit_noted, commit_from, next_commit, commit_none, commit_past, commit_over    the last phases
 --     pick_noted, pick_from, next_pick, pick_none, pick_past, pick_over              the pick-ups
-use Rattle.std.proofs.Common.{◌≡◌, ⊎_elim, inl, inr, ◌≤◌, ◌+◌, ◌++◌, ℕ, List, [], ◌∷◌, length, map, reverse, slice_get, false, true≢false, Some, vec_capacity, vec_len, refl, sym, ap, subst, ◌∙◌, arith}
-use Rattle.std.proofs.lemmas.List.{reverse-reverse}
-use Rattle.std.specs.Global.{Vec}
-use Rattle.jc_model.specs.Cache.{Bytes}
-use Rattle.jc_model.specs.declared.event.Op.{Op}
-use Rattle.jc_stripe.specs.Tickets.{JoinClaim, TicketClaim}
-use Rattle.jc_cache.specs.Caches.{CacheState}
-use Rattle.jc_session.specs.declared.session.Session.{Session}
-use Rattle.jc_rounds.specs.declared.answers.RoundAnswers.{RoundAnswers}
-use Rattle.jc_rounds.specs.declared.bulk_call.BulkCall.{BulkCall}
-use Rattle.jc_rounds.specs.declared.progress.KeyProgress.{KeyProgress}
-use Rattle.jc_rounds.specs.declared.progress.KeyProgress.TheVariants.{Waiting, Reserved, Joined}
-use Rattle.jc_rounds.specs.Answers.{AreAnswers}
-use Rattle.jc_rounds.specs.KeyProgress.{IsCauseIn, IsNoted, StillWaits, failures, holds_reservation, waits_for_joined_load, waits_for_round}
-use Rattle.jc_rounds.specs.Keys.{IsJoinFor, IsTicketFor}
-use Rattle.jc_rounds.specs.Rounds.{Round, faults_in}
-use Rattle.jc_rounds.specs.Seats.{view_of}
-use Rattle.jc_rounds.specs.SoFar.{AreHeldBack, AreIn, IsHeldAt}
-use Rattle.jc_rounds.specs.Starting.{HaveJoined, IsFull}
-use Rattle.jc_rounds.specs.Targets.{ops_of}
-use Rattle.jc_rounds.specs.Underway.{Advances, CallPast, HasCommitted, HasNoRoom, HasStarted, IsAnswered, IsBetween, IsCommitting, IsCommittingNext, IsOn, IsPicking, IsPickingNext, IsStarting, KeepsJoined, are_fresh, reserved_by}
+use Rattle.jc_rounds.proofs.Common.{◌≡◌, ⊎_elim, inl, inr, ◌≤◌, ◌+◌, ◌++◌, ℕ, List, [], ◌∷◌, length, map, reverse, slice_get, false, true≢false, Some, vec_capacity, vec_len, refl, sym, ap, subst, ◌∙◌, arith, reverse-reverse, Vec, Bytes, Op, JoinClaim, TicketClaim, CacheState, Session, RoundAnswers, BulkCall, KeyProgress, Waiting, Reserved, Joined, AreAnswers, IsCauseIn, IsNoted, StillWaits, failures, holds_reservation, waits_for_joined_load, waits_for_round, IsJoinFor, IsTicketFor, Round, faults_in, view_of, AreHeldBack, AreIn, IsHeldAt, HaveJoined, IsFull, ops_of, Advances, CallPast, HasCommitted, HasNoRoom, HasStarted, IsAnswered, IsBetween, IsCommitting, IsCommittingNext, IsOn, IsPicking, IsPickingNext, IsStarting, KeepsJoined, are_fresh, reserved_by}
 use Rattle.jc_rounds.proofs.Failures.{cause_met, keeps_both, keeps_noted, noted_all}
 use Rattle.jc_rounds.proofs.Held.{full_by, full_later, held_next, not_held}
 use Rattle.jc_rounds.proofs.OnCall.{on_by}

@@ -1,12 +1,5 @@
 -- A key isn't held back between two views of a seat that has lent nothing between them.
-use Rattle.std.proofs.Common.{◌≡◌, inl, inr, ◌++◌, ◌∷◌, length, length-append, sym, ap, ◌∙◌, arith}
-use Rattle.jc_types.specs.declared.caller.Caller.{Caller}
-use Rattle.jc_model.specs.Cache.{Bytes}
-use Rattle.jc_model.specs.declared.event.Op.{Op}
-use Rattle.jc_stripe.specs.State.{State}
-use Rattle.jc_lock.specs.declared.view.View.{View}
-use Rattle.jc_rounds.specs.Keys.{IsHeldBack}
-use Rattle.jc_rounds.specs.Seats.{HasFound}
+use Rattle.jc_rounds.proofs.Common.{◌≡◌, inl, inr, ◌++◌, ◌∷◌, length, length-append, sym, ap, ◌∙◌, arith, Caller, Bytes, Op, State, View, IsHeldBack, HasFound}
 
 none_found : (v w : View) (seen left : State) → w.lendings ≡ v.lendings → HasFound v seen left w → ⊥
 none_found v w seen left same was =

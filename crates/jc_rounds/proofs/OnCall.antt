@@ -8,51 +8,12 @@
 --     starting_on, held_by, kept_joined       a first phase
 --     committing_on     a commit
 --     picking_on        a pick-up
-use Rattle.std.proofs.Common.{◌≡◌, ◌==◌, ◌⊎◌, inl, inr, ◌<◌, ◌≤◌, ◌+◌, ◌++◌, ℕ, List, [], ◌∷◌, length, map, set, reverse, slice_get, true, false, Option, None, Some, Result, Ok, vec_capacity, vec_len, refl, sym, ap, subst, ◌∙◌, arith}
-use Rattle.std.proofs.lemmas.List.{length-append}
-use Rattle.std.specs.Global.{Vec}
-use Rattle.std.specs.List.{IsAmong, IsDistinct}
-use Rattle.std.specs.Map.{keys_of}
-use Rattle.std.specs.Cmp.Lexicographic.{pointwise}
-use Rattle.jc_types.specs.declared.limits.TheConstants.{JOINERS_MAX, RESERVATIONS_MAX}
-use Rattle.jc_rounds.specs.Starting.{HaveJoined, IsRoomFor}
-use Rattle.jc_types.specs.declared.config.Config.{Config}
-use Rattle.jc_types.specs.declared.refusal.Refusal.{Refusal}
-use Rattle.jc_model.specs.Batches.{is_among}
-use Rattle.jc_model.specs.Cache.{Bytes}
-use Rattle.jc_model.specs.declared.event.Op.{Op}
-use Rattle.jc_model.specs.declared.event.Op.TheVariants.{Get}
-use Rattle.jc_model.specs.declared.event.Out.{Out}
-use Rattle.jc_model.specs.declared.event.Reply.{Reply}
-use Rattle.jc_stripe.specs.Outcomes.{Begun}
-use Rattle.jc_stripe.specs.Polled.{Polled}
+use Rattle.jc_rounds.proofs.Common.{◌≡◌, ◌==◌, ◌⊎◌, inl, inr, ◌<◌, ◌≤◌, ◌+◌, ◌++◌, ℕ, List, [], ◌∷◌, length, map, set, reverse, slice_get, true, false, Option, None, Some, Result, Ok, vec_capacity, vec_len, refl, sym, ap, subst, ◌∙◌, arith, length-append, Vec, IsAmong, IsDistinct, keys_of, pointwise, JOINERS_MAX, RESERVATIONS_MAX, HaveJoined, IsRoomFor, Config, Refusal, is_among, Bytes, Op, Get, Out, Reply, Begun, Polled, Reservation, JoinClaim, TicketClaim, View, counted_begun, counted_polled, Agent, CacheState, Session, RoundAnswers, BulkCall, KeyProgress, Waiting, Reserved, Joined, Ended, AreAnswers, HasAskedSoFar, IsMet, StayEnded, failures, holds_reservation, is_held_back, waits_for_joined_load, HasBegun, HasPicked, IsCommitted, IsEarly, IsJoinFor, IsAnswer, LoadAll, ProcessAll, Round, WriteAll, asked_in, faults_in, keys_asked, AreBefore, HasGrown, view_of, steps_of, Caller, AreSettledFrom, AreUnder, IsHeldAt, IsKept, IsPicked, IsUnderway, KeysAdvance, ops_of, Advances, AdvancesUnnoted, CallPast, HasRoom, IsCommitting, IsCommittingNext, IsFresh, IsOn, IsPicking, IsPickingNext, IsStarting, KeepsJoined, KeepsRoom, are_fresh, reserved_by}
 use Rattle.jc_stripe.specs.Outcomes as begun
-use Rattle.jc_stripe.specs.declared.ticket.Reservation.{Reservation}
-use Rattle.jc_stripe.specs.Tickets.{JoinClaim, TicketClaim}
-use Rattle.jc_lock.specs.declared.view.View.{View}
-use Rattle.jc_session.specs.Counting.{counted_begun, counted_polled}
-use Rattle.jc_session.specs.declared.agent.Agent.{Agent}
 use Rattle.jc_session.specs.declared.counts.Counted.{Counted}
 use Rattle.jc_session.specs.declared.counts.Counted.TheVariants.{Committed}
-use Rattle.jc_cache.specs.Caches.{CacheState}
-use Rattle.jc_session.specs.declared.session.Session.{Session}
-use Rattle.jc_rounds.specs.declared.answers.RoundAnswers.{RoundAnswers}
 use Rattle.jc_rounds.specs.declared.answers.RoundAnswers.TheVariants as answers
-use Rattle.jc_rounds.specs.declared.bulk_call.BulkCall.{BulkCall}
-use Rattle.jc_rounds.specs.declared.progress.KeyProgress.{KeyProgress}
-use Rattle.jc_rounds.specs.declared.progress.KeyProgress.TheVariants.{Waiting, Reserved, Joined, Ended}
-use Rattle.jc_rounds.specs.Answers.{AreAnswers}
-use Rattle.jc_rounds.specs.Asking.{HasAskedSoFar}
 use Rattle.jc_rounds.specs.KeyPhases.{IsKeyPhase, MayStep}
-use Rattle.jc_rounds.specs.KeyProgress.{IsMet, StayEnded, failures, holds_reservation, is_held_back, waits_for_joined_load}
-use Rattle.jc_rounds.specs.Keys.{HasBegun, HasPicked, IsCommitted, IsEarly, IsJoinFor}
-use Rattle.jc_rounds.specs.Rounds.{IsAnswer, LoadAll, ProcessAll, Round, WriteAll, asked_in, faults_in, keys_asked}
-use Rattle.jc_rounds.specs.Seats.{AreBefore, HasGrown, view_of}
-use Rattle.jc_rounds.specs.Recorded.{steps_of}
-use Rattle.jc_types.specs.declared.caller.Caller.{Caller}
-use Rattle.jc_rounds.specs.SoFar.{AreSettledFrom, AreUnder, IsHeldAt, IsKept, IsPicked, IsUnderway, KeysAdvance}
-use Rattle.jc_rounds.specs.Targets.{ops_of}
-use Rattle.jc_rounds.specs.Underway.{Advances, AdvancesUnnoted, CallPast, HasRoom, IsCommitting, IsCommittingNext, IsFresh, IsOn, IsPicking, IsPickingNext, IsStarting, KeepsJoined, KeepsRoom, are_fresh, reserved_by}
 use Rattle.jc_rounds.proofs.Asked.{asked_set, unasked_at}
 use Rattle.jc_rounds.proofs.Failures.{among_after, among_either, failures_stay, keeps_both, keeps_itself, keeps_same}
 use Rattle.jc_rounds.proofs.Held.{goes_both, goes_itself, goes_set, have_more, held_at, kept_held, set_there}

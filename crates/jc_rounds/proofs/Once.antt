@@ -4,32 +4,9 @@
 --     few_asked       so they are no more than the call has
 --     at_most_once    with no more keys than all stripes may have reserved, the second round that asks would ask for a key that the first
 --                     one has put off
-use Rattle.std.proofs.Common.{◌≡◌, ◌==◌, ◌||◌, ◌⊎◌, ⊎_elim, inl, inr, ◌≤◌, ◌<◌, ◌+◌, ◌*◌, ◌++◌, ℕ, List, [], ◌∷◌, All, length, length-append, map, true, Option, refl, sym, ap, ◌∙◌, subst, arith}
-use Rattle.std.proofs.lemmas.Cmp.{nat_list_eq_equiv}
-use Rattle.std.proofs.lemmas.List.Concat.{flat_map-append}
-use Rattle.std.proofs.lemmas.List.Folds.{list_any-append}
-use Rattle.std.proofs.lemmas.List.Elements.{All-head, All-tail}
+use Rattle.jc_rounds.proofs.Common.{◌≡◌, ◌==◌, ◌||◌, ◌⊎◌, ⊎_elim, inl, inr, ◌≤◌, ◌<◌, ◌+◌, ◌*◌, ◌++◌, ℕ, List, [], ◌∷◌, All, length, length-append, map, true, Option, refl, sym, ap, ◌∙◌, subst, arith, nat_list_eq_equiv, flat_map-append, list_any-append, All-head, All-tail, AllByRecursion, IsAmong, keys_of, pointwise, same_text, stripe_of, Caller, Config, RESERVATIONS_MAX, is_among, Bytes, Op, AsksEachOnce, AsksFor, changes_of, Get, HasJoined, IsHeldBack, first_asked, asks_loader, asks_processor, change_asked, IsShown, KeyRun, LoadAll, ProcessAll, Round, WriteAll, asked_in, keys_asked, HasGrown, view_at, view_of, AsksAtMostOnce, EachStartsAll, HasStartedAll, IsFull, IsLeftAlone, RoundEnd, rounds_asked, seats_after}
 use Rattle.std.proofs.lemmas.Map.Made.{length-le_from_is_member}
-use Rattle.std.specs.List.{AllByRecursion, IsAmong}
-use Rattle.std.specs.Map.{keys_of}
-use Rattle.std.specs.Cmp.Lexicographic.{pointwise, same_text}
-use Rattle.jc_types.specs.Stripes.{stripe_of}
-use Rattle.jc_types.specs.declared.caller.Caller.{Caller}
-use Rattle.jc_types.specs.declared.config.Config.{Config}
-use Rattle.jc_types.specs.declared.limits.TheConstants.{RESERVATIONS_MAX}
-use Rattle.jc_model.specs.Batches.{is_among}
-use Rattle.jc_model.specs.Cache.{Bytes}
-use Rattle.jc_model.specs.declared.event.Op.{Op}
-use Rattle.jc_rounds.specs.Asking.{AsksEachOnce, AsksFor}
-use Rattle.jc_batch.specs.Changes.{changes_of}
 use Rattle.jc_model.specs.declared.event.Change.{Change}
-use Rattle.jc_model.specs.declared.event.Op.TheVariants.{Get}
-use Rattle.jc_rounds.specs.Keys.{HasJoined, IsHeldBack}
-use Rattle.jc_stripe.specs.Refusals.{first_asked}
-use Rattle.jc_stripe.specs.Tickets.{asks_loader, asks_processor, change_asked}
-use Rattle.jc_rounds.specs.Rounds.{IsShown, KeyRun, LoadAll, ProcessAll, Round, WriteAll, asked_in, keys_asked}
-use Rattle.jc_rounds.specs.Seats.{HasGrown, view_at, view_of}
-use Rattle.jc_rounds.specs.Starting.{AsksAtMostOnce, EachStartsAll, HasStartedAll, IsFull, IsLeftAlone, RoundEnd, rounds_asked, seats_after}
 use Rattle.jc_rounds.proofs.Asked.{or_other, place_among}
 use Rattle.jc_rounds.proofs.SoFar.{among_at}
 use Rattle.jc_rounds.proofs.Underway.{as_many}

@@ -6,12 +6,7 @@
 --     push_in        one more, of a key behind which no key is such
 --     keep_in        a key goes on and is as before in this
 --     pop_in         the first one, of the first key that is such
-use Rattle.std.proofs.Common.{◌≡◌, ◌<◌, ◌≤◌, ℕ, zero, suc, List, [], ◌∷◌, ◌++◌, length, set, Bool, true, false, MatchBool, Some, slice_get, refl, sym, ap, subst, ◌∙◌, arith}
-use Rattle.std.proofs.lemmas.Option.{same_Some}
-use Rattle.jc_model.specs.Cache.{Bytes}
-use Rattle.jc_model.specs.declared.event.Op.{Op}
-use Rattle.jc_rounds.specs.declared.progress.KeyProgress.{KeyProgress}
-use Rattle.jc_rounds.specs.SoFar.{AreIn}
+use Rattle.jc_rounds.proofs.Common.{◌≡◌, ◌<◌, ◌≤◌, ℕ, zero, suc, List, [], ◌∷◌, ◌++◌, length, set, Bool, true, false, MatchBool, Some, slice_get, refl, sym, ap, subst, ◌∙◌, arith, same_Some, Bytes, Op, KeyProgress, AreIn}
 
 match_map : (b : Bool) (A C B D : Type 0) → (A → C) → (B → D) → MatchBool b A B → MatchBool b C D
 match_map true A C B D f g x = f x

@@ -3,18 +3,11 @@
 --     keys_wanted                 the keys of what is asked for
 --     no_batch, full_batch        the writer isn't called for nothing, and once for something
 --     loads_back                  the done values of a loader's call, the last one first
-use Rattle.std.proofs.Common.{◌≡◌, ◌++◌, ℕ, List, [], ◌∷◌, length, map, reverse, Bool, Option, Some, Result, Ok, refl, sym, ap, subst, ◌∙◌, arith}
-use Rattle.std.proofs.lemmas.List.{reverse-reverse}
-use Rattle.std.specs.Map.{keys_of}
-use Rattle.jc_model.specs.Cache.{Bytes}
+use Rattle.jc_rounds.proofs.Common.{◌≡◌, ◌++◌, ℕ, List, [], ◌∷◌, length, map, reverse, Bool, Option, Some, Result, Ok, refl, sym, ap, subst, ◌∙◌, arith, reverse-reverse, keys_of, Bytes, changes_of, DeleteAllRelation, WriteAllRelation, WritesAllOnce, Claim, WritesBatch, asked_keys, is_delete, wanted}
 use Rattle.jc_model.specs.declared.event.Change.{Change}
 use Rattle.jc_model.specs.declared.event.Change.TheVariants.{Write, Delete}
 use Rattle.jc_model.specs.declared.event.WriteAnswer.{WriteAnswer}
-use Rattle.jc_batch.specs.Changes.{changes_of}
 use Rattle.jc_batch.specs.declared.batch.Batch.{Batch}
-use Rattle.jc_outside.specs.CallingAll.{DeleteAllRelation, WriteAllRelation, WritesAllOnce}
-use Rattle.jc_stripe.specs.Tickets.{Claim}
-use Rattle.jc_rounds.specs.OutsideCalls.{WritesBatch, asked_keys, is_delete, wanted}
 
 pub write_keys : (entries : List (Bytes × Bytes)) → map (λ (c : Bytes × Option Change). c.0) (map (λ (entry : Bytes × Bytes). (entry.0, Some (Write entry.1))) entries) ≡ keys_of entries
 write_keys [] = refl

@@ -1,10 +1,7 @@
 -- Keys by their places: those that wait, and those that are refused since an allocation for a later round failed.
 --     many_waiting, one_waiting    so many keys that wait, and one more
 --     refused_so_far               the keys before a place are refused, and now the next one is
-use Rattle.std.proofs.Common.{◌≡◌, ◌<◌, ◌+◌, ◌++◌, ℕ, zero, suc, List, [], ◌∷◌, length, map, set, take, drop, get_or, refl, ap, ◌∙◌, arith}
-use Rattle.jc_rounds.specs.declared.progress.KeyProgress.{KeyProgress}
-use Rattle.jc_rounds.specs.declared.progress.KeyProgress.TheVariants.{Waiting}
-use Rattle.jc_rounds.specs.KeyProgress.{all_waiting, refused_if_waiting}
+use Rattle.jc_rounds.proofs.Common.{◌≡◌, ◌<◌, ◌+◌, ◌++◌, ℕ, zero, suc, List, [], ◌∷◌, length, map, set, take, drop, get_or, refl, ap, ◌∙◌, arith, KeyProgress, Waiting, all_waiting, refused_if_waiting}
 
 pub many_waiting : (n : ℕ) → length (all_waiting n) ≡ n
 many_waiting zero = refl

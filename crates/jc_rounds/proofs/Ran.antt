@@ -7,25 +7,8 @@
 --     ran_none               before the first round
 --     ran_quiet, ran_more    after rounds more
 --     ran_refused            each key that waits is refused
-use Rattle.std.proofs.Common.{◌≡◌, ◌++◌, append-nil, append_assoc, ℕ, List, [], ◌∷◌, map, length, slice_get, Option, Some, refl, sym, ap, ◌∙◌, subst, arith}
-use Rattle.std.specs.Option.{option_or}
-use Rattle.jc_types.specs.declared.caller.Caller.{Caller}
-use Rattle.jc_types.specs.declared.refusal.Refusal.{Refusal}
-use Rattle.jc_session.specs.declared.agent.Agent.{Agent}
-use Rattle.jc_cache.specs.Caches.{CacheState}
-use Rattle.jc_cache.specs.Sessions.{HoldsNothing, IsOf}
-use Rattle.jc_session.specs.declared.session.Session.{Session}
-use Rattle.jc_rounds.specs.declared.answers.RoundAnswers.{RoundAnswers}
-use Rattle.jc_rounds.specs.declared.bulk_call.BulkCall.{BulkCall}
-use Rattle.jc_rounds.specs.Answers.{AreAnswers}
-use Rattle.jc_rounds.specs.Asking.{reserved_keys}
-use Rattle.jc_rounds.specs.KeyProgress.{IsNoted, KeepsCause, failures, refused_if_waiting}
-use Rattle.jc_rounds.specs.Rounds.{Round, asked_in, keys_asked, round_fault}
+use Rattle.jc_rounds.proofs.Common.{◌≡◌, ◌++◌, append-nil, append_assoc, ℕ, List, [], ◌∷◌, map, length, slice_get, Option, Some, refl, sym, ap, ◌∙◌, subst, arith, option_or, Caller, Refusal, Agent, CacheState, HoldsNothing, IsOf, Session, RoundAnswers, BulkCall, AreAnswers, reserved_keys, IsNoted, KeepsCause, failures, refused_if_waiting, Round, asked_in, keys_asked, round_fault, EachTakesMemory, HasRun, with_rounds, KeysAdvance, ops_of, Advances, CallPast, HasStarted, IsAnswered, IsBetween, reserved_by, with_round}
 use Rattle.jc_rounds.specs.Ran.{HasReserved, IsRoundTold, RunsRounds}
-use Rattle.jc_rounds.specs.Running.{EachTakesMemory, HasRun, with_rounds}
-use Rattle.jc_rounds.specs.SoFar.{KeysAdvance}
-use Rattle.jc_rounds.specs.Targets.{ops_of}
-use Rattle.jc_rounds.specs.Underway.{Advances, CallPast, HasStarted, IsAnswered, IsBetween, reserved_by, with_round}
 use Rattle.jc_rounds.proofs.Asked.{among_there}
 use Rattle.jc_rounds.proofs.Failures.{keeps_both, keeps_noted, keeps_or}
 use Rattle.jc_rounds.proofs.Held.{goes_both}

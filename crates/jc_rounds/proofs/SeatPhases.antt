@@ -8,37 +8,12 @@
 --     view_set           the views after one seat was replaced
 --     view_there         the view of a seat that is there
 --     moves_all          what a phase leaves of all seats
-use Rattle.std.proofs.Common.{◌≡◌, ◌==◌, ◌&&◌, ◌⊎◌, ⊎_elim, inl, inr, ℕ, zero, suc, List, [], ◌∷◌, ◌++◌, Bool, true, false, Option, Some, slice_get, slice_set, refl, sym, ap, subst, ◌∙◌, arith, le_refl, append_assoc, append-nil}
-use Rattle.std.proofs.lemmas.Bool.{and_from}
-use Rattle.std.proofs.lemmas.Bool.Decides.{nat_tests}
-use Rattle.std.proofs.lemmas.Cmp.{nat_list_eq_equiv}
-use Rattle.std.proofs.lemmas.Option.{same_Some}
-use Rattle.std.specs.List.{AllByRecursion}
-use Rattle.std.specs.Cmp.Lexicographic.{pointwise}
+use Rattle.jc_rounds.proofs.Common.{◌≡◌, ◌==◌, ◌&&◌, ◌⊎◌, ⊎_elim, inl, inr, ℕ, zero, suc, List, [], ◌∷◌, ◌++◌, Bool, true, false, Option, Some, slice_get, slice_set, refl, sym, ap, subst, ◌∙◌, arith, le_refl, append_assoc, append-nil, and_from, nat_tests, nat_list_eq_equiv, same_Some, AllByRecursion, pointwise, stripe_of, Caller, Bytes, Event, Step, Op, Out, Reply, State, whole_history, OnePhase, IsUniform, own_steps, whole_goes_on, own_stay, View, prefix-refl, prefix-trans, same_itself, same_on, AllLend, Turn, SeatPhase, IsEarly, steps_of, former_steps, are_before, HasFound, HasGrown, MovesAtKey, is_at, view_at}
 use mathlib.Core.List.{IsPrefix}
 use Rattle.atomic_table.specs.Seated.{TableId}
-use Rattle.jc_types.specs.Stripes.{stripe_of}
-use Rattle.jc_types.specs.declared.caller.Caller.{Caller}
-use Rattle.jc_model.specs.Cache.{Bytes}
-use Rattle.jc_model.specs.declared.event.Event.{Event}
-use Rattle.jc_model.specs.declared.event.Event.TheVariants.{Step}
-use Rattle.jc_model.specs.declared.event.Op.{Op}
-use Rattle.jc_model.specs.declared.event.Out.{Out}
-use Rattle.jc_model.specs.declared.event.Reply.{Reply}
-use Rattle.jc_stripe.specs.State.{State}
-use Rattle.jc_stripe.specs.Generations.{whole_history}
-use Rattle.jc_stripe.specs.OnePhase.{OnePhase, IsUniform, own_steps}
 use Rattle.jc_stripe.specs.Renewal.{RenewsIfFull}
-use Rattle.jc_stripe.proofs.CallerLemmas.{whole_goes_on, own_stay}
-use Rattle.jc_lock.specs.declared.view.View.{View}
-use Rattle.jc_lock.proofs.CallerLemmas.{prefix-refl, prefix-trans, same_itself, same_on}
-use Rattle.jc_engine.specs.Rows.{AllLend, Turn}
 use Rattle.jc_cache.specs.Fronts.{HasAllSeen}
-use Rattle.jc_cache.specs.PhaseCalls.{SeatPhase}
-use Rattle.jc_rounds.specs.Keys.{IsEarly}
 use Rattle.jc_rounds.specs.Lendings.{IsPhaseAt, OnlyPhases}
-use Rattle.jc_rounds.specs.Recorded.{steps_of, former_steps, are_before}
-use Rattle.jc_rounds.specs.Seats.{HasFound, HasGrown, MovesAtKey, is_at, view_at}
 use Rattle.jc_rounds.proofs.CallSteps.{before-gained, former-gained, others-gained}
 
 abbrev pub Seated : Type 0

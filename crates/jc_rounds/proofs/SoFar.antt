@@ -8,43 +8,10 @@
 --     more_rounds      the call so far, when a round has called outside
 --     opens            before the first round
 --     at_place_of      what the call so far says of the key at a place
-use Rattle.std.proofs.Common.{◌≡◌, ◌==◌, ◌&&◌, ◌||◌, ◌⊎◌, ⊎_elim, inl, inr, ◌≤◌, ℕ, zero, suc, List, [], ◌∷◌, ◌++◌, length, length-set, set, Bool, true, false, None, Some, Ok, Err, Result, Option, slice_get, refl, sym, ap, subst, ◌∙◌, arith}
-use Rattle.std.proofs.lemmas.Bool.{and_from, and_parts}
-use Rattle.std.proofs.lemmas.Cmp.{nat_list_eq_equiv}
-use Rattle.std.proofs.lemmas.List.{length-append}
-use Rattle.std.proofs.lemmas.Map.Keys.{IsDistinct-head, IsDistinct-tail}
-use Rattle.std.proofs.lemmas.Option.{same_Some}
-use Rattle.std.specs.List.{IsAmong, IsDistinct, list_all}
-use Rattle.std.specs.Map.{keys_of}
-use Rattle.std.specs.Cmp.Lexicographic.{pointwise, same_text}
+use Rattle.jc_rounds.proofs.Common.{◌≡◌, ◌==◌, ◌&&◌, ◌||◌, ◌⊎◌, ⊎_elim, inl, inr, ◌≤◌, ℕ, zero, suc, List, [], ◌∷◌, ◌++◌, length, length-set, set, Bool, true, false, None, Some, Ok, Err, Result, Option, slice_get, refl, sym, ap, subst, ◌∙◌, arith, and_from, and_parts, nat_list_eq_equiv, length-append, IsDistinct-head, IsDistinct-tail, same_Some, IsAmong, IsDistinct, list_all, keys_of, pointwise, same_text, stripe_of, Caller, Refusal, is_among, Bytes, Event, Op, Out, is_before_call, whole_history, View, prefix-trans, same_on, KeyProgress, Waiting, Reserved, Joined, Ended, all_waiting, State, Config, Reply, flat_map-append, list_any-append, IsAt, IsStepTold, MadeOn, WasRefused, steps_of, Round, asked_in, keys_asked, HasGrown, MovesAtKey, is_at, view_at, view_of, IsSoFar, is_target_of}
 use mathlib.Core.List.{IsPrefix}
-use Rattle.jc_types.specs.Stripes.{stripe_of}
-use Rattle.jc_types.specs.declared.caller.Caller.{Caller}
-use Rattle.jc_types.specs.declared.refusal.Refusal.{Refusal}
-use Rattle.jc_model.specs.Batches.{is_among}
-use Rattle.jc_model.specs.Cache.{Bytes}
-use Rattle.jc_model.specs.declared.event.Event.{Event}
-use Rattle.jc_model.specs.declared.event.Op.{Op}
-use Rattle.jc_model.specs.declared.event.Out.{Out}
-use Rattle.jc_stripe.specs.OwnSteps.{is_before_call}
 use Rattle.jc_outside.proofs.CallerLemmas.{at_place}
-use Rattle.jc_stripe.specs.Generations.{whole_history}
-use Rattle.jc_lock.specs.declared.view.View.{View}
-use Rattle.jc_lock.proofs.CallerLemmas.{prefix-trans, same_on}
-use Rattle.jc_rounds.specs.declared.progress.KeyProgress.{KeyProgress}
-use Rattle.jc_rounds.specs.declared.progress.KeyProgress.TheVariants.{Waiting, Reserved, Joined, Ended}
-use Rattle.jc_rounds.specs.KeyProgress.{all_waiting}
 use Rattle.jc_engine.specs.MadeIn.{IsNext}
-use Rattle.jc_stripe.specs.State.{State}
-use Rattle.jc_types.specs.declared.config.Config.{Config}
-use Rattle.jc_model.specs.declared.event.Reply.{Reply}
-use Rattle.std.proofs.lemmas.List.Concat.{flat_map-append}
-use Rattle.std.proofs.lemmas.List.Folds.{list_any-append}
-use Rattle.jc_rounds.specs.Keys.{IsAt, IsStepTold, MadeOn, WasRefused}
-use Rattle.jc_rounds.specs.Recorded.{steps_of}
-use Rattle.jc_rounds.specs.Rounds.{Round, asked_in, keys_asked}
-use Rattle.jc_rounds.specs.Seats.{HasGrown, MovesAtKey, is_at, view_at, view_of}
-use Rattle.jc_rounds.specs.SoFar.{IsSoFar, is_target_of}
 use Rattle.jc_rounds.proofs.CallSteps.{no-steps, still-before}
 use Rattle.jc_rounds.proofs.SeatPhases.{Seated, found_later, found_since, grown_itself, grown_on, phases_among, phases_none, phases_on}
 

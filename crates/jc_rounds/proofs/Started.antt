@@ -3,34 +3,9 @@
 --     none_run               before the first round
 --     run_more               one round more
 --     some_more    rounds after which one has asked have asked
-use Rattle.std.proofs.Common.{◌≡◌, ◌⊎◌, inl, inr, ◌≤◌, ◌++◌, ℕ, List, [], ◌∷◌, append-nil, length, slice_get, false, true, true≢false, Bool, ◌||◌, Ok, Err, Some, refl, sym, ap, ◌∙◌, subst}
-use Rattle.std.proofs.lemmas.List.Concat.{flat_map-append}
-use Rattle.std.proofs.lemmas.List.Folds.{list_any-append}
-use Rattle.std.specs.List.{IsAmong}
-use Rattle.std.specs.Cmp.Lexicographic.{pointwise}
-use Rattle.jc_types.specs.declared.caller.Caller.{Caller}
-use Rattle.jc_model.specs.Batches.{is_among}
-use Rattle.jc_model.specs.Cache.{Bytes}
-use Rattle.jc_model.specs.declared.event.Op.{Op}
-use Rattle.jc_rounds.specs.declared.progress.KeyProgress.{KeyProgress}
-use Rattle.jc_rounds.specs.declared.progress.KeyProgress.TheVariants.{Waiting, Reserved, Joined, Ended}
-use Rattle.jc_rounds.specs.Keys.{IsAt, IsHeldBack}
-use Rattle.jc_rounds.specs.Recorded.{steps_of}
-use Rattle.jc_rounds.specs.Seats.{view_of}
+use Rattle.jc_rounds.proofs.Common.{◌≡◌, ◌⊎◌, inl, inr, ◌≤◌, ◌++◌, ℕ, List, [], ◌∷◌, append-nil, length, slice_get, false, true, true≢false, Bool, ◌||◌, Ok, Err, Some, refl, sym, ap, ◌∙◌, subst, flat_map-append, list_any-append, IsAmong, pointwise, Caller, is_among, Bytes, Op, KeyProgress, Waiting, Reserved, Joined, Ended, IsAt, IsHeldBack, steps_of, view_of, CacheState, Session, BulkCall, Round, asked_in, keys_asked, IsFirst, KeepsCause, holds_reservation, is_held_back, HasRun, HeldInEach, IsRound, with_rounds, AreHeldBack, HaveNoStep, KeysAdvance, EachStartsAll, IsFull, RoundEnd, rounds_asked, seats_after, ops_of, CallPast, IsBetween, HasGrown, view_at}
 use Rattle.jc_rounds.proofs.SeatPhases.{Seated}
-use Rattle.jc_cache.specs.Caches.{CacheState}
-use Rattle.jc_session.specs.declared.session.Session.{Session}
-use Rattle.jc_rounds.specs.declared.bulk_call.BulkCall.{BulkCall}
-use Rattle.jc_rounds.specs.Rounds.{Round, asked_in, keys_asked}
-use Rattle.jc_rounds.specs.Causes.{IsFirst}
-use Rattle.jc_rounds.specs.KeyProgress.{KeepsCause, holds_reservation, is_held_back}
 use Rattle.jc_rounds.proofs.Causes.{first_more}
-use Rattle.jc_rounds.specs.Running.{HasRun, HeldInEach, IsRound, with_rounds}
-use Rattle.jc_rounds.specs.SoFar.{AreHeldBack, HaveNoStep, KeysAdvance}
-use Rattle.jc_rounds.specs.Starting.{EachStartsAll, IsFull, RoundEnd, rounds_asked, seats_after}
-use Rattle.jc_rounds.specs.Targets.{ops_of}
-use Rattle.jc_rounds.specs.Underway.{CallPast, IsBetween}
-use Rattle.jc_rounds.specs.Seats.{HasGrown, view_at}
 use Rattle.jc_rounds.proofs.Asked.{or_other, place_among}
 use Rattle.jc_rounds.proofs.Out.{none_in}
 

@@ -3,13 +3,7 @@
 --     same_op    that of a call that does the same at each key
 --     same_keys  the keys of such a call
 --     put_at     the entry at a place is put there
-use Rattle.std.proofs.Common.{◌≡◌, ℕ, zero, suc, List, [], ◌∷◌, Some, option_map, slice_get, refl, sym, ap, ◌∙◌}
-use Rattle.std.proofs.lemmas.Option.{same_Some, slice_get-map}
-use Rattle.std.specs.Map.{keys_of}
-use Rattle.jc_model.specs.Cache.{Bytes}
-use Rattle.jc_model.specs.declared.event.Op.{Op}
-use Rattle.jc_model.specs.declared.event.Op.TheVariants.{Put}
-use Rattle.jc_rounds.specs.Targets.{ops_with, put_ops}
+use Rattle.jc_rounds.proofs.Common.{◌≡◌, ℕ, zero, suc, List, [], ◌∷◌, Some, option_map, slice_get, refl, sym, ap, ◌∙◌, same_Some, slice_get-map, keys_of, Bytes, Op, Put, ops_with, put_ops}
 use Rattle.jc_rounds.proofs.SoFar.{key_at}
 
 pub op_at : (targets : List (Bytes × Op)) (i : ℕ) (key k : Bytes) (op : Op) → slice_get targets i ≡ Some (k, op) → slice_get (keys_of targets) i ≡ Some key → slice_get targets i ≡ Some (key, op)

@@ -8,51 +8,13 @@
 --     first_ticket, first_join    the first of what is out is of the first key that is so far
 --     stay_itself, stay_on, stay_set    keys that have ended stay so
 --     under_set, under_next, settled_set, settled_next    the keys before a place, and from it on
-use Rattle.std.proofs.Common.{◌≡◌, ◌⊎◌, ⊎_elim, inl, inr, ◌<◌, ◌≤◌, ◌+◌, ◌-◌, ℕ, zero, suc, List, [], ◌∷◌, ◌++◌, length, length-set, set, reverse, Bool, true, false, None, Some, Result, Ok, Err, nat_lt, if◌then◌else◌, get_or, slice_get, refl, sym, ap, subst, ◌∙◌, arith}
-use Rattle.std.proofs.lemmas.List.{length-append, reverse-append}
-use Rattle.std.proofs.lemmas.Option.{same_Some, slice_get-get_or}
-use Rattle.std.specs.List.{IsDistinct}
-use Rattle.std.specs.Map.{keys_of}
-use Rattle.std.specs.Cmp.Lexicographic.{pointwise}
-use Rattle.jc_types.specs.Stripes.{stripe_of}
+use Rattle.jc_rounds.proofs.Common.{◌≡◌, ◌⊎◌, ⊎_elim, inl, inr, ◌<◌, ◌≤◌, ◌+◌, ◌-◌, ℕ, zero, suc, List, [], ◌∷◌, ◌++◌, length, length-set, set, reverse, Bool, true, false, None, Some, Result, Ok, Err, nat_lt, if◌then◌else◌, get_or, slice_get, refl, sym, ap, subst, ◌∙◌, arith, length-append, reverse-append, same_Some, slice_get-get_or, IsDistinct, keys_of, pointwise, stripe_of, Caller, Config, Refusal, Bytes, may_come, Op, Get, Out, Reply, last_number, JoinClaim, TicketClaim, is_among, reserved_by, map-append, IsAmong, map, Begun, Polled, Reservation, View, one_more, counts_after, counted_begun, counted_polled, Agent, CacheState, Session, KeyProgress, Waiting, Reserved, Joined, Ended, StayEnded, holds_reservation, is_settled, waits_for_joined_load, waits_for_round, HasBegun, HasPicked, IsAt, IsCommitted, IsJoinFor, IsTicketFor, steps_of, IsAnswer, Round, asked_in, keys_asked, HasGrown, MovesAtKey, view_of, AreIn, AreSettledFrom, AreUnder, IsKept, IsPicked, IsUnderway}
 use Rattle.jc_types.specs.Refusals.{is_put_off}
-use Rattle.jc_types.specs.declared.caller.Caller.{Caller}
-use Rattle.jc_types.specs.declared.config.Config.{Config}
-use Rattle.jc_types.specs.declared.refusal.Refusal.{Refusal}
-use Rattle.jc_model.specs.Cache.{Bytes}
-use Rattle.jc_model.specs.Legal.{may_come}
-use Rattle.jc_model.specs.declared.event.Op.{Op}
-use Rattle.jc_model.specs.declared.event.Op.TheVariants.{Get}
-use Rattle.jc_model.specs.declared.event.Out.{Out}
-use Rattle.jc_model.specs.declared.event.Reply.{Reply}
-use Rattle.jc_stripe.specs.Refusals.{last_number}
-use Rattle.jc_stripe.specs.Tickets.{JoinClaim, TicketClaim}
-use Rattle.jc_model.specs.Batches.{is_among}
-use Rattle.jc_rounds.specs.Underway.{reserved_by}
-use Rattle.std.proofs.lemmas.List.{map-append}
-use Rattle.std.specs.List.{IsAmong}
-use Rattle.std.proofs.Common.{map}
-use Rattle.jc_stripe.specs.Outcomes.{Begun}
-use Rattle.jc_stripe.specs.Polled.{Polled}
 use Rattle.jc_stripe.specs.Outcomes as begun
 use Rattle.jc_stripe.specs.Polled as polled
-use Rattle.jc_stripe.specs.declared.ticket.Reservation.{Reservation}
-use Rattle.jc_lock.specs.declared.view.View.{View}
-use Rattle.jc_session.specs.Counting.{one_more, counts_after, counted_begun, counted_polled}
-use Rattle.jc_session.specs.declared.agent.Agent.{Agent}
 use Rattle.jc_session.specs.declared.counts.Counted.TheVariants.{Committed}
 use Rattle.jc_session.specs.declared.counts.Counts.{Counts}
-use Rattle.jc_cache.specs.Caches.{CacheState}
-use Rattle.jc_session.specs.declared.session.Session.{Session}
-use Rattle.jc_rounds.specs.declared.progress.KeyProgress.{KeyProgress}
-use Rattle.jc_rounds.specs.declared.progress.KeyProgress.TheVariants.{Waiting, Reserved, Joined, Ended}
-use Rattle.jc_rounds.specs.KeyProgress.{StayEnded, holds_reservation, is_settled, waits_for_joined_load, waits_for_round}
-use Rattle.jc_rounds.specs.Keys.{HasBegun, HasPicked, IsAt, IsCommitted, IsJoinFor, IsTicketFor}
 use Rattle.jc_rounds.specs.KeyPhases.{IsKeyPhase}
-use Rattle.jc_rounds.specs.Recorded.{steps_of}
-use Rattle.jc_rounds.specs.Rounds.{IsAnswer, Round, asked_in, keys_asked}
-use Rattle.jc_rounds.specs.Seats.{HasGrown, MovesAtKey, view_of}
-use Rattle.jc_rounds.specs.SoFar.{AreIn, AreSettledFrom, AreUnder, IsKept, IsPicked, IsUnderway}
 use Rattle.jc_rounds.proofs.KeyPhases.{all_before}
 use Rattle.jc_rounds.proofs.Out.{keep_in, pop_in, push_in}
 use Rattle.jc_rounds.proofs.SeatPhases.{Seated}

@@ -8,67 +8,16 @@
 --     round_of        a round, from its phases
 --     refused_call, refused_round    each key that waits is refused
 --     carried_out     after the last round the call is carried out
-use Rattle.std.proofs.Common.{◌≡◌, ◌&&◌, ◌⊎◌, ⊎_elim, inl, inr, ◌<◌, ◌≤◌, ◌+◌, ◌*◌, ◌++◌, ℕ, zero, suc, List, [], ◌∷◌, All, length, Bool, true, false, nat_le, nat_lt, Some, Result, Ok, Err, slice_get, refl, sym, ap, subst, ◌∙◌, arith}
-use Rattle.std.proofs.lemmas.Bool.Decides.{nat_tests}
-use Rattle.std.proofs.lemmas.List.Elements.{All-nil, All-cons}
+use Rattle.jc_rounds.proofs.Common.{◌≡◌, ◌&&◌, ◌⊎◌, ⊎_elim, inl, inr, ◌<◌, ◌≤◌, ◌+◌, ◌*◌, ◌++◌, ℕ, zero, suc, List, [], ◌∷◌, All, length, Bool, true, false, nat_le, nat_lt, Some, Result, Ok, Err, slice_get, refl, sym, ap, subst, ◌∙◌, arith, nat_tests, All-nil, All-cons, list_all, Caller, STEP_PLACES, RESERVATIONS_MAX, JOINERS_MAX, Refusal, Bytes, Op, Reply, lacks_room, is_before_call, has_room, last_number, needs_free_key, places_needed, State, promised, waits, View, one_more, CacheState, MayCall, Session, KeyProgress, Waiting, Reserved, Joined, Ended, are_before, view_at, view_of, map, true≢false, vec_capacity, same_Some, keys_of, pointwise, AllByRecursion, IsDistinct, is_among, Reservation, IsOf, IsMet, former_steps, steps_of, HasGrown, AreHeldBack, is_target_of, AsksAtMostOnce, HasStartedAll, IsRoomFor, filter_map-append, Vec, option_or, Config, TicketClaim, BulkCall, AsksFor, HasAskedSoFar, reserved_keys, IsCauseIn, IsNoted, StayEnded, all_waiting, failures, holds_reservation, is_held_back, is_settled, refused_if_waiting, waits_for_joined_load, EndsKey, IsAt, IsJoinFor, IsTicketFor, WasRefused, Round, asked_in, faults_in, keys_asked, round_fault, IsFirst, EachTakesMemory, HasRun, IsCarriedOut, IsNearFull, IsRound, WasNearFull, IsUnderway, KeysAdvance, IsFull, ops_of, CallPast, HasCommitted, HasStarted, IsBetween, IsNew, IsOn, IsOver, are_fresh, reserved_by, with_round}
 use Rattle.std.proofs.lemmas.List.Sums.{count_by-le-length}
-use Rattle.std.specs.List.{list_all}
-use Rattle.jc_types.specs.declared.caller.Caller.{Caller}
-use Rattle.jc_types.specs.declared.limits.TheConstants.{STEP_PLACES, RESERVATIONS_MAX, JOINERS_MAX}
-use Rattle.jc_types.specs.declared.refusal.Refusal.{Refusal}
 use Rattle.jc_types.specs.declared.refusal.Refusal.TheVariants.{HistoryFull, OutOfMemory}
-use Rattle.jc_model.specs.Cache.{Bytes}
-use Rattle.jc_model.specs.declared.event.Op.{Op}
-use Rattle.jc_model.specs.declared.event.Reply.{Reply}
-use Rattle.jc_stripe.proofs.CallerLemmas.{lacks_room}
-use Rattle.jc_stripe.specs.OwnSteps.{is_before_call}
 use Rattle.jc_stripe.specs.Reached.{IsReached}
-use Rattle.jc_stripe.specs.Refusals.{has_room, last_number, needs_free_key, places_needed}
-use Rattle.jc_stripe.specs.State.{State, promised, waits}
-use Rattle.jc_lock.specs.declared.view.View.{View}
 use Rattle.jc_lock.specs.Views.{spent_view}
-use Rattle.jc_session.specs.Counting.{one_more}
-use Rattle.jc_cache.specs.Caches.{CacheState}
 use Rattle.jc_session.specs.Sessions.{next_call}
-use Rattle.jc_cache.specs.Sessions.{MayCall}
-use Rattle.jc_session.specs.declared.session.Session.{Session}
-use Rattle.jc_rounds.specs.declared.progress.KeyProgress.{KeyProgress}
-use Rattle.jc_rounds.specs.declared.progress.KeyProgress.TheVariants.{Waiting, Reserved, Joined, Ended}
-use Rattle.jc_rounds.specs.Recorded.{are_before}
-use Rattle.jc_rounds.specs.Seats.{view_at, view_of}
-use Rattle.std.proofs.Common.{map, true≢false, vec_capacity}
-use Rattle.std.proofs.lemmas.Option.{same_Some}
-use Rattle.std.specs.Map.{keys_of}
-use Rattle.std.specs.Cmp.Lexicographic.{pointwise}
-use Rattle.std.specs.List.{AllByRecursion, IsDistinct}
-use Rattle.jc_model.specs.Batches.{is_among}
-use Rattle.jc_stripe.specs.declared.ticket.Reservation.{Reservation}
-use Rattle.jc_cache.specs.Sessions.{IsOf}
 use Rattle.jc_rounds.specs.declared.targets.Targets.{Targets}
-use Rattle.jc_rounds.specs.KeyProgress.{IsMet}
 use Rattle.jc_rounds.specs.Lendings.{OnlyPhases}
-use Rattle.jc_rounds.specs.Recorded.{former_steps, steps_of}
-use Rattle.jc_rounds.specs.Seats.{HasGrown}
-use Rattle.jc_rounds.specs.SoFar.{AreHeldBack, is_target_of}
-use Rattle.jc_rounds.specs.Starting.{AsksAtMostOnce, HasStartedAll, IsRoomFor}
 use Rattle.jc_rounds.proofs.Failures.{cause_met}
-use Rattle.std.proofs.lemmas.List.Elements.{filter_map-append}
-use Rattle.std.specs.Global.{Vec}
-use Rattle.std.specs.Option.{option_or}
-use Rattle.jc_types.specs.declared.config.Config.{Config}
-use Rattle.jc_stripe.specs.Tickets.{TicketClaim}
-use Rattle.jc_rounds.specs.declared.bulk_call.BulkCall.{BulkCall}
-use Rattle.jc_rounds.specs.Asking.{AsksFor, HasAskedSoFar, reserved_keys}
 use Rattle.jc_rounds.specs.Ends.{KeyEnd, key_end, key_ends, key_ops}
-use Rattle.jc_rounds.specs.KeyProgress.{IsCauseIn, IsNoted, StayEnded, all_waiting, failures, holds_reservation, is_held_back, is_settled, refused_if_waiting, waits_for_joined_load}
-use Rattle.jc_rounds.specs.Keys.{EndsKey, IsAt, IsJoinFor, IsTicketFor, WasRefused}
-use Rattle.jc_rounds.specs.Rounds.{Round, asked_in, faults_in, keys_asked, round_fault}
-use Rattle.jc_rounds.specs.Causes.{IsFirst}
-use Rattle.jc_rounds.specs.Running.{EachTakesMemory, HasRun, IsCarriedOut, IsNearFull, IsRound, WasNearFull}
-use Rattle.jc_rounds.specs.SoFar.{IsUnderway, KeysAdvance}
-use Rattle.jc_rounds.specs.Starting.{IsFull}
-use Rattle.jc_rounds.specs.Targets.{ops_of}
-use Rattle.jc_rounds.specs.Underway.{CallPast, HasCommitted, HasStarted, IsBetween, IsNew, IsOn, IsOver, are_fresh, reserved_by, with_round}
 use Rattle.jc_rounds.proofs.Asked.{asked_more, asked_on, new_key, none_asked, some_there, unasked_at}
 use Rattle.jc_rounds.proofs.Failures.{met_fault, noted_all}
 use Rattle.jc_rounds.proofs.Held.{full_later, goes_both, held_after}
@@ -78,7 +27,6 @@ use Rattle.jc_rounds.proofs.SeatPhases.{Seated, grown_itself, view_there}
 use Rattle.jc_rounds.proofs.SoFar.{opens, waiting_there}
 use Rattle.jc_rounds.proofs.Once.{at_most_once}
 use Rattle.jc_rounds.proofs.Underway.{as_many, settled_by}
-use Rattle.jc_rounds.specs.Seats.{view_at, view_of}
 
 -- 1. Near full.
 

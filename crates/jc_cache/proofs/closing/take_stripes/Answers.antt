@@ -1,6 +1,4 @@
-use Rattle.std.proofs.Common.{List, ◌∙◌, rules, subst, sym}
-use Rattle.jc_cache.specs.Caches.{Log, logs_of}
-use Rattle.jc_cache.specs.Closing.{AreIdle}
+use Rattle.jc_cache.proofs.Common.{List, ◌∙◌, rules, subst, sym, Log, logs_of, AreIdle}
 use Rattle.jc_cache.proofs.Noted.{refusal_since}
 use Rattle.jc_cache.proofs.ClosingSeats.{keep_on, keep_locks}
 use Rattle.jc_cache.proofs.closing.take_stripes.Goals as goal

@@ -1,5 +1,4 @@
-use Rattle.std.proofs.Common.{refl}
-use Rattle.std.proofs.lemmas.Option.{slice_get_read}
+use Rattle.jc_cache.proofs.Common.{refl, slice_get_read}
 use Rattle.jc_cache.proofs.Readings.{stripes_next, stripes_all}
 use Rattle.jc_cache.proofs.counting.count_each.Goals as goal
 

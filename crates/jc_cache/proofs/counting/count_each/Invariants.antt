@@ -1,6 +1,4 @@
-use Rattle.std.specs.Prelude.{◌≡◌, take}
-use Rattle.jc_model.specs.Statistics.{statistics_of}
-use Rattle.jc_cache.specs.Counting.{occurred_in}
+use Rattle.jc_cache.proofs.Common.{◌≡◌, take, statistics_of, occurred_in}
 use Rattle.jc_cache.proofs.counting.count_each.Given as goal
 
 abbrev pub invariant-loop-i : goal.invariant-loop-i

@@ -1,5 +1,4 @@
-use Rattle.std.proofs.Common.{◌≡◌, ◌∙◌, ap, inl, refl}
-use Rattle.jc_lock.specs.Views.{after_give, after_take}
+use Rattle.jc_cache.proofs.Common.{◌≡◌, ◌∙◌, ap, inl, refl, after_give, after_take}
 use Rattle.jc_cache.proofs.Meetings.{refreshed_seen}
 use Rattle.jc_cache.proofs.SessionPhases.{agent_same, holds_one}
 use Rattle.jc_cache.proofs.counting.read_at.Goals as goal

@@ -1,5 +1,4 @@
-use Rattle.std.proofs.Common.{◌∙◌, ◌<◌, ◌≤◌, ℕ, ap, arith, refl, subst, sym}
-use Rattle.jc_cache.specs.Meeting.{IsSessionSeat}
+use Rattle.jc_cache.proofs.Common.{◌∙◌, ◌<◌, ◌≤◌, ℕ, ap, arith, refl, subst, sym, IsSessionSeat}
 use Rattle.jc_cache.proofs.Rows.{length_locks}
 use Rattle.jc_cache.proofs.Meetings.{there_row, row_set, rest_set}
 use Rattle.jc_cache.proofs.Readings.{read_next, read_all, counted_next, counted_all}

@@ -1,8 +1,4 @@
-use Rattle.std.specs.Prelude.{◌≡◌, take}
-use Rattle.jc_model.specs.Statistics.{statistics_of}
-use Rattle.jc_cache.specs.Caches.{noted_by}
-use Rattle.jc_cache.specs.Counting.{occurred_in}
-use Rattle.jc_cache.specs.Meeting.{KeepRow}
+use Rattle.jc_cache.proofs.Common.{◌≡◌, take, statistics_of, noted_by, occurred_in, KeepRow}
 use Rattle.jc_cache.proofs.Meetings.{HasRest}
 use Rattle.jc_cache.proofs.Readings.{ReadBelow}
 use Rattle.jc_cache.proofs.counting.read_each.Given as goal

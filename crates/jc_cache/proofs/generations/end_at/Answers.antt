@@ -1,8 +1,4 @@
-use Rattle.std.proofs.Common.{◌≡◌, ◌∙◌, ap, subst, sym}
-use Rattle.jc_stripe.specs.State.{State}
-use Rattle.jc_lock.specs.Views.{after_give, after_take}
-use Rattle.jc_cache.specs.Fronts.{HasSeen}
-use Rattle.jc_cache.specs.Generations.{IsEndOf}
+use Rattle.jc_cache.proofs.Common.{◌≡◌, ◌∙◌, ap, subst, sym, State, after_give, after_take, HasSeen, IsEndOf}
 use Rattle.jc_cache.proofs.EndedGenerations.{end_of, turn_of, ended_seen}
 use Rattle.jc_cache.proofs.SessionPhases.{agent_same, holds_one}
 use Rattle.jc_cache.proofs.generations.end_at.Goals as goal

@@ -1,6 +1,5 @@
-use Rattle.std.proofs.Common.{◌≡◌, ◌∙◌, ap, inl, refl, subst, sym}
+use Rattle.jc_cache.proofs.Common.{◌≡◌, ◌∙◌, ap, inl, refl, subst, sym, after_give, after_take, front_note}
 use mathlib.Core.List.{IsPrefix}
-use Rattle.jc_lock.specs.Views.{after_give, after_take, front_note}
 use Rattle.jc_cache.proofs.Meetings.{none_lent, refreshed_seen, joined_seen}
 use Rattle.jc_cache.proofs.SessionPhases.{agent_same, holds_one}
 use Rattle.jc_cache.proofs.meeting.tell_at.Goals as goal

@@ -1,5 +1,4 @@
-use Rattle.std.proofs.Common.{◌∙◌, ◌<◌, ℕ, ap, arith, refl, subst, sym}
-use Rattle.jc_cache.specs.Meeting.{IsSessionSeat}
+use Rattle.jc_cache.proofs.Common.{◌∙◌, ◌<◌, ℕ, ap, arith, refl, subst, sym, IsSessionSeat}
 use Rattle.jc_cache.proofs.Rows.{length_locks}
 use Rattle.jc_cache.proofs.Meetings.{there_row, row_set, rest_set, tell_next, tell_all}
 use Rattle.jc_cache.proofs.meeting.tell_each.Goals as goal

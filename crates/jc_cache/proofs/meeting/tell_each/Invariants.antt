@@ -1,5 +1,4 @@
-use Rattle.std.specs.Prelude.{◌≡◌}
-use Rattle.jc_cache.specs.Meeting.{KeepRow}
+use Rattle.jc_cache.proofs.Common.{◌≡◌, KeepRow}
 use Rattle.jc_cache.proofs.Meetings.{HasRest, TellBelow}
 use Rattle.jc_cache.proofs.meeting.tell_each.Given as goal
 

@@ -1,5 +1,4 @@
-use Rattle.std.proofs.Common.{◌≡◌, ◌++◌, map, take, drop}
-use Rattle.jc_stripe.specs.Renewal.{live_on}
+use Rattle.jc_cache.proofs.Common.{◌≡◌, ◌++◌, map, take, drop, live_on}
 use Rattle.jc_cache.proofs.owner.live_on.Given as goal
 
 abbrev pub invariant-loop-stripe : goal.invariant-loop-stripe

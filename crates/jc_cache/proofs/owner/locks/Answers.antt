@@ -1,8 +1,4 @@
-use Rattle.std.proofs.Common.{◌≡◌, ◌∷◌, [], List, length, map, refl, sym, ap, ◌∙◌, append_assoc, append-nil, length-append, arith}
-use Rattle.std.specs.Vec.Iter.{into_iter_items}
-use Rattle.jc_stripe.specs.State.{State}
-use Rattle.jc_stripe.specs.Generations.{whole_history}
-use Rattle.jc_lock.specs.Views.{first_view}
+use Rattle.jc_cache.proofs.Common.{◌≡◌, ◌∷◌, [], List, length, map, refl, sym, ap, ◌∙◌, append_assoc, append-nil, length-append, arith, into_iter_items, State, whole_history, first_view}
 use Rattle.jc_cache.proofs.Rows.{locks_push}
 use Rattle.jc_cache.proofs.Noted.{noted_push, fronts_push, first_push, new_each, new_history, new_within, opening_histories, opening_len}
 use Rattle.jc_cache.proofs.owner.locks.Goals as goal

@@ -1,7 +1,4 @@
-use Rattle.std.proofs.Common.{◌≡◌, ◌≤◌, ◌++◌, length, map, vec_len, vec_capacity}
-use Rattle.std.specs.Vec.Iter.{into_iter_items, into_iter_len}
-use Rattle.jc_stripe.specs.Generations.{whole_history}
-use Rattle.jc_cache.specs.Caches.{noted_by, fronts_of}
+use Rattle.jc_cache.proofs.Common.{◌≡◌, ◌≤◌, ◌++◌, length, map, vec_len, vec_capacity, into_iter_items, into_iter_len, whole_history, noted_by, fronts_of}
 use Rattle.jc_cache.proofs.Rows.{locks_of}
 use Rattle.jc_cache.proofs.Noted.{AreFirst}
 use Rattle.jc_cache.proofs.owner.locks.Given as goal

@@ -1,6 +1,4 @@
-use Rattle.std.proofs.Common.{◌≡◌, ◌<◌, length, refl, sym, ◌∙◌, arith}
-use Rattle.std.proofs.lemmas.Option.{slice_get_read}
-use Rattle.jc_lock.specs.Views.{after_split, session_view}
+use Rattle.jc_cache.proofs.Common.{◌≡◌, ◌<◌, length, refl, sym, ◌∙◌, arith, slice_get_read, after_split, session_view}
 use Rattle.jc_cache.proofs.Rows.{lock_there}
 use Rattle.jc_cache.proofs.OwnSeats.{split_read, split_own, split_seats}
 use Rattle.jc_cache.proofs.owner.split.Goals as goal

@@ -1,5 +1,4 @@
-use Rattle.std.proofs.Common.{◌≡◌, ◌+◌, ◌≤◌, ◌++◌, map, take, drop, length, vec_len, vec_capacity}
-use Rattle.jc_lock.specs.Views.{after_split, session_view}
+use Rattle.jc_cache.proofs.Common.{◌≡◌, ◌+◌, ◌≤◌, ◌++◌, map, take, drop, length, vec_len, vec_capacity, after_split, session_view}
 use Rattle.jc_cache.proofs.Rows.{Seated}
 use Rattle.jc_cache.proofs.owner.split.Given as goal
 

@@ -1,5 +1,4 @@
-use Rattle.std.proofs.Common.{◌≡◌, ◌++◌, drop}
-use Rattle.jc_stripe.specs.Reopening.{all_entries}
+use Rattle.jc_cache.proofs.Common.{◌≡◌, ◌++◌, drop, all_entries}
 use Rattle.jc_cache.proofs.reopening.copy_entries.Given as goal
 
 abbrev pub invariant-loop-stripe : goal.invariant-loop-stripe

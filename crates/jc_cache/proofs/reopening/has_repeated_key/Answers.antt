@@ -1,10 +1,6 @@
-use Rattle.std.proofs.Common.{◌≡◌, ◌+◌, ◌||◌, ◌≤◌, ℕ, Bool, length, take, sym, ap, subst, ◌∙◌, arith}
+use Rattle.jc_cache.proofs.Common.{◌≡◌, ◌+◌, ◌||◌, ◌≤◌, ℕ, Bool, length, take, sym, ap, subst, ◌∙◌, arith, All-more, All-same, list_any, IsReached, shares_key}
 use Rattle.std.proofs.Math.ListN.{drop_of_length-le}
 use Rattle.std.proofs.Math.Seq.{take-length}
-use Rattle.std.proofs.lemmas.List.Elements.{All-more, All-same}
-use Rattle.std.specs.List.{list_any}
-use Rattle.jc_stripe.specs.Reached.{IsReached}
-use Rattle.jc_stripe.specs.Reopening.{shares_key}
 use Rattle.jc_cache.proofs.Reopenings.{rest_whole, asked_of, found_repeated}
 use Rattle.jc_cache.proofs.reopening.has_repeated_key.Goals as goal
 use Rattle.jc_cache.proofs.reopening.has_repeated_key.Goals.{then-found, else-found}

@@ -1,7 +1,4 @@
-use Rattle.std.proofs.Common.{◌≡◌, ◌||◌, drop, take}
-use Rattle.std.specs.List.{All}
-use Rattle.jc_stripe.specs.Reached.{IsReached}
-use Rattle.jc_stripe.specs.Reopening.{some_share_key}
+use Rattle.jc_cache.proofs.Common.{◌≡◌, ◌||◌, drop, take, All, IsReached, some_share_key}
 use Rattle.jc_cache.proofs.reopening.has_repeated_key.Given as goal
 
 abbrev pub invariant-loop-i : goal.invariant-loop-i

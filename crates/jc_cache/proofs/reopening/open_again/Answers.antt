@@ -1,7 +1,5 @@
-use Rattle.std.proofs.Common.{rules, ◌≡◌, ◌∙◌, Ok, true}
-use Rattle.jc_types.specs.Limits.{check}
+use Rattle.jc_cache.proofs.Common.{rules, ◌≡◌, ◌∙◌, Ok, true, check, all_entries}
 use Rattle.jc_model.specs.Listed.{has_distinct_keys}
-use Rattle.jc_stripe.specs.Reopening.{all_entries}
 use Rattle.jc_cache.proofs.Reopenings.{reopened_so}
 use Rattle.jc_cache.proofs.reopening.open_again.Goals as goal
 

@@ -1,6 +1,4 @@
-use Rattle.std.proofs.Common.{◌≡◌, drop}
-use Rattle.std.specs.List.{list_any}
-use Rattle.jc_stripe.specs.Reopening.{shares_key}
+use Rattle.jc_cache.proofs.Common.{◌≡◌, drop, list_any, shares_key}
 use Rattle.jc_cache.proofs.reopening.shares_with_any.Given as goal
 
 abbrev pub invariant-loop-other : goal.invariant-loop-other

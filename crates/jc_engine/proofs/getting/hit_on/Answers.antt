@@ -1,4 +1,4 @@
-use Rattle.std.proofs.Common.{inl, refl, sym, ◌∙◌}
+use Rattle.jc_engine.proofs.Common.{inl, refl, sym, ◌∙◌}
 use Rattle.jc_engine.proofs.Beginning.{may-here, counted-hit, made-hit, stays-unhit}
 use Rattle.jc_engine.proofs.getting.hit_on.Goals as goal
 

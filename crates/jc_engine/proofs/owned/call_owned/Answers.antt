@@ -1,5 +1,4 @@
-use Rattle.std.proofs.Common.{rules}
-use Rattle.jc_engine.specs.Entering.{ended_with}
+use Rattle.jc_engine.proofs.Common.{rules, ended_with}
 use Rattle.jc_engine.proofs.OwnedCalls.{owned_as, owned_call, there_is}
 use Rattle.jc_engine.proofs.owned.call_owned.Goals as goal
 

@@ -1,7 +1,5 @@
-use Rattle.std.proofs.Common.{rules, ◌∙◌, ap, sym}
+use Rattle.jc_engine.proofs.Common.{rules, ◌∙◌, ap, sym, Invoke, ended_with}
 use Rattle.std.proofs.lemmas.Option.{same_Some}
-use Rattle.jc_model.specs.declared.event.Op.TheVariants.{Invoke}
-use Rattle.jc_engine.specs.Entering.{ended_with}
 use Rattle.jc_engine.proofs.OwnedCalls.{owned_as, owned_call, there_is}
 use Rattle.jc_engine.proofs.owned.invoke_owned.Goals as goal
 

@@ -1,5 +1,4 @@
-use Rattle.std.proofs.Common.{◌++◌, [], ◌∷◌, length, ap, ◌∙◌, arith}
-use Rattle.jc_rounds.specs.declared.progress.KeyProgress.TheVariants.{Waiting}
+use Rattle.jc_rounds.proofs.Common.{◌++◌, [], ◌∷◌, length, ap, ◌∙◌, arith, Waiting}
 use Rattle.jc_rounds.proofs.Places.{many_waiting, one_waiting}
 use Rattle.jc_rounds.proofs.bulk_call.all_waiting.Goals as goal
 

@@ -1,5 +1,4 @@
-use Rattle.std.proofs.Common.{◌≡◌, ◌≤◌, vec_capacity}
-use Rattle.jc_rounds.specs.KeyProgress.{all_waiting}
+use Rattle.jc_rounds.proofs.Common.{◌≡◌, ◌≤◌, vec_capacity, all_waiting}
 use Rattle.jc_rounds.proofs.bulk_call.all_waiting.Given as goal
 
 abbrev pub invariant-loop-place : goal.invariant-loop-place

@@ -1,5 +1,4 @@
-use Rattle.std.proofs.Common.{sym, ap, ◌∙◌}
-use Rattle.jc_rounds.specs.KeyProgress.{failure_at}
+use Rattle.jc_rounds.proofs.Common.{sym, ap, ◌∙◌, failure_at}
 use Rattle.jc_rounds.proofs.Failures.{first_there, none_failed}
 use Rattle.jc_rounds.proofs.bulk_call.first_failure.Goals as goal
 

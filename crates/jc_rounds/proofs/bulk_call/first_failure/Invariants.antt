@@ -1,5 +1,4 @@
-use Rattle.std.proofs.Common.{◌≡◌, [], take}
-use Rattle.jc_rounds.specs.KeyProgress.{failures}
+use Rattle.jc_rounds.proofs.Common.{◌≡◌, [], take, failures}
 use Rattle.jc_rounds.proofs.bulk_call.first_failure.Given as goal
 
 -- none of the keys before this one has failed

@@ -1,5 +1,4 @@
-use Rattle.std.proofs.Common.{◌<◌, ℕ}
-use Rattle.jc_rounds.specs.KeyProgress.{StillWaits}
+use Rattle.jc_rounds.proofs.Common.{◌<◌, ℕ, StillWaits}
 use Rattle.jc_rounds.proofs.bulk_call.first_waiting.Given as goal
 
 -- no key before this place waits

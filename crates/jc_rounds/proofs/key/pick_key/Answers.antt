@@ -1,4 +1,4 @@
-use Rattle.jc_stripe.specs.Phases.{polled_with}
+use Rattle.jc_rounds.proofs.Common.{polled_with}
 use Rattle.jc_session.proofs.CallerLemmas.{polled_counts}
 use Rattle.jc_rounds.proofs.KeyCalls.{pick_over, pick_told}
 use Rattle.jc_rounds.proofs.key.pick_key.Goals as goal

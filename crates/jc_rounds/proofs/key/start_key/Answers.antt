@@ -1,4 +1,4 @@
-use Rattle.jc_stripe.specs.Phases.{begun_with}
+use Rattle.jc_rounds.proofs.Common.{begun_with}
 use Rattle.jc_session.proofs.CallerLemmas.{counted_with}
 use Rattle.jc_rounds.proofs.KeyCalls.{may_start, start_told}
 use Rattle.jc_rounds.proofs.key.start_key.Goals as goal

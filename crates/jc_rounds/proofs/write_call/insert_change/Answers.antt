@@ -1,6 +1,4 @@
-use Rattle.std.proofs.Common.{map, sym, ap, ◌∙◌}
-use Rattle.jc_model.specs.Batches.{is_among}
-use Rattle.jc_batch.specs.Changes.{changes_of}
+use Rattle.jc_rounds.proofs.Common.{map, sym, ap, ◌∙◌, is_among, changes_of}
 use Rattle.jc_rounds.proofs.OutsideCalls.{write_keys, delete_keys}
 use Rattle.jc_rounds.proofs.write_call.insert_change.Goals as goal
 

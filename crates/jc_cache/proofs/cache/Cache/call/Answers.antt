@@ -1,6 +1,4 @@
-use Rattle.std.proofs.Common.{rules, slice_set, ◌≡◌, subst, sym, ℕ, ◌<◌, ap, Some, slice_get}
-use Rattle.jc_engine.specs.Entering.{ended_with}
-use Rattle.jc_cache.specs.Caches.{CacheState}
+use Rattle.jc_cache.proofs.Common.{rules, slice_set, ◌≡◌, subst, sym, ℕ, ◌<◌, ap, Some, slice_get, ended_with, CacheState}
 use Rattle.jc_cache.proofs.WholeCalls.{some_stripe, lock_near, seat_near, at_key, seat_at, free_at, ready_next, may_call, called}
 use Rattle.jc_cache.proofs.cache.Cache.call.Goals as goal
 

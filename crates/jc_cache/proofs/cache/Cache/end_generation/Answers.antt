@@ -1,6 +1,4 @@
-use Rattle.std.specs.Prelude.{slice_set}
-use Rattle.std.proofs.Common.{refl, subst}
-use Rattle.jc_cache.specs.Fronts.{HasSeen}
+use Rattle.jc_cache.proofs.Common.{slice_set, refl, subst, HasSeen}
 use Rattle.jc_cache.proofs.EndedGenerations.{ended_may}
 use Rattle.jc_cache.proofs.SessionPhases.{number_at}
 use Rattle.jc_cache.proofs.cache.Cache.end_generation.Goals as goal

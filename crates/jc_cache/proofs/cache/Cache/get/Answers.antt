@@ -1,4 +1,4 @@
-use Rattle.std.proofs.Common.{◌∙◌, ap, Bool, Ok, sym}
+use Rattle.jc_cache.proofs.Common.{◌∙◌, ap, Bool, Ok, sym}
 use Rattle.jc_cache.proofs.Rooms.{got_error, got_nothing, got_value}
 use Rattle.jc_cache.proofs.cache.Cache.get.Goals as goal
 

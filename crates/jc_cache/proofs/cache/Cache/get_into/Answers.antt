@@ -1,5 +1,4 @@
-use Rattle.std.proofs.Common.{rules, slice_set, ◌≡◌, subst, sym, ℕ, ◌<◌, ap, Some, slice_get}
-use Rattle.jc_cache.specs.Caches.{CacheState}
+use Rattle.jc_cache.proofs.Common.{rules, slice_set, ◌≡◌, subst, sym, ℕ, ◌<◌, ap, Some, slice_get, CacheState}
 use Rattle.jc_cache.proofs.WholeCalls.{completes_as, some_stripe, lock_near, seat_near, at_key, seat_at, free_at, ready_next, may_call, got}
 use Rattle.jc_cache.proofs.cache.Cache.get_into.Goals as goal
 

@@ -1,11 +1,6 @@
-use Rattle.std.proofs.Common.{◌≡◌, ◌+◌, ◌≤◌, ap, inl, refl, subst, sym, ◌∙◌, ℕ, vec_len, vec_capacity}
-use Rattle.jc_types.specs.declared.config.Config.{Config}
+use Rattle.jc_cache.proofs.Common.{◌≡◌, ◌+◌, ◌≤◌, ap, inl, refl, subst, sym, ◌∙◌, ℕ, vec_len, vec_capacity, Config, State, Turn, looking, CacheState}
 use Rattle.jc_stripe.specs.Keys.{Looks}
-use Rattle.jc_stripe.specs.State.{State}
 use Rattle.jc_session.specs.declared.counts.Counted.TheVariants.{Nothing}
-use Rattle.jc_engine.specs.Rows.{Turn}
-use Rattle.jc_cache.specs.Turns.{looking}
-use Rattle.jc_cache.specs.Caches.{CacheState}
 use Rattle.jc_cache.proofs.WholeCalls.{free_at}
 use Rattle.jc_cache.proofs.SessionPhases.{look_lent, number_at, shape_found, agent_same, holds_one, phase_left}
 use Rattle.jc_cache.proofs.cache.Cache.look.Goals as goal

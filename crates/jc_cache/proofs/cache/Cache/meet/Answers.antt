@@ -1,5 +1,4 @@
-use Rattle.std.proofs.Common.{◌∙◌, ap, refl, sym}
-use Rattle.jc_cache.specs.Caches.{CacheState}
+use Rattle.jc_cache.proofs.Common.{◌∙◌, ap, refl, sym, CacheState}
 use Rattle.jc_cache.proofs.Meetings.{teller_may, hearer_may}
 use Rattle.jc_cache.proofs.cache.Cache.meet.Goals as goal
 

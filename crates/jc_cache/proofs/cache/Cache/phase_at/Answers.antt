@@ -1,8 +1,4 @@
-use Rattle.std.proofs.Common.{rules, slice_set, ap, refl}
-use Rattle.jc_engine.specs.Rows.{Turn}
-use Rattle.jc_engine.specs.Doors.{waiting}
-use Rattle.jc_engine.proofs.CallerLemmas.{waited_keeps}
-use Rattle.jc_cache.specs.Caches.{CacheState}
+use Rattle.jc_cache.proofs.Common.{rules, slice_set, ap, refl, Turn, waiting, waited_keeps, CacheState}
 use Rattle.jc_cache.proofs.WholeCalls.{free_at, ready}
 use Rattle.jc_cache.proofs.SessionPhases.{number_at, phase_left}
 use Rattle.jc_cache.proofs.cache.Cache.phase_at.Goals as goal

@@ -1,6 +1,4 @@
-use Rattle.std.proofs.Common.{subst, sym, arith}
-use Rattle.jc_session.specs.Counting.{call_before}
-use Rattle.jc_cache.specs.Sessions.{IsOf, MayCall}
+use Rattle.jc_cache.proofs.Common.{subst, sym, arith, call_before, IsOf, MayCall}
 use Rattle.jc_cache.proofs.Skipped.{skipped_may, skipped_of}
 use Rattle.jc_cache.proofs.cache.Cache.skip_to.Goals as goal
 

@@ -1,9 +1,5 @@
-use Rattle.std.proofs.Common.{ap, refl, subst, sym}
-use Rattle.jc_stripe.specs.Phases.{begun_with}
-use Rattle.jc_engine.specs.Needs.{BeginsIfClear, StartsAt}
-use Rattle.jc_engine.specs.Turns.{StartWaits}
+use Rattle.jc_cache.proofs.Common.{ap, refl, subst, sym, begun_with, BeginsIfClear, StartsAt, StartWaits, CacheState}
 use Rattle.jc_engine.specs.declared.first.BeginCall.{BeginCall}
-use Rattle.jc_cache.specs.Caches.{CacheState}
 use Rattle.jc_cache.proofs.WholeCalls.{some_stripe, at_key, number_near}
 use Rattle.jc_cache.proofs.SessionPhases.{start_needs, phase_map}
 use Rattle.jc_cache.proofs.cache.Cache.start.Goals as goal

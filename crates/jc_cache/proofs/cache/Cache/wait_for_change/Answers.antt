@@ -1,5 +1,4 @@
-use Rattle.std.proofs.Common.{◌≡◌, subst, sym, ℕ, ◌<◌, ap, Some, slice_get}
-use Rattle.jc_cache.specs.Caches.{CacheState}
+use Rattle.jc_cache.proofs.Common.{◌≡◌, subst, sym, ℕ, ◌<◌, ap, Some, slice_get, CacheState}
 use Rattle.jc_cache.proofs.WholeCalls.{some_stripe, lock_near, seat_near, seat_at, free_at}
 use Rattle.jc_cache.proofs.cache.Cache.wait_for_change.Goals as goal
 

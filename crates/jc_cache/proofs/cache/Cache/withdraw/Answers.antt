@@ -1,7 +1,4 @@
-use Rattle.std.proofs.Common.{◌∙◌, ap}
-use Rattle.jc_types.specs.Stripes.{stripe_of}
-use Rattle.jc_stripe.specs.declared.ticket.Reservation.{Reservation}
-use Rattle.jc_cache.specs.Caches.{CacheState}
+use Rattle.jc_cache.proofs.Common.{◌∙◌, ap, stripe_of, Reservation, CacheState}
 use Rattle.jc_cache.proofs.WholeCalls.{some_stripe, at_key, number_near}
 use Rattle.jc_cache.proofs.SessionPhases.{phase_map}
 use Rattle.jc_cache.proofs.cache.Cache.withdraw.Goals as goal

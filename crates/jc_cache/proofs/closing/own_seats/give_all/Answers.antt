@@ -1,4 +1,4 @@
-use Rattle.std.proofs.Common.{ap, le_refl, ◌∙◌, ◌<◌, ℕ, refl, sym, subst, rules}
+use Rattle.jc_cache.proofs.Common.{ap, le_refl, ◌∙◌, ◌<◌, ℕ, refl, sym, subst, rules}
 use Rattle.jc_cache.proofs.ClosingSeats.{keep_all, keep_set, none_phase, given_back, near_row, fewer, give_near, give_there, give_step, not_beyond}
 use Rattle.jc_cache.proofs.Meetings.{got_other}
 use Rattle.jc_cache.proofs.closing.own_seats.give_all.Goals as goal

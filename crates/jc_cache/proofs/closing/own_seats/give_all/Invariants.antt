@@ -1,5 +1,4 @@
-use Rattle.std.proofs.Common.{ℕ, ◌≡◌, ◌≤◌, length, slice_get}
-use Rattle.jc_cache.specs.ClosingInside.{KeepSeats, LeavesUnchanged, HaveTaken}
+use Rattle.jc_cache.proofs.Common.{ℕ, ◌≡◌, ◌≤◌, length, slice_get, KeepSeats, LeavesUnchanged, HaveTaken}
 use Rattle.jc_cache.proofs.closing.own_seats.give_all.Given as goal
 
 abbrev pub invariant-loop-closed : goal.invariant-loop-closed

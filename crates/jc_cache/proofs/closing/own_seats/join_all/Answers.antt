@@ -1,12 +1,6 @@
-use Rattle.std.proofs.Common.{◌≡◌, ◌∷◌, ◌++◌, [], List, length, refl, sym, ap, subst, ◌∙◌, append_assoc, append-nil, arith, rules}
-use Rattle.std.proofs.lemmas.List.Elements.{All-nil, All-push}
-use Rattle.std.specs.Vec.Iter.{into_iter_items}
-use Rattle.atomic_table.specs.Seated.{TableId}
-use Rattle.jc_lock.specs.declared.view.View.{View}
-use Rattle.jc_cache.specs.Closing.{HasFront, all_lent, lent_at}
+use Rattle.jc_cache.proofs.Common.{◌≡◌, ◌∷◌, ◌++◌, [], List, length, refl, sym, ap, subst, ◌∙◌, append_assoc, append-nil, arith, rules, All-nil, All-push, into_iter_items, TableId, View, HasFront, all_lent, lent_at, State}
 use Rattle.jc_cache.proofs.ClosingSeats.{keep_all, keep_on, keep_locks, brought_push}
 use Rattle.jc_cache.proofs.ClosedCache.{lent_more}
-use Rattle.jc_stripe.specs.State.{State}
 use Rattle.jc_cache.proofs.closing.own_seats.join_all.Goals as goal
 
 pub loop-session-init : goal.loop-session-init

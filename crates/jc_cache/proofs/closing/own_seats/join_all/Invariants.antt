@@ -1,8 +1,4 @@
-use Rattle.std.proofs.Common.{ℕ, ◌≡◌, ◌≤◌, ◌+◌, ◌++◌, length, map, vec_len, vec_capacity}
-use Rattle.std.specs.List.{All}
-use Rattle.std.specs.Vec.Iter.{into_iter_items, into_iter_len}
-use Rattle.jc_cache.specs.Closing.{HasFront, all_lent, lent_at}
-use Rattle.jc_cache.specs.ClosingInside.{KeepSeats, Whatever, HaveTaken}
+use Rattle.jc_cache.proofs.Common.{ℕ, ◌≡◌, ◌≤◌, ◌+◌, ◌++◌, length, map, vec_len, vec_capacity, All, into_iter_items, into_iter_len, HasFront, all_lent, lent_at, KeepSeats, Whatever, HaveTaken}
 use Rattle.jc_cache.proofs.closing.own_seats.join_all.Given as goal
 
 abbrev pub invariant-loop-session : goal.invariant-loop-session

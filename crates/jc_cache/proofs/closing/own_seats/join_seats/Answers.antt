@@ -1,4 +1,4 @@
-use Rattle.std.proofs.Common.{set, ap, ◌∙◌, ◌<◌, [], ◌∷◌, ℕ, sym, subst, length, append-nil}
+use Rattle.jc_cache.proofs.Common.{set, ap, ◌∙◌, ◌<◌, [], ◌∷◌, ℕ, sym, subst, length, append-nil}
 use Rattle.jc_cache.proofs.Rows.{length_locks}
 use Rattle.jc_cache.proofs.ClosingSeats.{HandedFrom, HasFrontFrom, handed_next, handed_none, no_front, keep_all, keep_set, near_row, popped_at, popped_done, popped_long, join_near, join_there, join_step}
 use Rattle.jc_cache.proofs.closing.own_seats.join_seats.Goals as goal

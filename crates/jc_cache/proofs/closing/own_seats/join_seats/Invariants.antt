@@ -1,7 +1,4 @@
-use Rattle.std.proofs.Common.{◌≡◌, ◌++◌, List, length}
-use Rattle.atomic_table.specs.Seated.{TableId}
-use Rattle.jc_lock.specs.declared.view.View.{View}
-use Rattle.jc_cache.specs.ClosingInside.{KeepSeats, Whatever, HaveTaken}
+use Rattle.jc_cache.proofs.Common.{◌≡◌, ◌++◌, List, length, TableId, View, KeepSeats, Whatever, HaveTaken}
 use Rattle.jc_cache.proofs.ClosingSeats.{HandedFrom, HasFrontFrom}
 use Rattle.jc_cache.proofs.closing.own_seats.join_seats.Given as goal
 

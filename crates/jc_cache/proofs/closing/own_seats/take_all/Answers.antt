@@ -1,4 +1,4 @@
-use Rattle.std.proofs.Common.{◌∙◌, arith, refl, rules}
+use Rattle.jc_cache.proofs.Common.{◌∙◌, arith, refl, rules}
 use Rattle.jc_cache.proofs.ClosingSeats.{keep_all, keep_on, keep_set, keep_locks, own_there, next_free, next_stays, take_next}
 use Rattle.jc_cache.proofs.Meetings.{got_set}
 use Rattle.jc_cache.proofs.Noted.{logs_set, row_refusal}

@@ -1,6 +1,4 @@
-use Rattle.std.proofs.Common.{◌≡◌, ◌≤◌, length, vec_capacity}
-use Rattle.jc_cache.specs.Caches.{logs_of}
-use Rattle.jc_cache.specs.ClosingInside.{KeepSeats, LeavesUnchanged, HaveTaken}
+use Rattle.jc_cache.proofs.Common.{◌≡◌, ◌≤◌, length, vec_capacity, logs_of, KeepSeats, LeavesUnchanged, HaveTaken}
 use Rattle.jc_cache.proofs.closing.own_seats.take_all.Given as goal
 
 abbrev pub invariant-loop-i : goal.invariant-loop-i

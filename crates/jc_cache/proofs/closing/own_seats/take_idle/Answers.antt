@@ -1,6 +1,4 @@
-use Rattle.std.proofs.Common.{ap, subst}
-use Rattle.jc_stripe.specs.State.{IsIdle}
-use Rattle.jc_cache.specs.Caches.{log_of}
+use Rattle.jc_cache.proofs.Common.{ap, subst, IsIdle, log_of}
 use Rattle.jc_cache.proofs.ClosingSeats.{has_taken}
 use Rattle.jc_cache.proofs.closing.own_seats.take_idle.Goals as goal
 

@@ -1,5 +1,4 @@
-use Rattle.std.proofs.Common.{arith, refl, rules, ◌∙◌}
-use Rattle.std.proofs.lemmas.Option.{slice_get_within}
+use Rattle.jc_cache.proofs.Common.{arith, refl, rules, ◌∙◌, slice_get_within}
 use Rattle.jc_cache.proofs.Rows.{length_locks}
 use Rattle.jc_cache.proofs.ClosingSeats.{keep_all, keep_set, keep_locks, own_there, free_at, free_set}
 use Rattle.jc_cache.proofs.Meetings.{got_set}

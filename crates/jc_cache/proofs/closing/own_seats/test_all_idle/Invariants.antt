@@ -1,5 +1,4 @@
-use Rattle.std.proofs.Common.{[]}
-use Rattle.jc_cache.specs.ClosingInside.{KeepSeats, LeavesUnchanged, HaveTaken}
+use Rattle.jc_cache.proofs.Common.{[], KeepSeats, LeavesUnchanged, HaveTaken}
 use Rattle.jc_cache.proofs.Noted.{AreAsBefore, AreIdleBelow}
 use Rattle.jc_cache.proofs.closing.own_seats.test_all_idle.Given as goal
 

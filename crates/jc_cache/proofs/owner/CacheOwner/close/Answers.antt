@@ -1,4 +1,4 @@
-use Rattle.std.proofs.Common.{refl, rules}
+use Rattle.jc_cache.proofs.Common.{refl, rules}
 use Rattle.jc_cache.proofs.ClosedCache.{as_it_was}
 use Rattle.jc_cache.proofs.owner.CacheOwner.close.Goals as goal
 

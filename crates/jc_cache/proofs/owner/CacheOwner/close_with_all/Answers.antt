@@ -1,10 +1,7 @@
-use Rattle.std.proofs.Common.{List, Some, ◌∙◌, refl, sym, ap, length, rules, subst}
-use Rattle.jc_cache.specs.Caches.{CacheOwnerState, Log, logs_of}
-use Rattle.jc_cache.specs.Closing.{AreIdle}
+use Rattle.jc_cache.proofs.Common.{List, Some, ◌∙◌, refl, sym, ap, length, rules, subst, CacheOwnerState, Log, logs_of, AreIdle, Whatever}
 use Rattle.jc_cache.proofs.Rows.{length_locks}
 use Rattle.jc_cache.proofs.ClosingSeats.{keep_on, keep_locks, keep_length, looked_somehow}
 use Rattle.jc_cache.proofs.ClosedCache.{all_free, whole_again, closed, back, gave_none, taken_as, taken_over, why}
-use Rattle.jc_cache.specs.ClosingInside.{Whatever}
 use Rattle.jc_cache.proofs.owner.CacheOwner.close_with_all.Goals as goal
 
 pub take_stripes-requires : goal.take_stripes-requires

@@ -1,6 +1,4 @@
-use Rattle.std.proofs.Common.{List, Some, ap, refl, rules, subst, sym, ◌∙◌}
-use Rattle.jc_cache.specs.Closing.{AreIdle}
-use Rattle.jc_cache.specs.Caches.{CacheOwnerState, Log, fronts_of, logs_of, noted_by}
+use Rattle.jc_cache.proofs.Common.{List, Some, ap, refl, rules, subst, sym, ◌∙◌, AreIdle, CacheOwnerState, Log, fronts_of, logs_of, noted_by}
 use Rattle.jc_cache.proofs.ClosedCache.{all_free, whole_again, ended, back, gave_none, taken_as, why_ended}
 use Rattle.jc_cache.proofs.owner.CacheOwner.end.Goals as goal
 

@@ -1,5 +1,4 @@
-use Rattle.std.proofs.Common.{◌≡◌, ◌∙◌, ◌∷◌, [], ap, length, append_assoc, arith}
-use Rattle.std.specs.Vec.Iter.{into_iter_items}
+use Rattle.jc_cache.proofs.Common.{◌≡◌, ◌∙◌, ◌∷◌, [], ap, length, append_assoc, arith, into_iter_items}
 use Rattle.jc_cache.proofs.Enlisted.{given_next}
 use Rattle.jc_cache.proofs.owner.CacheOwner.enlist_all.Goals as goal
 

@@ -1,5 +1,4 @@
-use Rattle.std.proofs.Common.{◌≡◌, ◌≤◌, ◌+◌, ◌++◌, length, vec_len, vec_capacity}
-use Rattle.std.specs.Vec.Iter.{into_iter_items, into_iter_len}
+use Rattle.jc_cache.proofs.Common.{◌≡◌, ◌≤◌, ◌+◌, ◌++◌, length, vec_len, vec_capacity, into_iter_items, into_iter_len}
 use Rattle.jc_cache.specs.Enlisting.{AreGivenOut}
 use Rattle.jc_cache.proofs.owner.CacheOwner.enlist_all.Given as goal
 

@@ -1,6 +1,4 @@
-use Rattle.std.proofs.Common.{◌++◌, is_some, map, rules, sym, ap, ◌∙◌}
-use Rattle.jc_lock.specs.Views.{session_view}
-use Rattle.jc_cache.specs.Caches.{CacheOwnerState, noted_by, fronts_of, logs_of, session_refusal}
+use Rattle.jc_cache.proofs.Common.{◌++◌, is_some, map, rules, sym, ap, ◌∙◌, session_view, CacheOwnerState, noted_by, fronts_of, logs_of, session_refusal}
 use Rattle.jc_cache.proofs.Rows.{Seated}
 use Rattle.jc_cache.proofs.NewSessions.{whole_after, given_one, may_give, begins_at, may_fresh}
 use Rattle.jc_cache.proofs.owner.CacheOwner.give_out.Goals as goal

@@ -1,6 +1,4 @@
-use Rattle.std.proofs.Common.{◌∙◌, ap, sym}
-use Rattle.jc_stripe.specs.Phases.{with_reply}
-use Rattle.jc_stripe.specs.Tickets.{asks_loader, asks_writer}
+use Rattle.jc_engine.proofs.Common.{◌∙◌, ap, sym, with_reply, asks_loader, asks_writer}
 use Rattle.jc_engine.proofs.Asking.{loader_asked, writer_asked}
 use Rattle.jc_engine.proofs.FromPhases.{asked_ends}
 use Rattle.jc_engine.proofs.access.Access.ask_and_end.Goals as goal

@@ -1,7 +1,4 @@
-use Rattle.std.proofs.Common.{rules, ◌∙◌, Ok, Option, Some, refl, sym, ap, subst}
-use Rattle.jc_stripe.specs.Tickets.{TicketClaim}
-use Rattle.jc_engine.specs.Calls.{Enters}
-use Rattle.jc_engine.specs.Entering.{counts_entered}
+use Rattle.jc_engine.proofs.Common.{rules, ◌∙◌, Ok, Option, Some, refl, sym, ap, subst, TicketClaim, Enters, counts_entered}
 use Rattle.jc_engine.proofs.AgentAfter.{writer_stays}
 use Rattle.jc_engine.proofs.Asked.{asked_since, of_caller}
 use Rattle.jc_engine.proofs.FromPhases.{asked_call}

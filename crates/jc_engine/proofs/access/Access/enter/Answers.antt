@@ -1,12 +1,6 @@
-use Rattle.std.proofs.Common.{rules, ◌∙◌, sym, refl, ap, subst}
-use Rattle.std.proofs.lemmas.Bool.{OnTrue_at, OnFalse_at}
-use Rattle.jc_types.specs.declared.caller.Caller.{Caller}
+use Rattle.jc_engine.proofs.Common.{rules, ◌∙◌, sym, refl, ap, subst, OnTrue_at, OnFalse_at, Caller, with_reply, JoinClaim, Nothing, Reserved, BeginsIfClear, Waits}
 use Rattle.jc_stripe.specs.Outcomes as begun
-use Rattle.jc_stripe.specs.Phases.{with_reply}
-use Rattle.jc_stripe.specs.Tickets.{JoinClaim}
-use Rattle.jc_session.specs.declared.counts.Counted.TheVariants.{Nothing, Step, Reserved}
-use Rattle.jc_engine.specs.Needs.{BeginsIfClear}
-use Rattle.jc_engine.specs.declared.first.How.TheVariants.{Waits}
+use Rattle.jc_session.specs.declared.counts.Counted.TheVariants.{Step}
 use Rattle.jc_engine.proofs.AgentAfter.{session_is, session_joined, after_begun, after_answer, after_retry}
 use Rattle.jc_engine.proofs.Rounds.{begun_by, done_row, fits_first, needs_on, rounds_on, rounds_start, shared_row, starts_by}
 use Rattle.jc_engine.proofs.access.Access.enter.Goals as goal

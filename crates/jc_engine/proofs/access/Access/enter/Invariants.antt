@@ -1,5 +1,4 @@
-use Rattle.std.proofs.Common.{◌≡◌}
-use Rattle.jc_engine.specs.Doors.{IsReady, KeepsAccess}
+use Rattle.jc_engine.proofs.Common.{◌≡◌, IsReady, KeepsAccess}
 use Rattle.jc_engine.proofs.Rounds.{Rounds}
 use Rattle.jc_engine.proofs.access.Access.enter.Given as goal
 

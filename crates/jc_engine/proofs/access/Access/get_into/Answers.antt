@@ -1,17 +1,6 @@
-use Rattle.std.proofs.Common.{rules, ◌≡◌, ◌∙◌, Bool, inl, inr, IsSome, Ok, Some, [], ◌∷◌, length, sym, ap, refl, subst}
+use Rattle.jc_engine.proofs.Common.{rules, ◌≡◌, ◌∙◌, Bool, inl, inr, IsSome, Ok, Some, [], ◌∷◌, length, sym, ap, refl, subst, Caller, Bytes, Get, State, hit_done, Done, ComesAfter, counts_after, BeginsIfClear, HasMissed, Hits, Starts, counted_hit, IsTurn, starting}
 use Rattle.std.specs.Bool.{OnFalse}
-use Rattle.jc_types.specs.declared.caller.Caller.{Caller}
-use Rattle.jc_model.specs.Cache.{Bytes}
-use Rattle.jc_model.specs.declared.event.Op.TheVariants.{Get}
 use Rattle.jc_model.specs.declared.event.Reply.TheVariants.{Value}
-use Rattle.jc_stripe.specs.State.{State}
-use Rattle.jc_stripe.specs.Phases.{hit_done}
-use Rattle.jc_stripe.specs.Outcomes.{Done}
-use Rattle.jc_gate.specs.Lending.{ComesAfter}
-use Rattle.jc_session.specs.Counting.{counts_after}
-use Rattle.jc_engine.specs.Needs.{BeginsIfClear, HasMissed, Hits, Starts, counted_hit}
-use Rattle.jc_engine.specs.Rows.{IsTurn}
-use Rattle.jc_engine.specs.Turns.{starting}
 use Rattle.jc_engine.specs.Stays.{begins-stays}
 use Rattle.jc_engine.specs.Values.{value_into}
 use Rattle.jc_engine.proofs.FromPhases.{unasked_call}

@@ -1,5 +1,4 @@
-use Rattle.std.proofs.Common.{rules, ◌≡◌, ◌∙◌, ap, inl}
-use Rattle.jc_session.proofs.CallerLemmas.{phase_of}
+use Rattle.jc_engine.proofs.Common.{rules, ◌≡◌, ◌∙◌, ap, inl, phase_of}
 use Rattle.jc_engine.proofs.access.Access.hit.Goals as goal
 
 pub give-requires-clause-phase : goal.give-requires-clause-phase

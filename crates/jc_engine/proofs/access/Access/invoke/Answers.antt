@@ -1,11 +1,5 @@
-use Rattle.std.proofs.Common.{rules, ◌∙◌, Err, sym, refl, ap, subst}
-use Rattle.jc_model.specs.declared.event.Op.TheVariants.{Invoke}
+use Rattle.jc_engine.proofs.Common.{rules, ◌∙◌, Err, sym, refl, ap, subst, Invoke, with_reply, TicketClaim, Processed, out_of, Waits, IsReported}
 use Rattle.jc_stripe.specs.Outcomes as begun
-use Rattle.jc_stripe.specs.Phases.{with_reply}
-use Rattle.jc_stripe.specs.Tickets.{TicketClaim}
-use Rattle.jc_engine.specs.Answered.{Processed, out_of}
-use Rattle.jc_engine.specs.declared.first.How.TheVariants.{Waits}
-use Rattle.jc_engine.specs.Needs.{IsReported}
 use Rattle.jc_engine.proofs.AgentAfter.{session_asked, writer_stays}
 use Rattle.jc_engine.proofs.Asked.{asked_since}
 use Rattle.jc_engine.proofs.FromPhases.{asked_call, unasked_call}

@@ -1,6 +1,4 @@
-use Rattle.std.proofs.Common.{subst}
-use Rattle.jc_stripe.specs.Renewal.{RenewsIfFull}
-use Rattle.jc_stripe.proofs.CallerLemmas.{stays_or_renews}
+use Rattle.jc_engine.proofs.Common.{subst, RenewsIfFull, stays_or_renews}
 use Rattle.jc_engine.proofs.Rows.{comes_left}
 use Rattle.jc_engine.proofs.access.Access.leave.Goals as goal
 

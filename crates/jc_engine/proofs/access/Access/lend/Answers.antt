@@ -1,9 +1,4 @@
-use Rattle.std.proofs.Common.{rules, [], ◌∷◌, ◌++◌, ◌∙◌, ap, inl, inr, refl, subst, sym}
-use Rattle.std.proofs.lemmas.Bool.{true≢false}
-use Rattle.jc_session.proofs.CallerLemmas.{phase_of}
-use Rattle.jc_stripe.specs.OnePhase.{IsPhaseOf}
-use Rattle.jc_stripe.specs.State.{State}
-use Rattle.jc_engine.specs.Doors.{HasWaited, IsLeft}
+use Rattle.jc_engine.proofs.Common.{rules, [], ◌∷◌, ◌++◌, ◌∙◌, ap, inl, inr, refl, subst, sym, true≢false, phase_of, IsPhaseOf, State, HasWaited, IsLeft}
 use Rattle.jc_engine.proofs.Rows.{once, row_append}
 use Rattle.jc_engine.proofs.Tries.{tries_start, tries_left}
 use Rattle.jc_engine.proofs.access.Access.lend.Goals as goal

@@ -1,5 +1,4 @@
-use Rattle.std.proofs.Common.{◌≡◌}
-use Rattle.jc_engine.specs.Doors.{HasWaited, KeepsAccess}
+use Rattle.jc_engine.proofs.Common.{◌≡◌, HasWaited, KeepsAccess}
 use Rattle.jc_engine.proofs.Tries.{Tries}
 use Rattle.jc_engine.proofs.access.Access.lend.Given as goal
 

@@ -1,9 +1,4 @@
-use Rattle.std.proofs.Common.{rules, ◌∙◌, ap, inl, inr, refl, subst, sym}
-use Rattle.std.proofs.lemmas.Bool.{true≢false}
-use Rattle.jc_stripe.specs.State.{State}
-use Rattle.jc_session.proofs.CallerLemmas.{phase_of}
-use Rattle.jc_stripe.specs.Renewal.{is_renewable}
-use Rattle.jc_engine.specs.Doors.{IsLeft}
+use Rattle.jc_engine.proofs.Common.{rules, ◌∙◌, ap, inl, inr, refl, subst, sym, true≢false, State, phase_of, is_renewable, IsLeft}
 use Rattle.jc_engine.proofs.Rows.{left_once}
 use Rattle.jc_engine.proofs.access.Access.lend_once.Goals as goal
 

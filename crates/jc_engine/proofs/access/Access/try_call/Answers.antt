@@ -1,12 +1,6 @@
-use Rattle.std.proofs.Common.{◌∙◌, ap, inl, inr, refl, subst}
-use Rattle.jc_stripe.specs.declared.begun.Started.{Started}
+use Rattle.jc_engine.proofs.Common.{◌∙◌, ap, inl, inr, refl, subst, Started, with_reply, counts_after, counted_started, Alone, HasTried, StartWaits}
 use Rattle.jc_stripe.specs.declared.begun.Started.TheVariants as started
-use Rattle.jc_stripe.specs.Phases.{with_reply}
-use Rattle.jc_session.specs.Counting.{counts_after, counted_started}
 use Rattle.jc_engine.specs.declared.first.BeginCall.{BeginCall}
-use Rattle.jc_engine.specs.declared.first.How.TheVariants.{Alone}
-use Rattle.jc_engine.specs.Doors.{HasTried}
-use Rattle.jc_engine.specs.Turns.{StartWaits}
 use Rattle.jc_engine.proofs.Rounds.{fits_first, tried_by}
 use Rattle.jc_engine.proofs.Unasked.{no_ticket, no_share}
 use Rattle.jc_engine.proofs.access.Access.try_call.Goals as goal

@@ -1,7 +1,4 @@
-use Rattle.std.proofs.Common.{Bool, [], ◌∷◌, rules, ◌∙◌, ap, refl, subst, sym}
-use Rattle.jc_stripe.specs.OnePhase.{IsPhaseOf}
-use Rattle.jc_engine.specs.Doors.{HasWaited}
-use Rattle.jc_engine.specs.Rows.{IsLending}
+use Rattle.jc_engine.proofs.Common.{Bool, [], ◌∷◌, rules, ◌∙◌, ap, refl, subst, sym, IsPhaseOf, HasWaited, IsLending}
 use Rattle.jc_engine.proofs.Rows.{once, waited_keeps}
 use Rattle.jc_engine.proofs.Tries.{Once, made_again, tried_once, tried_since, tried_twice}
 use Rattle.jc_engine.proofs.access.Access.try_lend.Goals as goal

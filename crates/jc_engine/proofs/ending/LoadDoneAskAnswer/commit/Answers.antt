@@ -1,6 +1,4 @@
-use Rattle.std.proofs.Common.{inl, inr, refl}
-use Rattle.jc_model.specs.Group.{load_only}
-use Rattle.jc_stripe.specs.Phases.{with_reply}
+use Rattle.jc_engine.proofs.Common.{inl, inr, refl, load_only, with_reply}
 use Rattle.jc_engine.proofs.ending.LoadDoneAskAnswer.commit.Goals as goal
 
 pub returns-clause-counted : goal.returns-clause-counted

@@ -1,6 +1,5 @@
-use Rattle.std.proofs.Common.{inl, inr, refl}
+use Rattle.jc_engine.proofs.Common.{inl, inr, refl, with_reply}
 use Rattle.jc_stripe.specs.Effects.{process_out}
-use Rattle.jc_stripe.specs.Phases.{with_reply}
 use Rattle.jc_engine.proofs.ending.ProcessedAnswer.commit.Goals as goal
 
 pub returns-clause-counted : goal.returns-clause-counted

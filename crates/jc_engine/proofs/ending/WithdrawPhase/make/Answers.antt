@@ -1,4 +1,4 @@
-use Rattle.std.proofs.Common.{inr, refl}
+use Rattle.jc_engine.proofs.Common.{inr, refl}
 use Rattle.jc_engine.proofs.ending.WithdrawPhase.make.Goals as goal
 
 pub returns-clause-made : goal.returns-clause-made

@@ -1,6 +1,4 @@
-use Rattle.std.proofs.Common.{inl, inr, refl}
-use Rattle.jc_model.specs.Group.{write_only}
-use Rattle.jc_stripe.specs.Phases.{with_reply}
+use Rattle.jc_engine.proofs.Common.{inl, inr, refl, write_only, with_reply}
 use Rattle.jc_engine.proofs.ending.WriteDoneAskAnswer.commit.Goals as goal
 
 pub returns-clause-counted : goal.returns-clause-counted

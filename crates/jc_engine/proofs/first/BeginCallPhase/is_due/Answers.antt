@@ -1,4 +1,4 @@
-use Rattle.std.proofs.Common.{◌∙◌, sym}
+use Rattle.jc_engine.proofs.Common.{◌∙◌, sym}
 use Rattle.jc_engine.proofs.first.BeginCallPhase.is_due.Goals as goal
 
 pub returns : goal.returns

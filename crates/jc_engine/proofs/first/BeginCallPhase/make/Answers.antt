@@ -1,8 +1,4 @@
-use Rattle.std.proofs.Common.{sym, ◌∙◌, ap, inl, inr, refl, subst}
-use Rattle.jc_stripe.specs.declared.begun.Started.{Started}
-use Rattle.jc_stripe.specs.Phases.{Begins, begun_with}
-use Rattle.jc_session.proofs.CallerLemmas.{counted_with}
-use Rattle.jc_engine.specs.Needs.{puts_off}
+use Rattle.jc_engine.proofs.Common.{sym, ◌∙◌, ap, inl, inr, refl, subst, Started, Begins, begun_with, counted_with, puts_off}
 use Rattle.jc_engine.proofs.Beginning.{may-start, asks-nobody}
 use Rattle.jc_engine.proofs.first.BeginCallPhase.make.Goals as goal
 

@@ -1,8 +1,5 @@
-use Rattle.std.proofs.Common.{◌∙◌, ap, inl, inr, refl, rules, subst, sym}
+use Rattle.jc_engine.proofs.Common.{◌∙◌, ap, inl, inr, refl, rules, subst, sym, PicksUp, polled_with, polled_counts, is_early}
 use Rattle.jc_stripe.specs.declared.begun.Picked.{Picked}
-use Rattle.jc_stripe.specs.Phases.{PicksUp, polled_with}
-use Rattle.jc_session.proofs.CallerLemmas.{polled_counts}
-use Rattle.jc_engine.specs.Needs.{is_early}
 use Rattle.jc_engine.proofs.joining.PickUpPhase.make.Goals as goal
 
 pub returns-then-not-is_early-clause-made : goal.returns-then-not-is_early-clause-made

@@ -1,8 +1,5 @@
-use Rattle.std.proofs.Common.{◌∷◌, ◌∙◌, ap, sym, subst}
-use Rattle.jc_model.specs.Group.{load_only, write_only}
+use Rattle.jc_rounds.proofs.Common.{◌∷◌, ◌∙◌, ap, sym, subst, load_only, write_only, with_reply, AreAnswers, IsReportedOn, TakesReport, done_room}
 use Rattle.jc_stripe.specs.Effects.{process_out}
-use Rattle.jc_stripe.specs.Phases.{with_reply}
-use Rattle.jc_rounds.specs.Answers.{AreAnswers, IsReportedOn, TakesReport, done_room}
 use Rattle.jc_rounds.proofs.Answering.{loads_next, processes_next, report_due, run_done, run_over, writes_next}
 use Rattle.jc_rounds.proofs.KeyCalls.{commit_told}
 use Rattle.jc_rounds.proofs.answers.RoundAnswers.commit_next.Goals as goal

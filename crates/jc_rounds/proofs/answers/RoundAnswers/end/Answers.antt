@@ -1,5 +1,4 @@
-use Rattle.std.proofs.Common.{subst, []}
-use Rattle.jc_rounds.specs.Answers.{AreAnswers}
+use Rattle.jc_rounds.proofs.Common.{subst, [], AreAnswers}
 use Rattle.jc_rounds.proofs.Answering.{processes_over}
 use Rattle.jc_rounds.proofs.answers.RoundAnswers.end.Goals as goal
 

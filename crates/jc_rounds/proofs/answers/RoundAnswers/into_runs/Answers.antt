@@ -1,6 +1,4 @@
-use Rattle.std.proofs.Common.{subst, [], ◌∙◌, sym}
-use Rattle.jc_rounds.specs.Answers.{AreAnswers}
-use Rattle.jc_rounds.specs.Rounds.{ProcessAll}
+use Rattle.jc_rounds.proofs.Common.{subst, [], ◌∙◌, sym, AreAnswers, ProcessAll}
 use Rattle.jc_rounds.proofs.Answering.{processes_over}
 use Rattle.jc_rounds.proofs.OutsideCalls.{none_long}
 use Rattle.jc_rounds.proofs.answers.RoundAnswers.into_runs.Goals as goal

@@ -1,7 +1,4 @@
-use Rattle.std.proofs.Common.{◌≡◌}
-use Rattle.jc_rounds.specs.Answers.{done_room}
-use Rattle.jc_rounds.specs.Rounds.{Round}
-use Rattle.jc_rounds.specs.Underway.{AdvancesUnnoted, CallPast, IsAnswered, IsCommitting}
+use Rattle.jc_rounds.proofs.Common.{◌≡◌, done_room, Round, AdvancesUnnoted, CallPast, IsAnswered, IsCommitting}
 use Rattle.jc_rounds.proofs.bulk_call.BulkCall.commit.Given as goal
 
 abbrev pub invariant-loop-place : goal.invariant-loop-place

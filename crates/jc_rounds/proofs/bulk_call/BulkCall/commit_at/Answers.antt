@@ -1,4 +1,4 @@
-use Rattle.std.proofs.Common.{Some, ap, sym, ◌∙◌}
+use Rattle.jc_rounds.proofs.Common.{Some, ap, sym, ◌∙◌}
 use Rattle.jc_rounds.proofs.Loops.{commit_none, commit_past, next_commit, no_items}
 use Rattle.jc_rounds.proofs.OnCall.{unnoted_itself}
 use Rattle.jc_rounds.proofs.Underway.{reserved_is, there_by}

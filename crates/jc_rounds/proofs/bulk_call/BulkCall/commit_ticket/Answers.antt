@@ -1,5 +1,4 @@
-use Rattle.std.proofs.Common.{Ok, refl}
-use Rattle.jc_rounds.specs.declared.progress.KeyProgress.TheVariants.{Ended, Reserved}
+use Rattle.jc_rounds.proofs.Common.{Ok, refl, Ended, Reserved}
 use Rattle.jc_rounds.proofs.OnCall.{committing_on, may_commit, near_in, unnoted_by}
 use Rattle.jc_rounds.proofs.bulk_call.BulkCall.commit_ticket.Goals as goal
 

@@ -1,4 +1,4 @@
-use Rattle.jc_rounds.specs.Underway.{with_round}
+use Rattle.jc_rounds.proofs.Common.{with_round}
 use Rattle.jc_rounds.proofs.Ran.{told_advances, told_call, told_run}
 use Rattle.jc_rounds.proofs.bulk_call.BulkCall.end_round.Goals as goal
 

@@ -1,4 +1,4 @@
-use Rattle.std.proofs.Common.{Some, ap, sym, ◌∙◌}
+use Rattle.jc_rounds.proofs.Common.{Some, ap, sym, ◌∙◌}
 use Rattle.jc_rounds.proofs.Loops.{next_pick, no_items, pick_none, pick_past}
 use Rattle.jc_rounds.proofs.OnCall.{unnoted_itself}
 use Rattle.jc_rounds.proofs.Underway.{joined_is, there_by}

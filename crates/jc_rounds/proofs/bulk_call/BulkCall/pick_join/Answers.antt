@@ -1,6 +1,4 @@
-use Rattle.std.proofs.Common.{refl}
-use Rattle.jc_stripe.specs.Phases.{polled_with}
-use Rattle.jc_rounds.specs.declared.progress.KeyProgress.TheVariants.{Joined}
+use Rattle.jc_rounds.proofs.Common.{refl, polled_with, Joined}
 use Rattle.jc_rounds.proofs.OnCall.{may_pick, near_in, picking_on, unnoted_by}
 use Rattle.jc_rounds.proofs.bulk_call.BulkCall.pick_join.Goals as goal
 

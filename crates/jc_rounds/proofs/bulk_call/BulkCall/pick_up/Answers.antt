@@ -1,4 +1,4 @@
-use Rattle.std.proofs.Common.{refl, arith}
+use Rattle.jc_rounds.proofs.Common.{refl, arith}
 use Rattle.jc_rounds.proofs.Failures.{keeps_itself}
 use Rattle.jc_rounds.proofs.Held.{goes_itself}
 use Rattle.jc_rounds.proofs.Loops.{noted_advances, noted_since, pick_from, pick_noted, pick_over}

@@ -1,4 +1,4 @@
-use Rattle.jc_rounds.specs.Underway.{AdvancesUnnoted, CallPast, HasCommitted, IsPicking}
+use Rattle.jc_rounds.proofs.Common.{AdvancesUnnoted, CallPast, HasCommitted, IsPicking}
 use Rattle.jc_rounds.proofs.bulk_call.BulkCall.pick_up.Given as goal
 
 abbrev pub invariant-loop-place : goal.invariant-loop-place

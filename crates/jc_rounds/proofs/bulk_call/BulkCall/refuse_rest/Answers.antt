@@ -1,7 +1,5 @@
-use Rattle.std.proofs.Common.{set, get_or, ap, ◌∙◌, arith}
+use Rattle.jc_rounds.proofs.Common.{set, get_or, ap, ◌∙◌, arith, BulkCall, refused_if_waiting}
 use Rattle.std.specs.Vec.{with_item}
-use Rattle.jc_rounds.specs.declared.bulk_call.BulkCall.{BulkCall}
-use Rattle.jc_rounds.specs.KeyProgress.{refused_if_waiting}
 use Rattle.jc_rounds.proofs.Places.{refused_so_far}
 use Rattle.jc_rounds.proofs.bulk_call.BulkCall.refuse_rest.Goals as goal
 

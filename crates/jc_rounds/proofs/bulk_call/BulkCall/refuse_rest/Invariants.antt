@@ -1,5 +1,4 @@
-use Rattle.std.proofs.Common.{◌≡◌, ◌++◌, map, take, drop}
-use Rattle.jc_rounds.specs.KeyProgress.{refused_if_waiting}
+use Rattle.jc_rounds.proofs.Common.{◌≡◌, ◌++◌, map, take, drop, refused_if_waiting}
 use Rattle.jc_rounds.proofs.bulk_call.BulkCall.refuse_rest.Given as goal
 
 -- the keys before this place are refused if they waited

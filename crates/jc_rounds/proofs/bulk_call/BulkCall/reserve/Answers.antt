@@ -1,4 +1,4 @@
-use Rattle.std.proofs.Common.{◌≡◌, ap, arith, length}
+use Rattle.jc_rounds.proofs.Common.{◌≡◌, ap, arith, length}
 use Rattle.jc_rounds.proofs.Loops.{no_items}
 use Rattle.jc_rounds.proofs.OnCall.{advances_both, advances_itself}
 use Rattle.jc_rounds.proofs.Ran.{has_reserved, quiet_run}

@@ -1,5 +1,4 @@
-use Rattle.jc_rounds.specs.Running.{HasRun}
-use Rattle.jc_rounds.specs.Underway.{Advances, CallPast}
+use Rattle.jc_rounds.proofs.Common.{HasRun, Advances, CallPast}
 use Rattle.jc_rounds.proofs.bulk_call.BulkCall.reserve.Given as goal
 
 -- rounds were made that have asked nobody

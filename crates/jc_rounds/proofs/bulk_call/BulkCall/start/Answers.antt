@@ -1,4 +1,4 @@
-use Rattle.std.proofs.Common.{arith}
+use Rattle.jc_rounds.proofs.Common.{arith}
 use Rattle.jc_rounds.proofs.Loops.{none_joined, noted_advances, noted_since, start_from, start_more, start_over}
 use Rattle.jc_rounds.proofs.OnCall.{unnoted_both, unnoted_itself}
 use Rattle.jc_rounds.proofs.bulk_call.BulkCall.start.Goals as goal

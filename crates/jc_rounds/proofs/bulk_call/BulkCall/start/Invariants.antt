@@ -1,6 +1,4 @@
-use Rattle.jc_rounds.specs.Starting.{HaveJoined}
-use Rattle.jc_rounds.specs.Targets.{ops_of}
-use Rattle.jc_rounds.specs.Underway.{AdvancesUnnoted, CallPast, IsBetween, IsStarting}
+use Rattle.jc_rounds.proofs.Common.{HaveJoined, ops_of, AdvancesUnnoted, CallPast, IsBetween, IsStarting}
 use Rattle.jc_rounds.proofs.Loops.{Held}
 use Rattle.jc_rounds.proofs.bulk_call.BulkCall.start.Given as goal
 

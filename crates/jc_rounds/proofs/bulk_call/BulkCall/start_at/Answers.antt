@@ -1,4 +1,4 @@
-use Rattle.std.proofs.Common.{Some, ⊎_elim, inr, ap, sym, ◌∙◌}
+use Rattle.jc_rounds.proofs.Common.{Some, ⊎_elim, inr, ap, sym, ◌∙◌}
 use Rattle.jc_rounds.proofs.Loops.{start_else, start_past}
 use Rattle.jc_rounds.proofs.OnCall.{unnoted_itself}
 use Rattle.jc_rounds.proofs.Underway.{there_by, waiting_is}

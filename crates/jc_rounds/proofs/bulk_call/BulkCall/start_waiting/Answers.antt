@@ -1,7 +1,4 @@
-use Rattle.std.proofs.Common.{◌<◌, refl, ap, sym, set, subst, vec_len}
-use Rattle.jc_stripe.specs.Phases.{begun_with}
-use Rattle.jc_rounds.specs.declared.bulk_call.BulkCall.{BulkCall}
-use Rattle.jc_rounds.specs.declared.progress.KeyProgress.TheVariants.{Waiting}
+use Rattle.jc_rounds.proofs.Common.{◌<◌, refl, ap, sym, set, subst, vec_len, begun_with, BulkCall, Waiting}
 use Rattle.jc_rounds.proofs.OnCall.{held_by, kept_joined, kept_more, may_start, near_in, progress_kept, same_kept, starting_on, unnoted_by}
 use Rattle.jc_rounds.proofs.bulk_call.BulkCall.start_waiting.Goals as goal
 

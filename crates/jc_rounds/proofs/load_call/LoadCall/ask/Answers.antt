@@ -1,10 +1,6 @@
-use Rattle.std.proofs.Common.{◌≡◌, ◌+◌, ◌∙◌, length, vec_len, ap, subst, sym, arith}
-use Rattle.std.proofs.lemmas.List.{length-map}
-use Rattle.jc_outside.specs.CallingAll.{LoadsAllOnce, loads_done}
+use Rattle.jc_rounds.proofs.Common.{◌≡◌, ◌+◌, ◌∙◌, length, vec_len, ap, subst, sym, arith, length-map, LoadsAllOnce, loads_done, asked_key, asked_keys}
 use Rattle.jc_session.specs.Boxed.{boxed}
 use Rattle.jc_cache.proofs.CallerLemmas.{after_asking, same_type}
-use Rattle.jc_rounds.specs.Answers.{asked_key}
-use Rattle.jc_rounds.specs.OutsideCalls.{asked_keys}
 use Rattle.jc_rounds.proofs.OutsideCalls.{done_back}
 use Rattle.jc_rounds.proofs.load_call.LoadCall.ask.Goals as goal
 

@@ -1,6 +1,4 @@
-use Rattle.std.proofs.Common.{ap, slice_get, sym, ◌∙◌}
-use Rattle.jc_model.specs.declared.event.Op.TheVariants.{Put}
-use Rattle.jc_rounds.specs.Targets.{put_ops}
+use Rattle.jc_rounds.proofs.Common.{ap, slice_get, sym, ◌∙◌, Put, put_ops}
 use Rattle.jc_rounds.proofs.SoFar.{key_at}
 use Rattle.jc_rounds.proofs.TargetOps.{put_at, same_keys}
 use Rattle.jc_rounds.proofs.targets.Targets.key.Goals as goal

@@ -1,6 +1,4 @@
-use Rattle.std.proofs.Common.{sym}
-use Rattle.jc_model.specs.declared.event.Op.TheVariants.{Put}
-use Rattle.jc_rounds.specs.Targets.{put_ops}
+use Rattle.jc_rounds.proofs.Common.{sym, Put, put_ops}
 use Rattle.jc_rounds.proofs.TargetOps.{op_at, put_at, same_op}
 use Rattle.jc_rounds.proofs.targets.Targets.op.Goals as goal
 

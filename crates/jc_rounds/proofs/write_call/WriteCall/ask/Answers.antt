@@ -1,10 +1,7 @@
-use Rattle.std.proofs.Common.{length, reverse, refl, ◌∙◌, ap, subst, sym}
+use Rattle.jc_rounds.proofs.Common.{length, reverse, refl, ◌∙◌, ap, subst, sym, writes_done, asked_key, WritesBatch, wanted}
 use Rattle.jc_model.specs.declared.event.WriteAnswer.TheVariants.{NotAsked}
 use Rattle.jc_session.specs.Boxed.{boxed}
-use Rattle.jc_outside.specs.CallingAll.{writes_done}
 use Rattle.jc_cache.proofs.CallerLemmas.{after_asking, same_type}
-use Rattle.jc_rounds.specs.Answers.{asked_key}
-use Rattle.jc_rounds.specs.OutsideCalls.{WritesBatch, wanted}
 use Rattle.jc_rounds.proofs.OutsideCalls.{done_back, full_batch, no_batch, none_long}
 use Rattle.jc_rounds.proofs.write_call.WriteCall.ask.Goals as goal
 

@@ -1,6 +1,4 @@
-use Rattle.std.proofs.Common.{map, ap, ◌∙◌}
-use Rattle.jc_model.specs.Batches.{is_among}
-use Rattle.jc_rounds.specs.OutsideCalls.{asked_keys}
+use Rattle.jc_rounds.proofs.Common.{map, ap, ◌∙◌, is_among, asked_keys}
 use Rattle.jc_rounds.proofs.OutsideCalls.{keys_wanted}
 use Rattle.jc_rounds.proofs.write_call.WriteCall.push.Goals as goal
 
