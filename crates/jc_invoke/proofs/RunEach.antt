@@ -11,7 +11,7 @@
 --     run_as          a run, under whichever names of its ticket and of its arguments
 --     may_take        there is room for the next run, and its key is new
 --     begins          before the first run
-use Rattle.jc_invoke.proofs.Common.{HasRunEach, IsTicketRun, KeepsRunsRoom, TakesKey, IsRoundRoomFor, IsNextRoom, RunBehavior, in_boxes, Batches, RoundRoom, is_among, Bytes, RunState, claims_after, done_of, done_room, reservations_of, reserved_keys, WriteCallState, asked_keys, no_writes, reserved_by, RoundAnswers, Agent, TicketClaim, ◌≡◌, ◌≤◌, ◌<◌, ◌+◌, ◌++◌, ℕ, zero, suc, List, [], ◌∷◌, length, map, set, take, drop, get_or, Bool, false, true, Option, Some, vec_capacity, refl, sym, ap, subst, ◌∙◌, arith, drop_more, length-append, map-append, take-append-drop, take-map, take_more, pointwise, IsDistinct, DynBox}
+use Rattle.jc_invoke.proofs.Common.{HasRunEach, IsTicketRun, KeepsRunsRoom, TakesKey, IsRoundRoomFor, IsNextRoom, RunBehavior, in_boxes, Batches, RoundRoom, is_among, Bytes, RunState, claims_after, done_of, done_room, reservations_of, reserved_keys, WriteCallState, asked_keys, no_writes, reserved_by, RoundAnswers, Agent, TicketClaim, ◌≡◌, ◌≤◌, ◌<◌, ◌+◌, ◌++◌, ℕ, zero, suc, List, [], ◌∷◌, length, map, set, take, drop, get_or, Bool, false, true, Option, Some, vec_capacity, refl, sym, ap, subst, ◌∙◌, arith, drop_more, length-append, map-append, take-append-drop, take-map, take_more, pointwise, IsDistinct, DynBox, ◌==◌}
 use Rattle.jc_invoke.proofs.Runs.{claims_push, new_claim, runs_push}
 
 pub record RoomLeft (through : Bool) (all place : ℕ) (room : RoundRoom) : Type 0 where

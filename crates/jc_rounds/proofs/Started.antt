@@ -3,7 +3,7 @@
 --     none_run               before the first round
 --     run_more               one round more
 --     some_more    rounds after which one has asked have asked
-use Rattle.jc_rounds.proofs.Common.{◌≡◌, ◌⊎◌, inl, inr, ◌≤◌, ◌++◌, ℕ, List, [], ◌∷◌, append-nil, length, slice_get, false, true, true≢false, Bool, ◌||◌, Ok, Err, Some, refl, sym, ap, ◌∙◌, subst, flat_map-append, list_any-append, IsAmong, pointwise, Caller, is_among, Bytes, Op, KeyProgress, Waiting, Reserved, Joined, Ended, IsAt, IsHeldBack, steps_of, view_of, CacheState, Session, BulkCall, Round, asked_in, keys_asked, IsFirst, KeepsCause, holds_reservation, is_held_back, HasRun, HeldInEach, IsRound, with_rounds, AreHeldBack, HaveNoStep, KeysAdvance, EachStartsAll, IsFull, RoundEnd, rounds_asked, seats_after, ops_of, CallPast, IsBetween, HasGrown, view_at}
+use Rattle.jc_rounds.proofs.Common.{◌≡◌, ◌⊎◌, inl, inr, ◌≤◌, ◌++◌, ℕ, List, [], ◌∷◌, append-nil, length, slice_get, false, true, true≢false, Bool, ◌||◌, Ok, Err, Some, refl, sym, ap, ◌∙◌, subst, flat_map-append, list_any-append, IsAmong, pointwise, Caller, is_among, Bytes, Op, KeyProgress, Waiting, Reserved, Joined, Ended, IsAt, IsHeldBack, steps_of, view_of, CacheState, Session, BulkCall, Round, asked_in, keys_asked, IsFirst, KeepsCause, holds_reservation, is_held_back, HasRun, HeldInEach, IsRound, with_rounds, AreHeldBack, HaveNoStep, KeysAdvance, EachStartsAll, IsFull, RoundEnd, rounds_asked, seats_after, ops_of, CallPast, IsBetween, HasGrown, view_at, ◌==◌}
 use Rattle.jc_rounds.proofs.SeatPhases.{Seated}
 use Rattle.jc_rounds.proofs.Causes.{first_more}
 use Rattle.jc_rounds.proofs.Asked.{or_other, place_among}

@@ -8,7 +8,7 @@
 --     first_ticket, first_join    the first of what is out is of the first key that is so far
 --     stay_itself, stay_on, stay_set    keys that have ended stay so
 --     under_set, under_next, settled_set, settled_next    the keys before a place, and from it on
-use Rattle.jc_rounds.proofs.Common.{◌≡◌, ◌⊎◌, ⊎_elim, inl, inr, ◌<◌, ◌≤◌, ◌+◌, ◌-◌, ℕ, zero, suc, List, [], ◌∷◌, ◌++◌, length, length-set, set, reverse, Bool, true, false, None, Some, Result, Ok, Err, nat_lt, if◌then◌else◌, get_or, slice_get, refl, sym, ap, subst, ◌∙◌, arith, length-append, reverse-append, same_Some, slice_get-get_or, IsDistinct, keys_of, pointwise, stripe_of, Caller, Config, Refusal, Bytes, may_come, Op, Get, Out, Reply, last_number, JoinClaim, TicketClaim, is_among, reserved_by, map-append, IsAmong, map, Begun, Polled, Reservation, View, one_more, counts_after, counted_begun, counted_polled, Agent, CacheState, Session, KeyProgress, Waiting, Reserved, Joined, Ended, StayEnded, holds_reservation, is_settled, waits_for_joined_load, waits_for_round, HasBegun, HasPicked, IsAt, IsCommitted, IsJoinFor, IsTicketFor, steps_of, IsAnswer, Round, asked_in, keys_asked, HasGrown, MovesAtKey, view_of, AreIn, AreSettledFrom, AreUnder, IsKept, IsPicked, IsUnderway}
+use Rattle.jc_rounds.proofs.Common.{◌≡◌, ◌⊎◌, ⊎_elim, inl, inr, ◌<◌, ◌≤◌, ◌+◌, ◌-◌, ℕ, zero, suc, List, [], ◌∷◌, ◌++◌, length, length-set, set, reverse, Bool, true, false, None, Some, Result, Ok, Err, nat_lt, if◌then◌else◌, get_or, slice_get, refl, sym, ap, subst, ◌∙◌, arith, length-append, reverse-append, same_Some, slice_get-get_or, IsDistinct, keys_of, pointwise, stripe_of, Caller, Config, Refusal, Bytes, may_come, Op, Get, Out, Reply, last_number, JoinClaim, TicketClaim, is_among, reserved_by, map-append, IsAmong, map, Begun, Polled, Reservation, View, one_more, counts_after, counted_begun, counted_polled, Agent, CacheState, Session, KeyProgress, Waiting, Reserved, Joined, Ended, StayEnded, holds_reservation, is_settled, waits_for_joined_load, waits_for_round, HasBegun, HasPicked, IsAt, IsCommitted, IsJoinFor, IsTicketFor, steps_of, IsAnswer, Round, asked_in, keys_asked, HasGrown, MovesAtKey, view_of, AreIn, AreSettledFrom, AreUnder, IsKept, IsPicked, IsUnderway, ◌==◌}
 use Rattle.jc_types.specs.Refusals.{is_put_off}
 use Rattle.jc_stripe.specs.Outcomes as begun
 use Rattle.jc_stripe.specs.Polled as polled
