@@ -49,8 +49,8 @@ pub fn load_all<R: Wait + Threads + Sync>(
 ) -> Result<(), BulkFault>
     requires some { 0 < length sessions.old }
     requires may { All (λ s. MayCall cache.now s) sessions.old }
-    ensures ended { All (λ s. MayCall cache.now s) sessions.new
-        × OrRefused (EndsInPieces (LoadsPiece (bulk_behavior loads_all load_state writes_all deletes_all write_state) cache.now)
+    ensures may { All (λ s. MayCall cache.now s) sessions.new }
+    ensures ended { OrRefused (EndsInPieces (LoadsPiece (bulk_behavior loads_all load_state writes_all deletes_all write_state) cache.now)
         keys.now.keys replace sessions.old) (length keys.now.keys) sessions.old result sessions.new }
     ensures told { hears listener.old (completion_of result) (listener_state listener.new)
         × (listener.new.vtable ≡ listener.old.vtable) }
