@@ -1,11 +1,12 @@
 -- The answers of a `loadAll`, by key (`CacheLoader.loadAll`).
---     AnswersByKey     the answers: each key that was asked, with its value or none
---     AnswersState     the same, and the number of keys that there is memory for
---     answers_code     a code for answers, which their type needs
---     no_answers       no answers yet, of these keys
---     is_asked         whether a key was asked
---     answers_with     the answers with this value at a key, if the key was asked
---     answer_of        the answer at a key, or none
+--     AnswersByKey       the answers: each key that was asked, with its value or none
+--     AnswersState       the same, and the number of keys that there is memory for
+--     answers_code       a code for answers, which their type needs
+--     no_answers         no answers yet, of these keys
+--     is_asked           whether a key was asked
+--     answers_with       the answers with this value at a key, if the key was asked
+--     answers_with_found the answers with what was found at a key: unchanged if nothing was
+--     answer_of          the answer at a key, or none
 use Rattle.std.specs.Prelude.{ℕ, Bool, List, map, Option, None, Some, is_some, if◌then◌else◌}
 use Rattle.std.specs.Coded.{Coded, coded_list, coded_option, coded_ℕ}
 use Rattle.std.specs.FinMap.{FinMap, get, insert, from_entries, code}
@@ -30,6 +31,10 @@ is_asked answers key = is_some (get answers key)
 
 abbrev pub answers_with : AnswersByKey → Bytes → Bytes → AnswersByKey
 answers_with answers key value = if is_asked answers key then insert answers key (Some value) else answers
+
+abbrev pub answers_with_found : AnswersByKey → Bytes → Option Bytes → AnswersByKey
+answers_with_found answers key None = answers
+answers_with_found answers key (Some value) = answers_with answers key value
 
 abbrev pub answer_of : AnswersByKey → Bytes → Option Bytes
 answer_of answers key = option_map_or (λ answer. answer) (get answers key) None

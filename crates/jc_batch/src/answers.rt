@@ -2,7 +2,7 @@
 ghost use Rattle.std.specs.Prelude.{◌≡◌, ◌≤◌, ◌+◌, [], IfOk, OnOk};
 ghost use Rattle.std.specs.FinMap.{from_entries};
 ghost use Rattle.jc_model.specs.Cache.{key_cmp};
-ghost use Rattle.jc_batch.specs.Answers.{no_answers, is_asked, answers_with, answer_of};
+ghost use Rattle.jc_batch.specs.Answers.{no_answers, is_asked, answers_with, answers_with_found, answer_of};
 ghost use Rattle.indexmap.specs.IndexMap.{index_map_len, spare};
 
 use indexmap::IndexMap;
@@ -13,7 +13,7 @@ use std::marker::Model;
 /// The answers of a loader to `loadAll`: for each key that was asked, the last value that the loader put, or none.
 ///
 /// Contracts see a map from each key that was asked to its answer, and the number of keys that there is memory for. Only
-/// [`put`](Answers::put) changes them, and it keeps the memory.
+/// [`put`](Answers::put) and [`put_found`](Answers::put_found) change them, and both keep the memory.
 #[derive(Drop)]
 pub struct Answers {
     answers: IndexMap<Key, Option<Value>>,
@@ -79,6 +79,16 @@ impl Answers {
             None => return false,
         }
         true
+    }
+
+    /// [Puts](Answers::put) what was found at a key, in the store say. If nothing was, nothing changes.
+    pub fn put_found(&mut self, key: &Key, found: &Option<Value>)
+        ensures answers { self.new.by_key ≡ answers_with_found self.old.by_key key.now found.now }
+        ensures room { self.new.room ≡ self.old.room }
+    {
+        if let Some(value) = found {
+            self.put(key, value);
+        }
     }
 
     /// The answer at a key: none if nothing was put there, or if the key wasn't asked.

@@ -17,7 +17,7 @@ pub use Rattle.jc_cache.specs.Counting.{HasRead, HasReadEach, occurred_in}
 pub use Rattle.jc_cache.specs.Fronts.{HasAllSeen, HasMade, HasSeen, IsAskedFor, IsBetween, IsBusyAt, IsMadeIn, IsSameSeat, SeatAfter, SeatTried, TriesTo, WasBusy}
 pub use Rattle.jc_cache.specs.Generations.{GenerationsFollow, IsEndOf}
 pub use Rattle.jc_cache.specs.Meeting.{AreSessionSeats, IsSessionSeat, KeepRow, TellEach, TellsAt}
-pub use Rattle.jc_cache.specs.Sessions.{BeginsAt, Completes, GoesOn, HoldsNothing, IsGivenOut, IsOf, IsSeatAt, MayCall, capped_steps, own_total}
+pub use Rattle.jc_cache.specs.Sessions.{BeginsAt, Completes, GoesOn, HoldsNothing, IsGivenOut, IsOf, IsSeatAt, MayCall, own_total}
 pub use Rattle.jc_cache.specs.Turns.{HasLent, looking}
 pub use Rattle.jc_engine.proofs.CallerLemmas.{Keeps, all_append, all_map, all_split, begun_row, call_in, commits_phase, counted_longer, lent_grows, next_place, once, picks_phase, row_split, shown_same, starts_phase, steps_in, waited_keeps}
 pub use Rattle.jc_engine.specs.Doors.{HasTried, IsReady, Misses, waiting}
@@ -29,7 +29,7 @@ pub use Rattle.jc_lock.proofs.CallerLemmas.{prefix-refl, prefix-trans, same_at, 
 pub use Rattle.jc_lock.specs.Views.{Finds, IsPhaseBy, IsTurnBy, after_give, after_join, after_miss, after_split, after_take, first_view, front_note, own_steps_of, session_number, session_view}
 pub use Rattle.jc_lock.specs.declared.view.View.{View}
 pub use Rattle.jc_model.specs.Cache.{Bytes, entry_at}
-pub use Rattle.jc_model.specs.Statistics.{Occurrence, StatisticsLaws, statistics_of, together}
+pub use Rattle.jc_model.specs.Statistics.{Occurrence, StatisticsLaws, capped, statistics_of, together}
 pub use Rattle.jc_model.specs.declared.event.Event.{Event}
 pub use Rattle.jc_model.specs.declared.event.Event.TheVariants.{Evict, Step}
 pub use Rattle.jc_model.specs.declared.event.Op.{Op}

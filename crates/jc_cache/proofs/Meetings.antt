@@ -8,7 +8,7 @@
 --     there_row                   the seat at a place of a row of a session's seats
 --     teller_seen, hearer_seen    each seat of a row has seen what it had seen
 --     may_stay, teller_may, hearer_may    a session whose seats have seen more may call as before
-use Rattle.jc_cache.proofs.Common.{◌≡◌, ◌+◌, ◌<◌, ◌≤◌, ℕ, zero, suc, true, false, Some, IsSome, List, [], ◌∷◌, length, set, get_or, slice_get, refl, sym, ap, subst, subst₂, ◌∙◌, le_refl, arith, same_Some, slice_get_read, slice_get_within, list_all, TableId, Event, is_before_call, State, IsOfSameStripe, Finds, after_give, after_join, after_take, front_note, own_steps_of, View, prefix-refl, same_itself, one_more, Agent, CacheState, HasSeen, HasLent, TellsAt, TellEach, IsSessionSeat, AreSessionSeats, KeepRow, IsSeatAt, MayCall, capped_steps, Session}
+use Rattle.jc_cache.proofs.Common.{◌≡◌, ◌+◌, ◌<◌, ◌≤◌, ℕ, zero, suc, true, false, Some, IsSome, List, [], ◌∷◌, length, set, get_or, slice_get, refl, sym, ap, subst, subst₂, ◌∙◌, le_refl, arith, same_Some, slice_get_read, slice_get_within, list_all, TableId, Event, is_before_call, State, IsOfSameStripe, Finds, after_give, after_join, after_take, front_note, own_steps_of, View, prefix-refl, same_itself, one_more, Agent, CacheState, HasSeen, HasLent, TellsAt, TellEach, IsSessionSeat, AreSessionSeats, KeepRow, IsSeatAt, MayCall, capped, Session}
 use mathlib.Core.List.{IsPrefix}
 use mathlib.Core.Logic.{dite}
 use native.Mathlib.Decide.{ℕ_discrete}
@@ -137,7 +137,7 @@ module _ {I J : Type 0} {D : I → Type 0} {E : J → Type 0} where
       held = ap (λ (a : Agent I J D E). a.hands.held) agent ∙ may.own.held;
       loads = λ on. subst (λ (a : Agent I J D E). IsSome a.hands.outside.loader) (sym agent) (may.own.loads on);
       writes = λ on. subst (λ (a : Agent I J D E). IsSome a.hands.outside.writer) (sym agent) (may.own.writes on);
-      own = ap (λ (a : Agent I J D E). a.counts.own) agent ∙ may.own.own ∙ ap capped_steps (sym row.total);
+      own = ap (λ (a : Agent I J D E). a.counts.own) agent ∙ may.own.own ∙ ap capped (sym row.total);
     };
     reservations = ap (λ (a : Agent I J D E). a.counts.reservations) agent ∙ may.reservations;
     joins = ap (λ (a : Agent I J D E). a.counts.joins) agent ∙ may.joins;

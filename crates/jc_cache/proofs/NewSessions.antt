@@ -5,7 +5,7 @@
 --     may_give           a session that isn't refused: there may be one more, and it has whom it needs
 --     begins_at          it begins with what its owner has noted and seen
 --     may_fresh          it may call the cache
-use Rattle.jc_cache.proofs.Common.{◌≡◌, ◌&&◌, ◌+◌, ◌<◌, ℕ, Bool, true, false, not, if◌then◌else◌, nat_le, Option, None, Some, IsSome, List, [], ◌∷◌, map, slice_get, refl, sym, ap, subst, ◌∙◌, arith, nat_tests, list_all, TableId, Caller, Config, SESSIONS_MAX, is_before_call, after_split, session_view, session_number, View, one_more, CacheState, CacheOwnerState, noted_by, fronts_of, logs_of, session_refusal, IsOwnSeat, IsWhole, IsSeatAt, BeginsAt, MayCall, own_total, capped_steps, Session}
+use Rattle.jc_cache.proofs.Common.{◌≡◌, ◌&&◌, ◌+◌, ◌<◌, ℕ, Bool, true, false, not, if◌then◌else◌, nat_le, Option, None, Some, IsSome, List, [], ◌∷◌, map, slice_get, refl, sym, ap, subst, ◌∙◌, arith, nat_tests, list_all, TableId, Caller, Config, SESSIONS_MAX, is_before_call, after_split, session_view, session_number, View, one_more, CacheState, CacheOwnerState, noted_by, fronts_of, logs_of, session_refusal, IsOwnSeat, IsWhole, IsSeatAt, BeginsAt, MayCall, own_total, capped, Session}
 use Rattle.jc_types.specs.declared.refusal.Refusal.TheVariants.{TooManySessions, NoLoader, NoWriter}
 use Rattle.jc_session.specs.declared.counts.Counts.{Counts}
 use Rattle.jc_cache.proofs.Rows.{Seated, locks_of, map_get}
@@ -115,7 +115,7 @@ module _ {I J : Type 0} {D : I → Type 0} {E : J → Type 0} where
           held = held;
           loads = loads;
           writes = writes;
-          own = ap (λ (c : Counts). c.own) counts ∙ ap capped_steps (sym (ap own_total are ∙ no_own own));
+          own = ap (λ (c : Counts). c.own) counts ∙ ap capped (sym (ap own_total are ∙ no_own own));
         };
         reservations = ap (λ (c : Counts). c.reservations) counts;
         joins = ap (λ (c : Counts). c.joins) counts;

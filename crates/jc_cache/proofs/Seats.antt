@@ -5,7 +5,7 @@
 --     set_get, set_locks, set_total    one seat of a row is replaced: the seats, their locks, and how many own steps there are
 --     one_longer, capped_more          one own step more, and its count
 --     seat_stays        a seat of a session stays one
-use Rattle.jc_cache.proofs.Common.{DynBox, ◌≡◌, ◌⊎◌, ⊎_elim, inl, inr, ◌+◌, ℕ, zero, suc, true, false, if◌then◌else◌, nat_lt, Option, None, Some, IsSome, Result, Ok, Err, List, [], ◌∷◌, length, map, set, slice_get, slice_set, refl, sym, ap, subst, ◌∙◌, arith, length-append, and_parts, true≢false, nat_tests, same_Some, list_all, TableId, Caller, Config, Refusal, Bytes, Event, Step, Op, Get, Out, Reply, KeepsType, HasOneMore, OwnNumbers, is_before_call, View, one_more, Agent, CacheState, next_call, IsSameSeat, SeatAfter, SeatTried, IsSeatAt, MayCall, own_total, capped_steps, Session}
+use Rattle.jc_cache.proofs.Common.{DynBox, ◌≡◌, ◌⊎◌, ⊎_elim, inl, inr, ◌+◌, ℕ, zero, suc, true, false, if◌then◌else◌, nat_lt, Option, None, Some, IsSome, Result, Ok, Err, List, [], ◌∷◌, length, map, set, slice_get, slice_set, refl, sym, ap, subst, ◌∙◌, arith, length-append, and_parts, true≢false, nat_tests, same_Some, list_all, TableId, Caller, Config, Refusal, Bytes, Event, Step, Op, Get, Out, Reply, KeepsType, HasOneMore, OwnNumbers, is_before_call, View, one_more, Agent, CacheState, next_call, IsSameSeat, SeatAfter, SeatTried, IsSeatAt, MayCall, own_total, capped, Session}
 use Rattle.jc_model.specs.declared.event.Reply.TheVariants.{Flag}
 use Rattle.jc_model.specs.Group.{nothing_said}
 use Rattle.jc_stripe.specs.Refusals.{last_number}
@@ -57,7 +57,7 @@ one_longer event old new more =
     let is = ap length more.is ∙ length-append more.before (event ∷ more.after) in
     omega arith
 
-pub capped_more : (n : ℕ) → capped_steps (n + 1) ≡ one_more (capped_steps n)
+pub capped_more : (n : ℕ) → capped (n + 1) ≡ one_more (capped n)
 capped_more n = grind (arith, nat_tests)
 
 -- 3. The numbers of the own steps.
@@ -90,13 +90,13 @@ numbers_next law caller before after (Err refusal) own are = subst (λ (es : Lis
 -- 4. The count of the own steps.
 
 count_after : (caller : Caller) (before after : View) (ended : Result Reply Refusal) (xs : List Seated) (i : ℕ) (lock : TableId) → slice_get xs i ≡ Some (lock, before) → OwnAfter caller before ended after
-    → own_after (capped_steps (own_total xs)) ended ≡ capped_steps (own_total (set xs i (lock, after)))
+    → own_after (capped (own_total xs)) ended ≡ capped (own_total (set xs i (lock, after)))
 count_after caller before after (Ok reply) xs i lock at own =
-    sym (capped_more (own_total xs)) ∙ ap capped_steps (sym (set_total 1 xs i (lock, before) (lock, after) at (one_longer _ before.own after.own own.5)))
+    sym (capped_more (own_total xs)) ∙ ap capped (sym (set_total 1 xs i (lock, before) (lock, after) at (one_longer _ before.own after.own own.5)))
 count_after caller before after (Err refusal) xs i lock at own =
     let longer : length after.own ≡ length before.own + 0 = let l = ap length own in omega arith in
     let total : own_total xs ≡ own_total (set xs i (lock, after)) = let e = set_total 0 xs i (lock, before) (lock, after) at longer in omega arith in
-    ap capped_steps total
+    ap capped total
 
 -- 5. The session.
 
@@ -144,7 +144,7 @@ module _ {I J : Type 0} {D : I → Type 0} {E : J → Type 0} where
           held = left.held;
           loads = λ on. keeps_some old.agent.hands.outside.loader new.agent.hands.outside.loader left.types.0 (may.own.loads on);
           writes = λ on. keeps_some old.agent.hands.outside.writer new.agent.hands.outside.writer left.types.1 (may.own.writes on);
-          own = counted ∙ ap (λ (n : ℕ). own_after n ended) may.own.own ∙ count_after caller before after ended old.seats.items at lock was own ∙ ap (λ (xs : List Seated). capped_steps (own_total xs)) (sym now);
+          own = counted ∙ ap (λ (n : ℕ). own_after n ended) may.own.own ∙ count_after caller before after ended old.seats.items at lock was own ∙ ap (λ (xs : List Seated). capped (own_total xs)) (sym now);
         };
         reservations = ap (λ (a : Agent I J D E). a.counts.reservations) left.left ∙ may.reservations;
         joins = ap (λ (a : Agent I J D E). a.counts.joins) left.left ∙ may.joins;

@@ -10,7 +10,7 @@
 --     look_lent                a look is a phase in which nothing was done
 --     number_at, shape_found, agent_same   the seat at a stripe with a number, the shape of the stripe, and the agent after a look
 --     holds_one                the agent that has taken a stripe, and its seat
-use Rattle.jc_cache.proofs.Common.{◌≡◌, ⊎_elim, inl, ◌+◌, ◌<◌, ℕ, true, false, Some, IsSome, List, [], ◌++◌, filter, length, get_or, zero, suc, ◌∷◌, slice_get, slice_set, refl, sym, ap, subst, ◌∙◌, arith, true≢false, slice_get_read, same_Some, length-append, stripe_of, Caller, Config, Bytes, Event, Reply, State, IsReached, past_events, whole_history, all_own_steps, IsPhaseOf, is_own_step, own_steps, may_come_all, polled_with, Finds, View, IsCounted, one_more, counts_after, Agent, LentPhase, PhaseLaws, Turn, BeginsIfClear, CommitsHere, IsReported, PicksUpBy, PicksUpLate, Keeps, all_map, counted_longer, once, steps_in, CacheState, IsSameSeat, GoesOn, IsSeatAt, IsOf, HoldsNothing, own_total, capped_steps, Session, HasLent}
+use Rattle.jc_cache.proofs.Common.{◌≡◌, ⊎_elim, inl, ◌+◌, ◌<◌, ℕ, true, false, Some, IsSome, List, [], ◌++◌, filter, length, get_or, zero, suc, ◌∷◌, slice_get, slice_set, refl, sym, ap, subst, ◌∙◌, arith, true≢false, slice_get_read, same_Some, length-append, stripe_of, Caller, Config, Bytes, Event, Reply, State, IsReached, past_events, whole_history, all_own_steps, IsPhaseOf, is_own_step, own_steps, may_come_all, polled_with, Finds, View, IsCounted, one_more, counts_after, Agent, LentPhase, PhaseLaws, Turn, BeginsIfClear, CommitsHere, IsReported, PicksUpBy, PicksUpLate, Keeps, all_map, counted_longer, once, steps_in, CacheState, IsSameSeat, GoesOn, IsSeatAt, IsOf, HoldsNothing, own_total, capped, Session, HasLent}
 use Rattle.jc_stripe.specs.Tickets.{TicketClaim, JoinClaim}
 use Rattle.jc_stripe.specs.declared.begun.Picked.{Picked}
 use Rattle.jc_stripe.specs.declared.begun.Picked.TheVariants as picked
@@ -40,13 +40,13 @@ picked_late old new join (picked.Answer place shared_with) reply by = by.picks
 picked_late old new join picked.Again reply by = by.picks
 picked_late old new join (picked.NotYet back) reply by = absurd (true≢false by.last)
 
-same_count : (counts : Counts) (own : ℕ) → counts.own ≡ capped_steps own → counts.own ≡ capped_steps (own + 0)
-same_count counts own is = let none : own ≡ own + 0 = omega arith in is ∙ ap capped_steps none
+same_count : (counts : Counts) (own : ℕ) → counts.own ≡ capped own → counts.own ≡ capped (own + 0)
+same_count counts own is = let none : own ≡ own + 0 = omega arith in is ∙ ap capped none
 
-more_count : (counts : Counts) (own : ℕ) → counts.own ≡ capped_steps own → one_more counts.own ≡ capped_steps (own + 1)
+more_count : (counts : Counts) (own : ℕ) → counts.own ≡ capped own → one_more counts.own ≡ capped (own + 1)
 more_count counts own is = ap one_more is ∙ sym (capped_more own)
 
-counted_own : (counts : Counts) (counted : Counted) (own : ℕ) → counts.own ≡ capped_steps own → (counts_after counts counted).own ≡ capped_steps (own + steps_in counted)
+counted_own : (counts : Counts) (counted : Counted) (own : ℕ) → counts.own ≡ capped own → (counts_after counts counted).own ≡ capped (own + steps_in counted)
 counted_own counts Nothing own is = same_count counts own is
 counted_own counts OneStep own is = more_count counts own is
 counted_own counts Reserved own is = same_count counts own is
@@ -114,7 +114,7 @@ module _ {I J : Type 0} {D : I → Type 0} {E : J → Type 0} where
         held = ap (λ (a : Agent I J D E). a.hands.held) left ∙ of.held;
         loads = λ on. subst (λ (a : Agent I J D E). IsSome a.hands.outside.loader) (sym left) (of.loads on);
         writes = λ on. subst (λ (a : Agent I J D E). IsSome a.hands.outside.writer) (sym left) (of.writes on);
-        own = ap (λ (a : Agent I J D E). a.counts.own) left ∙ counted_own old.agent.counts counted (own_total old.seats.items) of.own ∙ ap capped_steps (sym total);
+        own = ap (λ (a : Agent I J D E). a.counts.own) left ∙ counted_own old.agent.counts counted (own_total old.seats.items) of.own ∙ ap capped (sym total);
       }
 
   pub phase_left : {G : Type 0} → PhaseLaws → (cache : CacheState) (old new : Session I J D E) (stripe : ℕ) (counted : Counted) (turn : Turn) (g : G) (t : Seated) (h : G) (u : Seated)
@@ -230,7 +230,7 @@ module _ {I J : Type 0} {D : I → Type 0} {E : J → Type 0} where
         held = held;
         loads = λ on. loads (of.loads on);
         writes = λ on. writes (of.writes on);
-        own = ap (λ (s : Session I J D E). s.agent.counts.own) left ∙ of.own ∙ ap (λ (xs : List Seated). capped_steps (own_total xs)) (sym seats);
+        own = ap (λ (s : Session I J D E). s.agent.counts.own) left ∙ of.own ∙ ap (λ (xs : List Seated). capped (own_total xs)) (sym seats);
       }
 
   pub of_same : (cache : CacheState) (old new : Session I J D E) → new.seats.items ≡ old.seats.items → new.agent ≡ old.agent → IsOf cache old → IsOf cache new
@@ -241,7 +241,7 @@ module _ {I J : Type 0} {D : I → Type 0} {E : J → Type 0} where
     held = ap (λ (a : Agent I J D E). a.hands.held) agent ∙ of.held;
     loads = λ on. subst (λ (a : Agent I J D E). IsSome a.hands.outside.loader) (sym agent) (of.loads on);
     writes = λ on. subst (λ (a : Agent I J D E). IsSome a.hands.outside.writer) (sym agent) (of.writes on);
-    own = ap (λ (a : Agent I J D E). a.counts.own) agent ∙ of.own ∙ ap (λ (xs : List Seated). capped_steps (own_total xs)) (sym seats);
+    own = ap (λ (a : Agent I J D E). a.counts.own) agent ∙ of.own ∙ ap (λ (xs : List Seated). capped (own_total xs)) (sym seats);
   }
 
 pub set_itself : (xs : List Seated) (i : ℕ) (x : Seated) → slice_get xs i ≡ Some x → slice_set xs i x ≡ xs

@@ -2,7 +2,6 @@
 --     IsSeatAt        a view of a session's seat at the stripe with this number of a cache of this shape, which has not taken the
 --                     stripe
 --     own_total       the number of own steps in the views of these seats, together
---     capped_steps    a number, or the last number if it is beyond that
 --     IsOf            a session is one of this cache's: its seats are at this cache's locks and of this session alone, its hands
 --                     hold nothing, it has the loader and the writer that the cache's shape asks for, and it counts its own steps
 --     IsCaller        a session is one of this cache's, and has the number of this caller
@@ -17,15 +16,15 @@
 --                     call
 --     IsNotGivenOut   why no session was given out; the owner is unchanged, and the loader and the writer come back
 --     Completes       a call has this outcome, and its session may begin its next call
-use Rattle.std.specs.Prelude.{◌≡◌, ◌⊎◌, ◌+◌, is_some, None, ℕ, List, [], ◌∷◌, length, map, true, false, Some, IsSome, slice_get, nat_lt, cond}
+use Rattle.std.specs.Prelude.{◌≡◌, ◌⊎◌, ◌+◌, is_some, None, ℕ, List, [], ◌∷◌, length, map, true, false, Some, IsSome, slice_get}
 use Rattle.std.specs.List.{list_all}
 use Rattle.atomic_table.specs.Seated.{TableId}
 use Rattle.jc_types.specs.declared.caller.Caller.{Caller}
 use Rattle.jc_types.specs.declared.config.Config.{Config}
 use Rattle.jc_types.specs.declared.refusal.Refusal.TheVariants.{OutOfMemory}
+use Rattle.jc_model.specs.Statistics.{capped}
 use Rattle.jc_outside.specs.declared.done.Origin.TheVariants.{Live}
 use Rattle.jc_outside.specs.declared.hands.Outside.{Outside}
-use Rattle.jc_stripe.specs.Refusals.{last_number}
 use Rattle.jc_stripe.specs.OwnSteps.{is_before_call}
 use Rattle.jc_lock.specs.declared.view.View.{View}
 use Rattle.jc_session.specs.Counting.{one_more}
@@ -45,9 +44,6 @@ abbrev pub own_total : List (TableId × View) → ℕ
 own_total [] = 0
 own_total (seat ∷ seats) = length seat.1.own + own_total seats
 
-abbrev pub capped_steps : ℕ → ℕ
-capped_steps number = cond (nat_lt number last_number) number last_number
-
 pub record IsOf {I J : Type 0} {D : I → Type 0} {E : J → Type 0} (cache : CacheState) (session : Session I J D E) : Type 0 where
   pub locks : map (λ (seat : TableId × View). seat.0) session.seats.items ≡ cache.locks
   pub count : length cache.locks ≡ cache.config.stripes
@@ -55,7 +51,7 @@ pub record IsOf {I J : Type 0} {D : I → Type 0} {E : J → Type 0} (cache : Ca
   pub held : session.agent.hands.held ≡ 0
   pub loads : cache.config.read_through ≡ true → IsSome session.agent.hands.outside.loader
   pub writes : cache.config.write_through ≡ true → IsSome session.agent.hands.outside.writer
-  pub own : session.agent.counts.own ≡ capped_steps (own_total session.seats.items)
+  pub own : session.agent.counts.own ≡ capped (own_total session.seats.items)
 
 pub record IsCaller {I J : Type 0} {D : I → Type 0} {E : J → Type 0} (cache : CacheState) (session : Session I J D E) (who : Caller) : Type 0 where
   pub own : IsOf cache session

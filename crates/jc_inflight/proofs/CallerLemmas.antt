@@ -15,7 +15,7 @@ use Rattle.jc_inflight.specs.declared.joiner.JoinState.TheVariants.{Again}
 use Rattle.jc_inflight.specs.Joining.{belongs_to, is_waiting, waits, waits_for, callers_of}
 use Rattle.jc_inflight.specs.Resolving.{with_answer, answered_from}
 use Rattle.jc_inflight.specs.Dissolving.{told_to_retry, after_dissolve}
-use Rattle.jc_inflight.specs.Taking.{join_state_of, without_joiner, after_take, is_over}
+use Rattle.jc_inflight.specs.Taking.{join_state_of, joiners_without, joiners_after_take, is_over}
 
 -- 1. The end of a load changes no caller and no key.
 
@@ -64,17 +64,17 @@ belongs_to_one caller key j later differ h =
 
 -- its joiner goes if the load is over, and else the table stays
 pub after_take_over : (caller : Caller) (key : Bytes) (joiners : List Joiner) (state : JoinState) → join_state_of caller key joiners ≡ Some state → is_waiting state ≡ false
-    → after_take caller key joiners ≡ without_joiner caller key joiners
+    → joiners_after_take caller key joiners ≡ joiners_without caller key joiners
 after_take_over caller key joiners state is over =
-    ap (λ o. cond (is_over o) (without_joiner caller key joiners) joiners) is ∙ ap (λ b. cond (not b) (without_joiner caller key joiners) joiners) over
+    ap (λ o. cond (is_over o) (joiners_without caller key joiners) joiners) is ∙ ap (λ b. cond (not b) (joiners_without caller key joiners) joiners) over
 
 pub after_take_waiting : (caller : Caller) (key : Bytes) (joiners : List Joiner) (state : JoinState) → join_state_of caller key joiners ≡ Some state → is_waiting state ≡ true
-    → after_take caller key joiners ≡ joiners
+    → joiners_after_take caller key joiners ≡ joiners
 after_take_waiting caller key joiners state is waiting =
-    ap (λ o. cond (is_over o) (without_joiner caller key joiners) joiners) is ∙ ap (λ b. cond (not b) (without_joiner caller key joiners) joiners) waiting
+    ap (λ o. cond (is_over o) (joiners_without caller key joiners) joiners) is ∙ ap (λ b. cond (not b) (joiners_without caller key joiners) joiners) waiting
 
-pub after_take_nobody : (caller : Caller) (key : Bytes) (joiners : List Joiner) → join_state_of caller key joiners ≡ None → after_take caller key joiners ≡ joiners
-after_take_nobody caller key joiners is = ap (λ o. cond (is_over o) (without_joiner caller key joiners) joiners) is
+pub after_take_nobody : (caller : Caller) (key : Bytes) (joiners : List Joiner) → join_state_of caller key joiners ≡ None → joiners_after_take caller key joiners ≡ joiners
+after_take_nobody caller key joiners is = ap (λ o. cond (is_over o) (joiners_without caller key joiners) joiners) is
 
 -- 4. How many joiners still wait, for any load.
 
@@ -114,16 +114,16 @@ waiting-after_dissolve load (j ∷ js) =
 
 -- a joiner that is taken out didn't wait
 waiting-without : (caller : Caller) (key : Bytes) (joiners : List Joiner) (state : JoinState) → AllPairs (λ j later. belongs_to j.caller j.key later ≡ false) joiners
-    → join_state_of caller key joiners ≡ Some state → is_waiting state ≡ false → count_by waits (without_joiner caller key joiners) ≡ count_by waits joiners
+    → join_state_of caller key joiners ≡ Some state → is_waiting state ≡ false → count_by waits (joiners_without caller key joiners) ≡ count_by waits joiners
 waiting-without caller key [] state once h over = cc
 waiting-without caller key (j ∷ js) state once h over =
     let p = belongs_to caller key in
-    elim (p j) as (λ b. p j ≡ b → option_map (λ x. x.state) (cond b (Some j) (find p js)) ≡ Some state → count_by waits (cond (not b) (j ∷ without_joiner caller key js) (without_joiner caller key js)) ≡ count_by waits (j ∷ js)) [
+    elim (p j) as (λ b. p j ≡ b → option_map (λ x. x.state) (cond b (Some j) (find p js)) ≡ Some state → count_by waits (cond (not b) (j ∷ joiners_without caller key js) (joiners_without caller key js)) ≡ count_by waits (j ∷ js)) [
       | true ↦ λ is h.
           let none : cond {A = ℕ} (waits j) 1 0 ≡ 0 = let same : j.state ≡ state = cc in ap (λ t. cond {A = ℕ} (is_waiting t) 1 0) same ∙ ap (λ b. cond {A = ℕ} b 1 0) over in
           let rest = filter_all (λ x. not (p x)) js (λ k d within. ap not (belongs_to_one caller key j (get_or js k d) (once 0 (suc k) d (omega arith) (omega arith)) is)) in
           ap (count_by waits) rest ∙ omega (arith, count-cons waits j js)
       | false ↦ λ is h.
           let later = waiting-without caller key js state (λ i k d lt within. once (suc i) (suc k) d (omega arith) (omega arith)) h over in
-          omega (arith, later, count-cons waits j js, count-cons waits j (without_joiner caller key js))
+          omega (arith, later, count-cons waits j js, count-cons waits j (joiners_without caller key js))
     ] refl h

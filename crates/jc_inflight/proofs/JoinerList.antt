@@ -14,8 +14,8 @@ use Rattle.jc_types.specs.declared.limits.TheConstants.{JOINERS_MAX}
 use Rattle.jc_model.specs.Cache.{Bytes}
 use Rattle.jc_inflight.specs.declared.joiner.Joiner.{Joiner}
 use Rattle.jc_inflight.specs.declared.joiner.JoinState.TheVariants.{Waiting}
-use Rattle.jc_inflight.specs.Joining.{belongs_to, has_joined, with_joiner}
-use Rattle.jc_inflight.specs.Taking.{join_state_of, without_joiner}
+use Rattle.jc_inflight.specs.Joining.{belongs_to, has_joined, joiners_with}
+use Rattle.jc_inflight.specs.Taking.{join_state_of, joiners_without}
 use Rattle.jc_inflight.specs.IsJoinerList.{IsJoinerList}
 use Rattle.jc_types.proofs.CallerLemmas.{find_at_place, find_nowhere, remove_at_place}
 use Rattle.jc_inflight.proofs.CallerLemmas.{call_of, belongs_to_one}
@@ -57,7 +57,7 @@ other_call new joiners k d within free =
     ] refl
 
 pub IsJoinerList-with : (caller : Caller) (key : Bytes) (load : ℕ) (joiners : List Joiner) → IsJoinerList joiners → length joiners < JOINERS_MAX → has_joined caller key joiners ≡ false
-    → IsJoinerList (with_joiner caller key load joiners)
+    → IsJoinerList (joiners_with caller key load joiners)
 IsJoinerList-with caller key load joiners is room free =
     let new : Joiner = record { caller = caller; key = key; load = load; state = Waiting } in
     record {
@@ -65,7 +65,7 @@ IsJoinerList-with caller key load joiners is room free =
       once = all_pairs_push (λ j later. belongs_to j.caller j.key later ≡ false) joiners new is.once (λ k d l. other_call new joiners k d l free);
     }
 
-pub IsJoinerList-without : (caller : Caller) (key : Bytes) (joiners : List Joiner) → IsJoinerList joiners → IsJoinerList (without_joiner caller key joiners)
+pub IsJoinerList-without : (caller : Caller) (key : Bytes) (joiners : List Joiner) → IsJoinerList joiners → IsJoinerList (joiners_without caller key joiners)
 IsJoinerList-without caller key joiners is =
     let others = λ (j : Joiner). not (belongs_to caller key j) in
     record {
@@ -79,7 +79,7 @@ pub state_at_place : (caller : Caller) (key : Bytes) (joiners : List Joiner) (i 
 state_at_place caller key joiners i j at is = ap (option_map (λ x. x.state)) (find_at_place (belongs_to caller key) joiners i j at is)
 
 pub remove_joiner : (caller : Caller) (key : Bytes) (joiners : List Joiner) (i : ℕ) → IsJoinerList joiners → position (belongs_to caller key) joiners ≡ Some i
-    → remove joiners i ≡ without_joiner caller key joiners
+    → remove joiners i ≡ joiners_without caller key joiners
 remove_joiner caller key joiners i is at =
     remove_at_place (belongs_to caller key) joiners i at (λ a b d lt within. belongs_to_one caller key (get_or joiners a d) (get_or joiners b d) (is.once a b d lt within))
 

@@ -1,11 +1,11 @@
 -- The calls that have joined a load, as a list in the order of joining.
---     belongs_to      whether a joiner is this caller's, at this key
---     has_joined      whether one of the joiners is this caller's, at this key
---     is_waiting      whether the load of a joiner in this state isn't over
---     waits           whether a joiner waits, for any load
---     waits_for       whether a joiner waits for this load
---     callers_of      the callers that wait for the load
---     with_joiner     the joiners with one more at the end, which waits
+--     belongs_to   whether a joiner is this caller's, at this key
+--     has_joined   whether one of the joiners is this caller's, at this key
+--     is_waiting   whether the load of a joiner in this state isn't over
+--     waits        whether a joiner waits, for any load
+--     waits_for    whether a joiner waits for this load
+--     callers_of   the callers that wait for the load
+--     joiners_with the joiners with one more at the end, which waits
 use Rattle.std.specs.Prelude.{◌==◌, ◌&&◌, ℕ, filter, map, List, [], ◌∷◌, ◌++◌, Bool, true, false}
 use Rattle.std.specs.List.{list_any}
 use Rattle.std.specs.Cmp.Lexicographic.{pointwise}
@@ -35,5 +35,5 @@ waits_for load j = (j.load == load) && waits j
 abbrev pub callers_of : ℕ → List Joiner → List Caller
 callers_of load joiners = map (λ j. j.caller) (filter (waits_for load) joiners)
 
-abbrev pub with_joiner : Caller → Bytes → ℕ → List Joiner → List Joiner
-with_joiner caller key load joiners = joiners ++ record { caller = caller; key = key; load = load; state = Waiting } ∷ []
+abbrev pub joiners_with : Caller → Bytes → ℕ → List Joiner → List Joiner
+joiners_with caller key load joiners = joiners ++ record { caller = caller; key = key; load = load; state = Waiting } ∷ []

@@ -1,8 +1,8 @@
 -- A joiner asks for its answer: what it is told, and the joiners afterwards.
 --     join_state_of      the state of the load that the caller has joined at the key, if it has joined one
 --     is_over            whether there is such a load, and it is over
---     without_joiner     the joiners of the other callers and keys
---     after_take         the joiners after the call has asked: without its joiner if the load is over
+--     joiners_without    the joiners of the other callers and keys
+--     joiners_after_take the joiners after the call has asked: without its joiner if the load is over
 use Rattle.std.specs.Prelude.{List, Bool, false, not, find, filter, Option, None, Some, option_map, if◌then◌else◌}
 use Rattle.jc_types.specs.declared.caller.Caller.{Caller}
 use Rattle.jc_model.specs.Cache.{Bytes}
@@ -17,8 +17,8 @@ abbrev pub is_over : Option JoinState → Bool
 is_over None = false
 is_over (Some state) = not (is_waiting state)
 
-abbrev pub without_joiner : Caller → Bytes → List Joiner → List Joiner
-without_joiner caller key joiners = filter (λ j. not (belongs_to caller key j)) joiners
+abbrev pub joiners_without : Caller → Bytes → List Joiner → List Joiner
+joiners_without caller key joiners = filter (λ j. not (belongs_to caller key j)) joiners
 
-abbrev pub after_take : Caller → Bytes → List Joiner → List Joiner
-after_take caller key joiners = if is_over (join_state_of caller key joiners) then without_joiner caller key joiners else joiners
+abbrev pub joiners_after_take : Caller → Bytes → List Joiner → List Joiner
+joiners_after_take caller key joiners = if is_over (join_state_of caller key joiners) then joiners_without caller key joiners else joiners

@@ -2,10 +2,10 @@
 ghost use Rattle.std.specs.Prelude.{◌≡◌, ◌↔◌, ◌<◌, ◌≤◌, ◌+◌, ◌^◌, [], IsTrue, count_by, length, nat_le, position, false};
 ghost use Rattle.std.specs.Bool.{OnTrue, OnFalse};
 ghost use Rattle.jc_types.specs.declared.limits.TheConstants.{JOINERS_MAX};
-ghost use Rattle.jc_inflight.specs.Joining.{belongs_to, has_joined, waits_for, with_joiner};
+ghost use Rattle.jc_inflight.specs.Joining.{belongs_to, has_joined, waits_for, joiners_with};
 ghost use Rattle.jc_inflight.specs.Resolving.{after_resolve};
 ghost use Rattle.jc_inflight.specs.Dissolving.{after_dissolve};
-ghost use Rattle.jc_inflight.specs.Taking.{join_state_of, after_take};
+ghost use Rattle.jc_inflight.specs.Taking.{join_state_of, joiners_after_take};
 ghost use Rattle.jc_inflight.specs.IsJoinerList.{IsJoinerList};
 
 use crate::{JoinState, Joiner};
@@ -60,7 +60,7 @@ impl Joiners {
     pub fn join(&mut self, caller: Caller, key: &Key, load: u64) -> bool
         requires { has_joined caller key.now self.old ≡ false }
         ensures room { IsTrue result ↔ (length self.old < JOINERS_MAX) }
-        ensures joined { OnTrue result (self.new ≡ with_joiner caller key.now load self.old) }
+        ensures joined { OnTrue result (self.new ≡ joiners_with caller key.now load self.old) }
         ensures full { OnFalse result (self.new ≡ self.old) }
     {
         if self.is_full() {
@@ -110,7 +110,7 @@ impl Joiners {
     /// A `None`, if the call hasn't joined or has taken its answer, leaves the table as it was. So does [`JoinState::Waiting`].
     pub fn take(&mut self, caller: Caller, key: &Key) -> Option<JoinState>
         ensures state { result ≡ join_state_of caller key.now self.old }
-        ensures left { self.new ≡ after_take caller key.now self.old }
+        ensures left { self.new ≡ joiners_after_take caller key.now self.old }
     {
         let place = place_of(&self.joiners, caller, key)?;
         let state = self.joiners[place].state;

@@ -20,7 +20,7 @@ use Rattle.jc_model.specs.Table.{NewStep, seq_entry, seq_cache}
 use Rattle.jc_model.specs.Group.{Group, events_of, step_place, shared_event, cache_after_group, without_own, without_victim, cache_before_step, cache_after_step}
 use Rattle.jc_model.specs.Lawful.{inserts, is_joinable, joined_fits, evicted_fits, IsLawfulStep, IsLawful}
 use Rattle.jc_model.proofs.Reading.{Phase, Between, Chosen, Open, with_joined, with_evicted, behind, Reads}
-use Rattle.jc_model.specs.Reader.{read_group, opened_group, own_goes, is_full, Accepts}
+use Rattle.jc_model.specs.Reader.{read_group, opened_group, own_goes, is_full_cause, Accepts}
 use Rattle.jc_model.proofs.CallerLemmas.{none_is, same_cache, same_key, shadowed}
 use Rattle.jc_model.proofs.Readings.{joined_so_far, evicted_so_far}
 
@@ -276,7 +276,7 @@ to config (Open p c g) (Evict key cause ∷ es) t (inr (inl b)) =
     let shorter : len (remove (cache_after_step c g) g.step.key) ≤ config.capacity = let a = len_own c g in let d = t.0 in omega arith in
     let rest = to config (Between (behind p (with_evicted g b.0)) (cache_after_group c (with_evicted g b.0))) es shorter b.3 in
     subst P (sym b.1) (
-      ap (λ x. x || (is_full b.0 && nat_le (len (cache_after_step c g)) config.capacity)) own,
+      ap (λ x. x || (is_full_cause b.0 && nat_le (len (cache_after_step c g)) config.capacity)) own,
       evicted_next config (behind p g + 1) (cache_after_step c g) kept g.step.key b.0 es true own (moved config _ _ _ _ _ _ es (behind_evicted p g b.0 t.1) refl refl rest),
     )
 to config (Open p c g) (Evict key Memory ∷ es) t (inr (inr d)) = absurd (some_not d.0 d.1)

@@ -1,26 +1,25 @@
 -- How the checker `legal` goes over a history, event by event: what it keeps, and how it tests the next event. A reader of
 -- contracts needn't believe it, since `legal` is proved to answer `Legal`. The reader's position is a `Stage`: outside a group,
 -- after a group's victim, or after a group's step.
---     first_stripe                the stripe of the first key, in the opening or otherwise in the events, and 0 if there is no
---                                 key
---     are_of_stripe               the keys of the opening and of the events are all of this stripe
---     are_of_one_stripe           they are all of one stripe
---     read_group                  a group of which the step was read
---     opened_group                what is kept of a group whose step is at a place
---     cause_fits                  the step's own key may go for this cause
---     own_goes                    this key, for this cause, is the step's own and may go
---     is_full                     a cause is `Full`
---     picked_victim               the victim of the group that comes next, if it was read
---     group_at                    the group of a step that is read at a stage
---     is_within                   if a group ends here, no more entries are left than fit
---     FitsShared                  a shared step may come next
---     fits_evict                  an eviction may come next
---     Fits                        an event may come next
---     evict_stage, evict_cache    the stage and the cache after an eviction
---     then_stage, then_cache      the stage and the cache after an event
---     may_stop                    the history may end
---     Accepts                     each of the events fits after those before it
---     comes_before                an event is a step of the same session with a lower number than another
+--     first_stripe      the stripe of the first key, in the opening or otherwise in the events, and 0 if there is no key
+--     are_of_stripe     the keys of the opening and of the events are all of this stripe
+--     are_of_one_stripe they are all of one stripe
+--     read_group        a group of which the step was read
+--     opened_group      what is kept of a group whose step is at a place
+--     cause_fits        the step's own key may go for this cause
+--     own_goes          this key, for this cause, is the step's own and may go
+--     is_full_cause     a cause is `Full`
+--     picked_victim     the victim of the group that comes next, if it was read
+--     group_at          the group of a step that is read at a stage
+--     is_within         if a group ends here, no more entries are left than fit
+--     FitsShared        a shared step may come next
+--     fits_evict        an eviction may come next
+--     Fits              an event may come next
+--     evict_stage,      evict_cache    the stage and the cache after an eviction
+--     then_stage,       then_cache      the stage and the cache after an event
+--     may_stop          the history may end
+--     Accepts           each of the events fits after those before it
+--     comes_before      an event is a step of the same session with a lower number than another
 use Rattle.std.specs.Prelude.{◌≡◌, ◌==◌, ◌&&◌, ◌||◌, ℕ, ◌+◌, List, [], ◌∷◌, Bool, true, false, IsTrue, Option, None, Some, is_none, nat_le, nat_lt, if◌then◌else◌}
 use Rattle.std.specs.List.{list_all}
 use Rattle.std.specs.Cmp.Lexicographic.{pointwise}
@@ -82,9 +81,9 @@ cause_fits kept Memory = true
 abbrev pub own_goes : Opened → Bytes → Cause → Bool
 own_goes kept key cause = pointwise ◌==◌ key kept.key && kept.is_inserted && cause_fits kept cause
 
-abbrev pub is_full : Cause → Bool
-is_full Full = true
-is_full Memory = false
+abbrev pub is_full_cause : Cause → Bool
+is_full_cause Full = true
+is_full_cause Memory = false
 
 abbrev pub picked_victim : Stage → Option Bytes
 picked_victim Outside = None
@@ -109,9 +108,9 @@ FitsShared (Picked key) event = ⊥
 
 -- a victim is named between two groups, or the step's own key
 abbrev pub fits_evict : Config → Cache → Stage → Bytes → Cause → Bool
-fits_evict config cache Outside key cause = is_full cause
+fits_evict config cache Outside key cause = is_full_cause cause
 fits_evict config cache (Picked victim) key cause = false
-fits_evict config cache (Inside kept) key cause = own_goes kept key cause || (is_full cause && nat_le (len cache) config.capacity)
+fits_evict config cache (Inside kept) key cause = own_goes kept key cause || (is_full_cause cause && nat_le (len cache) config.capacity)
 
 -- an event may come next
 abbrev pub Fits : Config → Cache → Stage → Event → Type 0

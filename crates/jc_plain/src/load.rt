@@ -1,6 +1,5 @@
 //! Loaders.
 ghost use Rattle.std.specs.Prelude.{◌≡◌};
-ghost use Rattle.jc_plain.specs.Loads.{with_found};
 
 use jc_outside::{Answers, CacheLoader};
 use jc_types::{Key, Value};
@@ -46,21 +45,11 @@ pub trait Load {
     {
         for key in keys {
             match self.load(key) {
-                Ok(found) => put_found(answers, key, &found),
+                Ok(found) => answers.put_found(key, &found),
                 Err(code) => return Err(code),
             }
         }
         Ok(())
-    }
-}
-
-/// Puts the value that was found at a key into the answers, if one was.
-fn put_found(answers: &mut Answers, key: &Key, found: &Option<Value>)
-    ensures found { answers.new.by_key ≡ with_found answers.old.by_key key.now found.now }
-    ensures room { answers.new.room ≡ answers.old.room }
-{
-    if let Some(value) = found {
-        answers.put(key, value);
     }
 }
 

@@ -1,10 +1,10 @@
 -- Looking a key up, reserving it and releasing it. The key of a reservation is what its type states.
---     has_key                 whether a reservation is of this key
---     is_held                 whether the key is reserved
---     reservation_at          the reservation of the key, or none
---     CanReserve              the key can be reserved: there is room, it is free, and a number is left
---     with_reservation        the table with one more reservation, by the next number
---     without_reservation     the table with the reservations of the other keys
+--     has_key        whether a reservation is of this key
+--     is_held        whether the key is reserved
+--     reservation_at the reservation of the key, or none
+--     CanReserve     the key can be reserved: there is room, it is free, and a number is left
+--     table_with     the table with one more reservation, by the next number
+--     table_without  the table with the reservations of the other keys
 use Rattle.std.specs.Prelude.{◌==◌, ◌<◌, ◌+◌, find, filter, [], ◌∷◌, ◌++◌, length, Bool, not, Option, ◌≡◌, false}
 use Rattle.std.specs.List.{list_any}
 use Rattle.std.specs.Cmp.Lexicographic.{pointwise}
@@ -26,8 +26,8 @@ pub record CanReserve {R : Type 0} (key_of : R → Bytes) (table : Table R) (key
   pub free : is_held key_of table key ≡ false
   pub number : table.next < LAST_NUMBER
 
-abbrev pub with_reservation : {R : Type 0} → Table R → R → Table R
-with_reservation table r = record { held = table.held ++ r ∷ []; next = table.next + 1 }
+abbrev pub table_with : {R : Type 0} → Table R → R → Table R
+table_with table r = record { held = table.held ++ r ∷ []; next = table.next + 1 }
 
-abbrev pub without_reservation : {R : Type 0} → (R → Bytes) → Table R → Bytes → Table R
-without_reservation key_of table key = record { held = filter (λ r. not (has_key key_of key r)) table.held; next = table.next }
+abbrev pub table_without : {R : Type 0} → (R → Bytes) → Table R → Bytes → Table R
+table_without key_of table key = record { held = filter (λ r. not (has_key key_of key r)) table.held; next = table.next }

@@ -2,7 +2,7 @@
 ghost use Rattle.std.specs.Prelude.{◌≡◌, ◌≤◌, ◌↔◌, ◌==◌, [], IsTrue, IfSome, MatchBool, is_some, length, map, nat_le, option_map, position};
 ghost use Rattle.std.specs.Cmp.Lexicographic.{pointwise};
 ghost use Rattle.jc_types.specs.declared.limits.TheConstants.{RESERVATIONS_MAX, LAST_NUMBER};
-ghost use Rattle.jc_reserve.specs.Reserving.{has_key, is_held, reservation_at, CanReserve, with_reservation, without_reservation};
+ghost use Rattle.jc_reserve.specs.Reserving.{has_key, is_held, reservation_at, CanReserve, table_with, table_without};
 ghost use Rattle.jc_reserve.specs.IsReservationTable.{IsReservationTable};
 
 use crate::Reserved;
@@ -82,7 +82,7 @@ impl<R: Reserved> Reservations<R> {
         requires { R.number reservation.now ≡ self.old.next }
         ensures can { IsTrue (is_some result) ↔ CanReserve R.key self.old (R.key reservation.now) }
         ensures number { IfSome result (λ number. number ≡ self.old.next) }
-        ensures table { MatchBool (is_some result) (self.new ≡ with_reservation self.old reservation.now) (self.new ≡ self.old) }
+        ensures table { MatchBool (is_some result) (self.new ≡ table_with self.old reservation.now) (self.new ≡ self.old) }
     {
         let key = *reservation.key();
         if !self.can_reserve(&key) {
@@ -117,7 +117,7 @@ impl<R: Reserved> Reservations<R> {
     /// The reservations made after it move up one place each: up to [`RESERVATIONS_MAX`] - 1 records and keys are copied.
     pub fn release(&mut self, key: &Key) -> bool
         ensures found { result ≡ is_held R.key self.old key.now }
-        ensures released { self.new ≡ without_reservation R.key self.old key.now }
+        ensures released { self.new ≡ table_without R.key self.old key.now }
     {
         let Some(place) = self.place_of(key) else {
             return false;

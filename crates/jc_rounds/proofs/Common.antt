@@ -61,7 +61,8 @@ pub use Rattle.jc_stripe.specs.OwnSteps.{AddsOwn, OwnSteps, StepsBehind, is_befo
 pub use Rattle.jc_stripe.specs.Phases.{after_commit, begun_with, polled_with, with_joiner, with_reply}
 pub use Rattle.jc_stripe.specs.Polled.{Polled}
 pub use Rattle.jc_stripe.specs.Refusals.{first_asked, first_refusal, has_room, last_number, may_join, needs_free_key, places_needed}
-pub use Rattle.jc_stripe.specs.State.{State, is_key, promised, waits}
+pub use Rattle.jc_inflight.specs.Joining.{waits}
+pub use Rattle.jc_stripe.specs.State.{State, is_key, promised}
 pub use Rattle.jc_stripe.specs.Tickets.{Claim, JoinClaim, TicketClaim, asks_loader, asks_processor, asks_writer, change_asked, claim_of, entry_seen, is_loadable}
 pub use Rattle.jc_stripe.specs.declared.ticket.Reservation.{Reservation}
 pub use Rattle.jc_types.specs.Stripes.{stripe_of}

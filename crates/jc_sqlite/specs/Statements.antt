@@ -17,13 +17,12 @@
 --     IsInFirst             the value is that of the first row, or there is neither; an error says why the first row has no value
 --     Loads                 the value is that of the first row which the query at this key shows; an error is the query's, or
 --                           that of this row
---     with_selected         the answers, with the value that was found at a key, if one was
 --     LoadsInto             the value that was loaded at a key was put into the answers; an error is that of the load, with its
 --                           key
 --     LoadsAll              each key was loaded in this way, in their order; an error is that of the first load that failed,
 --                           after which nothing was loaded
 use Rattle.std.specs.Prelude.{◌≡◌, ◌≤◌, ◌⊎◌, ℕ, pos, Bool, false, IsTrue, List, [], ◌∷◌, length, Result, Ok, Err, Option, None, Some, codes}
-use Rattle.jc_outside.specs.Answers.{AnswersByKey, answers_with}
+use Rattle.jc_outside.specs.Answers.{AnswersByKey, answers_with_found}
 use Rattle.jc_types.specs.declared.limits.TheConstants.{VALUE_MAX}
 use Rattle.sqlite.specs.declared.types.Value.{Value}
 use Rattle.sqlite.specs.declared.types.Value.TheVariants.{Int, Text, Blob}
@@ -109,12 +108,8 @@ abbrev pub Loads : List ℕ → State → State → Result (Option (List ℕ)) E
 Loads key old new (Ok found) = (rows : List Row) × Shown load_sql (key_row key) old new rows × IsInFirst rows (Ok found)
 Loads key old new (Err e) = FailsToQuery load_sql (key_row key) old new e ⊎ ((rows : List Row) × Shown load_sql (key_row key) old new rows × IsInFirst rows (Err e))
 
-abbrev pub with_selected : AnswersByKey → List ℕ → Option (List ℕ) → AnswersByKey
-with_selected answers key None = answers
-with_selected answers key (Some value) = answers_with answers key value
-
 abbrev pub LoadsInto : List ℕ → State → State → AnswersByKey → AnswersByKey → Result (Unit {0}) Failure → Type 0
-LoadsInto key old new before after (Ok done) = (found : Option (List ℕ)) × Loads key old new (Ok found) × (after ≡ with_selected before key found)
+LoadsInto key old new before after (Ok done) = (found : Option (List ℕ)) × Loads key old new (Ok found) × (after ≡ answers_with_found before key found)
 LoadsInto key old new before after (Err failure) = (failure.key ≡ Some key) × Loads key old new (Err failure.error) × (after ≡ before)
 
 abbrev pub LoadsAll : {S : Type 0} → Ghosts S → List (List ℕ) → Held S → Held S → AnswersByKey → AnswersByKey → Result (Unit {0}) Failure → Type 0

@@ -18,7 +18,7 @@ ghost use Rattle.sqlite.specs.Batch.{ExecutesAll};
 ghost use Rattle.sqlite.specs.Held.{state};
 ghost use Rattle.jc_sqlite.specs.Batch.{RunsAsOne};
 ghost use Rattle.jc_sqlite.specs.Statements.{create_sql, load_sql, write_sql, delete_sql, entry_row, key_row};
-ghost use Rattle.jc_sqlite.specs.Statements.{TellsOwn, IsOwn, IsOwnText, ExecutesOnce, Counts, IsCount, row_error, ReadsValue, IsInFirst, Loads, with_selected, LoadsInto, LoadsAll};
+ghost use Rattle.jc_sqlite.specs.Statements.{TellsOwn, IsOwn, IsOwnText, ExecutesOnce, Counts, IsCount, row_error, ReadsValue, IsInFirst, Loads, LoadsInto, LoadsAll};
 
 use crate::batch;
 use crate::failure::Failure;
@@ -187,23 +187,13 @@ fn load_into<S: Alter>(
 {
     match load(conn, key) {
         Ok(found) => {
-            put_found(answers, key, &found);
+            answers.put_found(key, &found);
             Ok(())
         }
         Err(error) => Err(Failure {
             key: Some(*key),
             error,
         }),
-    }
-}
-
-/// Puts the value that was found at a key into the answers, if one was.
-fn put_found(answers: &mut Answers, key: &Key, found: &Option<Value>)
-    ensures found { answers.new.by_key ≡ with_selected answers.old.by_key key.now found.now }
-    ensures room { answers.new.room ≡ answers.old.room }
-{
-    if let Some(value) = found {
-        answers.put(key, value);
     }
 }
 

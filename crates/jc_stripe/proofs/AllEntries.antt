@@ -23,7 +23,7 @@ use Rattle.jc_model.specs.Apart.{keys_apart}
 use Rattle.jc_model.proofs.CallerLemmas.{same_key}
 use Rattle.jc_stripe.specs.State.{State, is_of}
 use Rattle.jc_stripe.specs.Reached.{IsReached}
-use Rattle.jc_stripe.specs.Reopening.{entries_of, all_entries, belongs_to, shares_key, some_share_key}
+use Rattle.jc_stripe.specs.Reopening.{entries_of, all_entries, belongs_to_stripe, shares_key, some_share_key}
 
 -- 1. Two lists.
 
@@ -90,8 +90,8 @@ apart_by p (e ∷ es) fs own others =
 -- 2. The stripes of a cache.
 
 -- the entries of a stripe are of its keys
-own_entries : (config : Config) (n : ℕ) (s : State) → IsReached s → s.config ≡ config → s.stripe ≡ n → list_all (belongs_to config n) (entries_of s) ≡ true
-own_entries config n s reached shape number = subst (λ (x : Config × ℕ). list_all (belongs_to x.0 x.1) (entries_of s) ≡ true) (λ i. (shape i, number i)) reached.used.own
+own_entries : (config : Config) (n : ℕ) (s : State) → IsReached s → s.config ≡ config → s.stripe ≡ n → list_all (belongs_to_stripe config n) (entries_of s) ≡ true
+own_entries config n s reached shape number = subst (λ (x : Config × ℕ). list_all (belongs_to_stripe x.0 x.1) (entries_of s) ≡ true) (λ i. (shape i, number i)) reached.used.own
 
 other_number : (k n m : ℕ) → n < m → (k == m) ≡ true → not (k == n) ≡ true
 other_number k n m h is = let e = eqb-true k m is in ap not (ne_eqb k n (λ same. absurd (omega arith)))
@@ -106,21 +106,21 @@ apart_numbers s t of_s of_t shape apart =
 
 -- the entries of stripes with later numbers are of other keys
 later_entries : (config : Config) (n m : ℕ) (stripes : List State) → n < m
-    → ((i : ℕ) (s : State) → slice_get stripes i ≡ Some s → IsReached s × (s.config ≡ config) × (s.stripe ≡ m + i)) → list_all (λ e. not (belongs_to config n e)) (all_entries stripes) ≡ true
+    → ((i : ℕ) (s : State) → slice_get stripes i ≡ Some s → IsReached s × (s.config ≡ config) × (s.stripe ≡ m + i)) → list_all (λ e. not (belongs_to_stripe config n e)) (all_entries stripes) ≡ true
 later_entries config n m [] lt at = refl
 later_entries config n m (s ∷ ss) lt at =
     let first = at 0 s refl in
-    let own : list_all (belongs_to config m) (entries_of s) ≡ true = own_entries config m s first.0 first.1 (let e = first.2 in omega arith) in
+    let own : list_all (belongs_to_stripe config m) (entries_of s) ≡ true = own_entries config m s first.0 first.1 (let e = first.2 in omega arith) in
     let rest = later_entries config n (m + 1) ss (omega arith) (λ i t h. let r = at (suc i) t h in (r.0, r.1, (let e = r.2 in omega arith))) in
-    list_all-append (λ e. not (belongs_to config n e)) (entries_of s) (all_entries ss)
-    ∙ and_from _ _ (all_imply (belongs_to config m) (λ e. not (belongs_to config n e)) (entries_of s) (λ e is. other_number (stripe_of e.0 config.stripes) n m lt is) own) rest
+    list_all-append (λ e. not (belongs_to_stripe config n e)) (entries_of s) (all_entries ss)
+    ∙ and_from _ _ (all_imply (belongs_to_stripe config m) (λ e. not (belongs_to_stripe config n e)) (entries_of s) (λ e is. other_number (stripe_of e.0 config.stripes) n m lt is) own) rest
 
 pub all_entries_once : (config : Config) (n : ℕ) (stripes : List State) → ((i : ℕ) (s : State) → slice_get stripes i ≡ Some s → IsReached s × (s.config ≡ config) × (s.stripe ≡ n + i))
     → has_distinct_keys (all_entries stripes) ≡ true
 all_entries_once config n [] at = refl
 all_entries_once config n (s ∷ ss) at =
     let first = at 0 s refl in
-    let own : list_all (belongs_to config n) (entries_of s) ≡ true = own_entries config n s first.0 first.1 (let e = first.2 in omega arith) in
+    let own : list_all (belongs_to_stripe config n) (entries_of s) ≡ true = own_entries config n s first.0 first.1 (let e = first.2 in omega arith) in
     let later : (i : ℕ) (t : State) → slice_get ss i ≡ Some t → IsReached t × (t.config ≡ config) × (t.stripe ≡ n + 1 + i) =
     λ i t h. let r = at (suc i) t h in (r.0, r.1, (let e = r.2 in omega arith)) in
     distinct-append (entries_of s) (all_entries ss)

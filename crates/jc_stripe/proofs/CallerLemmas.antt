@@ -59,7 +59,7 @@ use Rattle.jc_model.specs.Listed.{has_distinct_keys}
 use Rattle.jc_model.specs.Table.{always_if, write_ask, is_invoke}
 use Rattle.jc_model.specs.Legal.{in_order, may_come, may_follow}
 use Rattle.jc_inflight.specs.declared.joiner.JoinState.TheVariants.{Answered, Again}
-use Rattle.jc_inflight.specs.Joining.{callers_of}
+use Rattle.jc_inflight.specs.Joining.{callers_of, waits}
 use Rattle.jc_inflight.specs.Resolving.{after_resolve}
 use Rattle.jc_inflight.specs.Taking as taking
 use Rattle.jc_stripe.specs.Outcomes.{StepDone}
@@ -67,7 +67,7 @@ use Rattle.jc_stripe.specs.declared.ticket.Reservation.{Reservation}
 use Rattle.jc_stripe.specs.Tickets.{JoinClaim, TicketClaim, asks_processor}
 use Rattle.jc_stripe.specs.Refusals.{first_asked, first_by}
 use Rattle.jc_stripe.specs.Outcomes as begun
-use Rattle.jc_stripe.specs.State.{State, IsOut, waits, is_of}
+use Rattle.jc_stripe.specs.State.{State, IsOut, is_of}
 use Rattle.jc_stripe.specs.Keys.{AreKeys}
 use Rattle.jc_stripe.specs.OrderOfUse.{by_use}
 use Rattle.jc_stripe.specs.Phases.{MayBegin, Begins, Steps, new_group, with_joiner, after_commit, after_withdrawal, without_joiner, told_to}
@@ -172,13 +172,13 @@ others_park old join op out shared reply place at c op' k out' shared' reply' re
 pub again_parks_same : (old : State) (join : JoinClaim) (c : Caller) (k : Bytes) → IsReached old → told_to old join ≡ Some Again → is_parked (without_joiner old join).joiners c k ≡ is_parked old.joiners c k
 again_parks_same old join c k reached told =
     let mine : Caller = join.caller in
-    elim (is_call mine join.key c k) as (λ b. is_call mine join.key c k ≡ b → is_parked (taking.without_joiner mine join.key old.joiners) c k ≡ is_parked old.joiners c k) [
+    elim (is_call mine join.key c k) as (λ b. is_call mine join.key c k ≡ b → is_parked (taking.joiners_without mine join.key old.joiners) c k ≡ is_parked old.joiners c k) [
       | true ↦ λ e.
           let outer = and_parts ((c.session == mine.session) && (c.call == mine.call)) (pointwise ◌==◌ k join.key) e in
           let inner = and_parts (c.session == mine.session) (c.call == mine.call) outer.0 in
           let who : c ≡ mine = λ i. record { session = eqb-true c.session mine.session inner.0 i; call = eqb-true c.call mine.call inner.1 i } in
           let key : k ≡ join.key = same_text k join.key (sym outer.1) in
-          (λ i. is_parked (taking.without_joiner mine join.key old.joiners) (who i) (key i)) ∙ none_parked mine join.key old.joiners
+          (λ i. is_parked (taking.joiners_without mine join.key old.joiners) (who i) (key i)) ∙ none_parked mine join.key old.joiners
           ∙ sym (again_parks mine join.key old.joiners reached.apart told) ∙ (λ i. is_parked old.joiners (sym who i) (sym key i))
       | false ↦ λ e. parked_other mine join.key old.joiners c k (ap not e)
     ] refl

@@ -15,7 +15,7 @@ use Rattle.std.proofs.lemmas.Option.{slice_get_within}
 use Rattle.jc_types.specs.declared.config.Config.{Config}
 use Rattle.jc_types.specs.Stripes.{stripe_of}
 use Rattle.jc_model.specs.Cache.{Bytes}
-use Rattle.jc_stripe.specs.Reopening.{belongs_to, entries_for, kept, is_full_behind, dropped_behind, dropped}
+use Rattle.jc_stripe.specs.Reopening.{belongs_to_stripe, entries_for, kept, is_full_behind, dropped_behind, dropped}
 
 -- 1. A list that is cut.
 
@@ -49,12 +49,12 @@ module _ {V : Type 0} (f : V → List (Bytes × Bytes)) (config : Config) where
 -- what is an entry's, and what isn't
 entries_own : (config : Config) (before : List (Bytes × Bytes)) (x : Bytes × Bytes) → entries_for config (stripe_of x.0 config.stripes) (before ++ x ∷ []) ≡ entries_for config (stripe_of x.0 config.stripes) before ++ x ∷ []
 entries_own config before x =
-    filter-append (belongs_to config (stripe_of x.0 config.stripes)) before (x ∷ [])
+    filter-append (belongs_to_stripe config (stripe_of x.0 config.stripes)) before (x ∷ [])
     ∙ ap (λ b. entries_for config (stripe_of x.0 config.stripes) before ++ cond b (x ∷ []) []) (eq-eqb (stripe_of x.0 config.stripes) (stripe_of x.0 config.stripes) refl)
 
 entries_other : (config : Config) (before : List (Bytes × Bytes)) (x : Bytes × Bytes) (n : ℕ) → (n ≡ stripe_of x.0 config.stripes → ⊥) → entries_for config n (before ++ x ∷ []) ≡ entries_for config n before
 entries_other config before x n h =
-    filter-append (belongs_to config n) before (x ∷ [])
+    filter-append (belongs_to_stripe config n) before (x ∷ [])
     ∙ ap (λ b. entries_for config n before ++ cond b (x ∷ []) []) (ne_eqb (stripe_of x.0 config.stripes) n (λ e. h (sym e)))
     ∙ append-nil (entries_for config n before)
 

@@ -13,11 +13,11 @@ use Rattle.jc_history.specs.Values.{IsStorable}
 use Rattle.jc_reserve.specs.Table.{Table}
 use Rattle.jc_reserve.specs.Reserving as reserving
 use Rattle.jc_inflight.specs.declared.joiner.Joiner.{Joiner}
-use Rattle.jc_inflight.specs.Joining.{callers_of, waits_for}
+use Rattle.jc_inflight.specs.Joining.{callers_of, waits_for, waits}
 use Rattle.jc_inflight.specs.Resolving.{after_resolve}
 use Rattle.jc_stripe.specs.declared.ticket.First.TheVariants.{Nobody}
 use Rattle.jc_stripe.specs.declared.stripe.Stripe.TheInside.{Inside}
-use Rattle.jc_stripe.specs.State.{State, IsOut, without_key, waits}
+use Rattle.jc_stripe.specs.State.{State, IsOut, without_key}
 use Rattle.jc_model.specs.Statistics.{StatisticsLaws, statistics_of}
 use Rattle.jc_stripe.specs.OrderOfUse.{by_use, pinned}
 use Rattle.jc_stripe.specs.Occurrences.{occurrences}
@@ -114,7 +114,7 @@ pub record IsCommit (i : Inside) (r : Reservation) (out : Out) (entries : ByUse)
   pub sound : IsStripe i
   pub found : IsOut (state_of i) r
   pub said : AnswersFirst i.config r.first out
-  pub released : table ≡ reserving.without_reservation (λ (x : Reservation). x.key) i.reservations r.key
+  pub released : table ≡ reserving.table_without (λ (x : Reservation). x.key) i.reservations r.key
   pub keys_are : keys ≡ pinned table.held
   pub is : IsMade (state_of i) r.caller r.key r.op out made
   pub keeps : AppliesStep i.entries keys r.key r.op out made.victim made.evicted entries
@@ -125,7 +125,7 @@ pub record IsCommit (i : Inside) (r : Reservation) (out : Out) (entries : ByUse)
   pub kept_is : kept ≡ STEP_PLACES + count_by (waits_for r.number) i.joiners
   pub one_more : boxes ≡ i.boxes + 1
 
-commit_entries : (i : Inside) (r : Reservation) (place : ℕ) (table : Table Reservation) (keys : List Bytes) → IsStripe i → table ≡ reserving.without_reservation (λ (x : Reservation). x.key) i.reservations r.key → keys ≡ pinned table.held
+commit_entries : (i : Inside) (r : Reservation) (place : ℕ) (table : Table Reservation) (keys : List Bytes) → IsStripe i → table ≡ reserving.table_without (λ (x : Reservation). x.key) i.reservations r.key → keys ≡ pinned table.held
     → AreEntries (after_commit (state_of i) r place) i.entries keys
 commit_entries i r place table keys sound released keys_are =
     let used = sound.state.used in

@@ -13,11 +13,11 @@ use Rattle.jc_model.specs.Cache.{Bytes, entry_at}
 use Rattle.jc_inflight.specs.declared.joiner.Joiner.{Joiner}
 use Rattle.jc_inflight.specs.declared.joiner.JoinState.{JoinState}
 use Rattle.jc_inflight.specs.declared.joiner.JoinState.TheVariants.{Waiting, Answered, Again}
-use Rattle.jc_inflight.specs.Joining.{is_waiting, waits_for}
+use Rattle.jc_inflight.specs.Joining.{is_waiting, waits_for, waits}
 use Rattle.jc_stripe.specs.declared.ticket.First.{First}
 use Rattle.jc_stripe.specs.declared.ticket.First.TheVariants.{Nobody, Loader, Writer, Processor}
 use Rattle.jc_stripe.specs.Refusals.{load_of, load_at}
-use Rattle.jc_stripe.specs.State.{State, is_key, without_key, waits}
+use Rattle.jc_stripe.specs.State.{State, is_key, without_key}
 use Rattle.jc_stripe.specs.Reached.{AreNumbered, FindsLoad, JoinFits, AllJoin}
 use Rattle.jc_stripe.proofs.Numbering.{found_once}
 use Rattle.jc_types.proofs.CallerLemmas.{found_any, stands_on}

@@ -12,7 +12,7 @@ use Rattle.std.proofs.lemmas.Bool.{and_parts, and_from}
 use Rattle.jc_types.specs.declared.config.Config.{Config}
 use Rattle.jc_model.specs.Cache.{Bytes, key_cmp}
 use Rattle.jc_model.specs.Listed.{has_distinct_keys}
-use Rattle.jc_stripe.specs.Reopening.{belongs_to, entries_for, kept}
+use Rattle.jc_stripe.specs.Reopening.{belongs_to_stripe, entries_for, kept}
 
 missing_left : (p : Bytes × Bytes → Bool) (q : Bytes) (es : List (Bytes × Bytes)) → is_none (find key_cmp q es) ≡ true → is_none (find key_cmp q (filter p es)) ≡ true
 missing_left p q [] h = refl
@@ -73,10 +73,10 @@ pub kept_few : (config : Config) (n : ℕ) (entries : List (Bytes × Bytes)) →
 kept_few config n entries = omega (arith, length-take config.capacity (entries_for config n entries))
 
 pub kept_once : (config : Config) (n : ℕ) (entries : List (Bytes × Bytes)) → has_distinct_keys entries ≡ true → has_distinct_keys (kept config n entries) ≡ true
-kept_once config n entries h = once_taken config.capacity (entries_for config n entries) (once_left (belongs_to config n) entries h)
+kept_once config n entries h = once_taken config.capacity (entries_for config n entries) (once_left (belongs_to_stripe config n) entries h)
 
-pub kept_own : (config : Config) (n : ℕ) (entries : List (Bytes × Bytes)) → list_all (belongs_to config n) (kept config n entries) ≡ true
-kept_own config n entries = own_taken config.capacity (belongs_to config n) (entries_for config n entries) (own_left (belongs_to config n) entries)
+pub kept_own : (config : Config) (n : ℕ) (entries : List (Bytes × Bytes)) → list_all (belongs_to_stripe config n) (kept config n entries) ≡ true
+kept_own config n entries = own_taken config.capacity (belongs_to_stripe config n) (entries_for config n entries) (own_left (belongs_to_stripe config n) entries)
 
 -- a list that is read at a number
 pub read_list : {V : Type 0} (f : V → List (Bytes × Bytes)) (lists : List V) (n : ℕ) (v : V) (xs : List (Bytes × Bytes)) → option_map f (slice_get lists n) ≡ Some xs → v ≡ get_or lists n v → f v ≡ xs

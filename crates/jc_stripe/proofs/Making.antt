@@ -14,7 +14,7 @@ use Rattle.jc_reserve.specs.Reserving.{CanReserve, is_held}
 use Rattle.jc_reserve.specs.Reserving as reserving
 use Rattle.jc_inflight.specs.declared.joiner.Joiner.{Joiner}
 use Rattle.jc_inflight.specs.declared.joiner.JoinState.TheVariants.{Waiting}
-use Rattle.jc_inflight.specs.Joining.{belongs_to, has_joined, waits_for}
+use Rattle.jc_inflight.specs.Joining.{belongs_to, has_joined, waits_for, waits}
 use Rattle.jc_inflight.specs.Joining as joining
 use Rattle.jc_inflight.proofs.CallerLemmas.{waiting-after_dissolve}
 use Rattle.jc_types.specs.declared.limits.TheConstants.{STEP_PLACES, HIT_PLACES, JOINERS_MAX}
@@ -22,7 +22,7 @@ use Rattle.jc_inflight.specs.Dissolving.{after_dissolve}
 use Rattle.jc_stripe.specs.declared.ticket.First.{First}
 use Rattle.jc_stripe.specs.declared.stripe.Stripe.TheInside.{Inside}
 use Rattle.jc_stripe.specs.Tickets.{JoinClaim}
-use Rattle.jc_stripe.specs.State.{State, is_key, is_reserved, promised, new_reservation, with_reservation, without_key, waits}
+use Rattle.jc_stripe.specs.State.{State, is_key, is_reserved, promised, new_reservation, with_reservation, without_key}
 use Rattle.jc_stripe.specs.OrderOfUse.{by_use}
 use Rattle.jc_stripe.specs.Refusals.{first_refusal, first_asked, needs_reservation, load_joined, needs_free_key, places_needed}
 use Rattle.jc_stripe.specs.Phases.{MayBegin, is_other_join, with_joiner, after_withdrawal}
@@ -56,13 +56,13 @@ can_reserve i s caller key op view none needs =
 
 -- the state with the key reserved
 pub state-reserved : (i : Inside) (caller : Caller) (key : Bytes) (op : Op) (first : First) (table : Table Reservation) (history : Past) (boxes : ℕ)
-    → table ≡ reserving.with_reservation i.reservations (new_reservation (state_of i) caller key op first) → history ≡ promise STEP_PLACES i.history
+    → table ≡ reserving.table_with i.reservations (new_reservation (state_of i) caller key op first) → history ≡ promise STEP_PLACES i.history
     → state_of (record i { reservations = table; history = history; boxes = boxes }) ≡ with_reservation (state_of i) (new_reservation (state_of i) caller key op first)
 state-reserved i caller key op first table history boxes t h =
     λ k. state_of (record i { reservations = t k; history = h k; boxes = boxes })
 
 pub sound-reserved : (i : Inside) (caller : Caller) (key : Bytes) (op : Op) (first : First) (table : Table Reservation) (history : Past) (boxes : ℕ) → IsStripe i
-    → boxes + 1 ≡ i.boxes → table ≡ reserving.with_reservation i.reservations (new_reservation (state_of i) caller key op first) → history ≡ promise STEP_PLACES i.history → IsReached (with_reservation (state_of i) (new_reservation (state_of i) caller key op first))
+    → boxes + 1 ≡ i.boxes → table ≡ reserving.table_with i.reservations (new_reservation (state_of i) caller key op first) → history ≡ promise STEP_PLACES i.history → IsReached (with_reservation (state_of i) (new_reservation (state_of i) caller key op first))
     → IsStripe (record i { reservations = table; history = history; boxes = boxes })
 sound-reserved i caller key op first table history boxes sound b t h reached =
     let state = state-reserved i caller key op first table history boxes t h in
@@ -90,7 +90,7 @@ not_joined caller key (j ∷ js) h =
     let parts = and_parts (is_other_join caller key j) (list_all (is_other_join caller key) js) h in
     ap (λ b. b || has_joined caller key js) (belongs_to_no_other caller key j parts.0) ∙ not_joined caller key js parts.1
 
-pub sound-joined : (i : Inside) (caller : Caller) (load : ℕ) (key : Bytes) (js : List Joiner) (history : Past) → IsStripe i → js ≡ joining.with_joiner caller key load i.joiners → history ≡ promise HIT_PLACES i.history
+pub sound-joined : (i : Inside) (caller : Caller) (load : ℕ) (key : Bytes) (js : List Joiner) (history : Past) → IsStripe i → js ≡ joining.joiners_with caller key load i.joiners → history ≡ promise HIT_PLACES i.history
     → IsReached (with_joiner (state_of i) (record { caller = caller; key = key; load = load })) → IsStripe (record i { joiners = js; history = history })
 sound-joined i caller load key js history sound t h reached =
     let join : JoinClaim = record { caller = caller; key = key; load = load } in
@@ -129,13 +129,13 @@ one_exactly key (x ∷ xs) r once h =
     ] refl h
 
 -- the state with the reservation given back
-pub state-withdrawn : (i : Inside) (r : Reservation) (table : Table Reservation) (js : List Joiner) (history : Past) (boxes n : ℕ) → table ≡ reserving.without_reservation (λ (x : Reservation). x.key) i.reservations r.key → js ≡ after_dissolve r.number i.joiners
+pub state-withdrawn : (i : Inside) (r : Reservation) (table : Table Reservation) (js : List Joiner) (history : Past) (boxes n : ℕ) → table ≡ reserving.table_without (λ (x : Reservation). x.key) i.reservations r.key → js ≡ after_dissolve r.number i.joiners
     → history ≡ unpromise n i.history → state_of (record i { reservations = table; joiners = js; history = history; boxes = boxes }) ≡ after_withdrawal (state_of i) r
 state-withdrawn i r table js history boxes n t j h =
     λ k. state_of (record i { reservations = t k; joiners = j k; history = h k; boxes = boxes })
 
 pub sound-withdrawn : (i : Inside) (r : Reservation) (table : Table Reservation) (js : List Joiner) (history : Past) (boxes waiting : ℕ) → IsStripe i → boxes ≡ i.boxes + 1 → find (is_key r.key) (state_of i).reservations ≡ Some r
-    → waiting ≡ count_by (waits_for r.number) i.joiners → table ≡ reserving.without_reservation (λ (x : Reservation). x.key) i.reservations r.key → js ≡ after_dissolve r.number i.joiners → history ≡ unpromise (STEP_PLACES + waiting) i.history
+    → waiting ≡ count_by (waits_for r.number) i.joiners → table ≡ reserving.table_without (λ (x : Reservation). x.key) i.reservations r.key → js ≡ after_dissolve r.number i.joiners → history ≡ unpromise (STEP_PLACES + waiting) i.history
     → IsReached (after_withdrawal (state_of i) r) → IsStripe (record i { reservations = table; joiners = js; history = history; boxes = boxes })
 sound-withdrawn i r table js history boxes waiting sound b found w t j h reached =
     let state = state-withdrawn i r table js history boxes (STEP_PLACES + waiting) t j h in
@@ -180,7 +180,7 @@ room_so i n sound h =
 
 pub reserve_sound : (i : Inside) (caller : Caller) (key : Bytes) (op : Op) (first : First) (table : Table Reservation) (history : Past) (boxes : ℕ) (fits : Bool) → IsStripe i → boxes + 1 ≡ i.boxes → first_refusal (state_of i) caller key op ≡ None
     → needs_reservation (state_of i) key op ≡ true → first_asked i.config op (entry_at (state_of i).cache key) ≡ first → MayBegin (state_of i) caller key
-    → table ≡ reserving.with_reservation i.reservations (new_reservation (state_of i) caller key op first)
+    → table ≡ reserving.table_with i.reservations (new_reservation (state_of i) caller key op first)
     → (IsTrue fits ↔ (places_used i.history + STEP_PLACES ≤ i.history.limit)) → history ≡ (if fits then promise STEP_PLACES i.history else i.history) → IsStripe (record i { reservations = table; history = history; boxes = boxes })
 reserve_sound i caller key op first table history boxes fits sound b none needs asks may t f h =
     let places = ticket_places (state_of i) caller key op none needs in
@@ -189,7 +189,7 @@ reserve_sound i caller key op first table history boxes fits sound b none needs 
 
 -- the state has the reservation
 pub reserve_made : (i : Inside) (caller : Caller) (key : Bytes) (op : Op) (first : First) (table : Table Reservation) (history : Past) (boxes : ℕ) (fits : Bool) → IsStripe i → first_refusal (state_of i) caller key op ≡ None
-    → needs_reservation (state_of i) key op ≡ true → table ≡ reserving.with_reservation i.reservations (new_reservation (state_of i) caller key op first)
+    → needs_reservation (state_of i) key op ≡ true → table ≡ reserving.table_with i.reservations (new_reservation (state_of i) caller key op first)
     → (IsTrue fits ↔ (places_used i.history + STEP_PLACES ≤ i.history.limit)) → history ≡ (if fits then promise STEP_PLACES i.history else i.history)
     → state_of (record i { reservations = table; history = history; boxes = boxes }) ≡ with_reservation (state_of i) (new_reservation (state_of i) caller key op first)
 reserve_made i caller key op first table history boxes fits sound none needs t f h =
@@ -203,14 +203,14 @@ made false new more old t h = cc
 -- so has the table
 pub table_made : (i : Inside) (caller : Caller) (key : Bytes) (op : Op) (first : First) (number : ℕ) (b : Bool) (table : Table Reservation) → first_refusal (state_of i) caller key op ≡ None
     → needs_reservation (state_of i) key op ≡ true → number ≡ i.reservations.next → (IsTrue b ↔ CanReserve (λ (x : Reservation). x.key) i.reservations key)
-    → MatchBool b (table ≡ reserving.with_reservation i.reservations (record { caller = caller; key = key; op = op; number = number; first = first })) (table ≡ i.reservations)
-    → table ≡ reserving.with_reservation i.reservations (new_reservation (state_of i) caller key op first)
+    → MatchBool b (table ≡ reserving.table_with i.reservations (record { caller = caller; key = key; op = op; number = number; first = first })) (table ≡ i.reservations)
+    → table ≡ reserving.table_with i.reservations (new_reservation (state_of i) caller key op first)
 table_made i caller key op first number b table none needs n can m =
     made b table _ _ (can.1 (can_reserve i (state_of i) caller key op refl none needs)) m
-    ∙ (λ k. reserving.with_reservation i.reservations (record { caller = caller; key = key; op = op; number = n k; first = first }))
+    ∙ (λ k. reserving.table_with i.reservations (record { caller = caller; key = key; op = op; number = n k; first = first }))
 
 pub join_sound : (i : Inside) (caller : Caller) (load : ℕ) (key : Bytes) (op : Op) (js : List Joiner) (history : Past) (fits : Bool) → IsStripe i → first_refusal (state_of i) caller key op ≡ None → load_joined (state_of i) key op ≡ Some load
-    → MayBegin (state_of i) caller key → js ≡ joining.with_joiner caller key load i.joiners → (IsTrue fits ↔ (places_used i.history + HIT_PLACES ≤ i.history.limit)) → history ≡ (if fits then promise HIT_PLACES i.history else i.history)
+    → MayBegin (state_of i) caller key → js ≡ joining.joiners_with caller key load i.joiners → (IsTrue fits ↔ (places_used i.history + HIT_PLACES ≤ i.history.limit)) → history ≡ (if fits then promise HIT_PLACES i.history else i.history)
     → IsStripe (record i { joiners = js; history = history })
 join_sound i caller load key op js history fits sound none joins may t f h =
     let places = join_places (state_of i) caller key op load none joins in

@@ -117,18 +117,18 @@ again_parks c k (j ∷ js) apart h =
       | false ↦ λ e h. again_parks c k js parts.1 h
     ] refl h
 
-own_again : (c : Caller) (k : Bytes) (js : List Joiner) (events : List Event) → is_parked js c k ≡ false → filter (is_own_step c.session (taking.without_joiner c k js)) events ≡ filter (is_own_step c.session js) events
+own_again : (c : Caller) (k : Bytes) (js : List Joiner) (events : List Event) → is_parked js c k ≡ false → filter (is_own_step c.session (taking.joiners_without c k js)) events ≡ filter (is_own_step c.session js) events
 own_again c k js [] free = refl
 own_again c k js (Step c' op k' out shared reply ∷ events) free =
     let rest = own_again c k js events free in
-    let same : is_parked (taking.without_joiner c k js) c' k' ≡ is_parked js c' k' =
-    elim ((c'.session == c.session) && (c'.call == c.call) && pointwise ◌==◌ k' k) as (λ b. ((c'.session == c.session) && (c'.call == c.call) && pointwise ◌==◌ k' k) ≡ b → is_parked (taking.without_joiner c k js) c' k' ≡ is_parked js c' k') [
+    let same : is_parked (taking.joiners_without c k js) c' k' ≡ is_parked js c' k' =
+    elim ((c'.session == c.session) && (c'.call == c.call) && pointwise ◌==◌ k' k) as (λ b. ((c'.session == c.session) && (c'.call == c.call) && pointwise ◌==◌ k' k) ≡ b → is_parked (taking.joiners_without c k js) c' k' ≡ is_parked js c' k') [
       | true ↦ λ e.
           let outer = and_parts ((c'.session == c.session) && (c'.call == c.call)) (pointwise ◌==◌ k' k) e in
           let inner = and_parts (c'.session == c.session) (c'.call == c.call) outer.0 in
           let who : c' ≡ c = λ i. record { session = eqb-true c'.session c.session inner.0 i; call = eqb-true c'.call c.call inner.1 i } in
           let key : k' ≡ k = same_text k' k (sym outer.1) in
-          (λ i. is_parked (taking.without_joiner c k js) (who i) (key i)) ∙ none_parked c k js ∙ sym free ∙ (λ i. is_parked js (sym who i) (sym key i))
+          (λ i. is_parked (taking.joiners_without c k js) (who i) (key i)) ∙ none_parked c k js ∙ sym free ∙ (λ i. is_parked js (sym who i) (sym key i))
       | false ↦ λ e. parked_other c k js c' k' (ap not e)
     ] refl in
     λ i. cond ((c'.session == c.session) && not (same i)) (Step c' op k' out shared reply ∷ rest i) (rest i)
@@ -142,7 +142,7 @@ own_left = record {
   reserves = λ old new caller key op ticket h. ap (λ (s : State). own_steps caller.session s) h.5;
   joins = λ old new caller key op join h.
       ap (λ (s : State). own_steps caller.session s) h.3
-      ∙ own-parked caller.session old.joiners (joining.with_joiner join.caller join.key join.load old.joiners) old.history (λ c k e. parked-joined join.caller join.load join.key old.joiners c k);
+      ∙ own-parked caller.session old.joiners (joining.joiners_with join.caller join.key join.load old.joiners) old.history (λ c k e. parked-joined join.caller join.load join.key old.joiners c k);
   withdraws = λ old new session r h.
       ap (λ (s : State). own_steps session s) h.1
       ∙ own-parked session old.joiners (after_dissolve r.number old.joiners) old.history (λ c k e. parked-dissolved r.number old.joiners c k);

@@ -85,21 +85,21 @@ other_call c k j c' k' d is =
     opened true h = sym h
     opened false h = refl
 
-pub parked_other : (c : Caller) (k : Bytes) (js : List Joiner) (c' : Caller) (k' : Bytes) → not (is_call c k c' k') ≡ true → is_parked (taking.without_joiner c k js) c' k' ≡ is_parked js c' k'
+pub parked_other : (c : Caller) (k : Bytes) (js : List Joiner) (c' : Caller) (k' : Bytes) → not (is_call c k c' k') ≡ true → is_parked (taking.joiners_without c k js) c' k' ≡ is_parked js c' k'
 parked_other c k [] c' k' d = refl
 parked_other c k (j ∷ js) c' k' d =
     let rest = parked_other c k js c' k' d in
-    elim (belongs_to c k j) as (λ b. belongs_to c k j ≡ b → is_parked (cond (not b) (j ∷ taking.without_joiner c k js) (taking.without_joiner c k js)) c' k' ≡ is_parked (j ∷ js) c' k') [
+    elim (belongs_to c k j) as (λ b. belongs_to c k j ≡ b → is_parked (cond (not b) (j ∷ taking.joiners_without c k js) (taking.joiners_without c k js)) c' k' ≡ is_parked (j ∷ js) c' k') [
       | true ↦ λ e. rest ∙ ap (λ b. (b && is_answered j.state) || is_parked js c' k') (sym (other_call c k j c' k' d e))
       | false ↦ λ e. ap (λ b. (belongs_to c' k' j && is_answered j.state) || b) rest
     ] refl
 
-pub none_parked : (c : Caller) (k : Bytes) (js : List Joiner) → is_parked (taking.without_joiner c k js) c k ≡ false
+pub none_parked : (c : Caller) (k : Bytes) (js : List Joiner) → is_parked (taking.joiners_without c k js) c k ≡ false
 none_parked c k [] = refl
 none_parked c k (j ∷ js) =
-    elim (belongs_to c k j) as (λ b. belongs_to c k j ≡ b → is_parked (cond (not b) (j ∷ taking.without_joiner c k js) (taking.without_joiner c k js)) c k ≡ false) [
+    elim (belongs_to c k j) as (λ b. belongs_to c k j ≡ b → is_parked (cond (not b) (j ∷ taking.joiners_without c k js) (taking.joiners_without c k js)) c k ≡ false) [
       | true ↦ λ e. none_parked c k js
-      | false ↦ λ e. ap (λ b. (b && is_answered j.state) || is_parked (taking.without_joiner c k js) c k) e ∙ none_parked c k js
+      | false ↦ λ e. ap (λ b. (b && is_answered j.state) || is_parked (taking.joiners_without c k js) c k) e ∙ none_parked c k js
     ] refl
 
 pub parked_told : (c : Caller) (k : Bytes) (js : List Joiner) (place shared : ℕ) → option_map (λ x. x.state) (find (belongs_to c k) js) ≡ Some (Answered place shared) → is_parked js c k ≡ true
@@ -112,7 +112,7 @@ parked_told c k (j ∷ js) place shared h =
 
 -- 3. The own steps.
 
-own_kept : (c : Caller) (k : Bytes) (js : List Joiner) (events : List Event) → list_all (differs c k) events ≡ true → filter (is_own_step c.session (taking.without_joiner c k js)) events ≡ filter (is_own_step c.session js) events
+own_kept : (c : Caller) (k : Bytes) (js : List Joiner) (events : List Event) → list_all (differs c k) events ≡ true → filter (is_own_step c.session (taking.joiners_without c k js)) events ≡ filter (is_own_step c.session js) events
 own_kept c k js [] h = refl
 own_kept c k js (Step c' op k' out shared reply ∷ events) h =
     let parts = and_parts (not (is_call c k c' k')) (list_all (differs c k) events) h in
@@ -140,9 +140,9 @@ picks_own old new join reply place shared reached h =
     let post : List Event = parts.1 in
     let differ = others_differ c Get k out (Some shared) reply pre post (ap in_order (sym parts.2) ∙ reached.legal.order) in
     let p : Event → Bool = is_own_step s js in
-    let q : Event → Bool = is_own_step s (taking.without_joiner c k js) in
+    let q : Event → Bool = is_own_step s (taking.joiners_without c k js) in
     let hidden : ((s == s) && not (is_parked js c k)) ≡ false = ap (λ b. (s == s) && not b) (parked_told c k js place shared h.1) ∙ and_right (s == s) false refl in
-    let shown : ((s == s) && not (is_parked (taking.without_joiner c k js) c k)) ≡ true = λ i. nat_eq_equiv.refl s i && not (none_parked c k js i) in (
+    let shown : ((s == s) && not (is_parked (taking.joiners_without c k js) c k)) ≡ true = λ i. nat_eq_equiv.refl s i && not (none_parked c k js i) in (
       out,
       record {
         there = ap (λ (z : State). slice_get z.history place) h.3 ∙ h.2.1;

@@ -25,12 +25,11 @@ use Rattle.jc_model.specs.Legal.{may_come}
 use Rattle.jc_inflight.specs.declared.joiner.Joiner.{Joiner}
 use Rattle.jc_inflight.specs.declared.joiner.JoinState.{JoinState}
 use Rattle.jc_inflight.specs.declared.joiner.JoinState.TheVariants.{Waiting, Answered, Again}
-use Rattle.jc_inflight.specs.Joining.{belongs_to, is_waiting, waits_for, callers_of}
+use Rattle.jc_inflight.specs.Joining.{belongs_to, is_waiting, waits_for, callers_of, waits}
 use Rattle.jc_inflight.specs.Joining as joining
 use Rattle.jc_inflight.specs.Resolving.{with_answer, answered_from}
 use Rattle.jc_inflight.specs.Dissolving.{after_dissolve}
 use Rattle.jc_inflight.specs.Taking as taking
-use Rattle.jc_stripe.specs.State.{waits}
 use Rattle.jc_stripe.specs.Reached.{may_share}
 use Rattle.jc_stripe.specs.OnePhase.{is_answered, is_parked, is_own_step}
 use Rattle.jc_stripe.proofs.Settled.{keyed, if_so}
@@ -66,7 +65,7 @@ own-parked other js next (Step c op k out shared reply ∷ events) same =
 own-parked other js next (Evict k cause ∷ events) same = own-parked other js next events same
 
 -- one that waits parks nothing
-pub parked-joined : (caller : Caller) (load : ℕ) (key : Bytes) (js : List Joiner) (c : Caller) (k : Bytes) → is_parked (joining.with_joiner caller key load js) c k ≡ is_parked js c k
+pub parked-joined : (caller : Caller) (load : ℕ) (key : Bytes) (js : List Joiner) (c : Caller) (k : Bytes) → is_parked (joining.joiners_with caller key load js) c k ≡ is_parked js c k
 parked-joined caller load key [] c k = ap (λ b. b || false) (and_right _ false refl)
 parked-joined caller load key (j ∷ js) c k = ap (λ b. (belongs_to c k j && is_answered j.state) || b) (parked-joined caller load key js c k)
 
@@ -94,11 +93,11 @@ other_parks caller key j c k differs is =
     let here : j.caller.session ≡ caller.session = eqb-true j.caller.session caller.session (and_parts (j.caller.session == caller.session) (j.caller.call == caller.call) outer.0).0 in
     ap (λ b. b && (j.caller.call == c.call) && pointwise ◌==◌ k j.key) (nat_eq_equiv.symm j.caller.session c.session ∙ ap (λ t. c.session == t) here ∙ differs)
 
-pub parked-without : (caller : Caller) (key : Bytes) (js : List Joiner) (c : Caller) (k : Bytes) → (c.session == caller.session) ≡ false → is_parked (taking.without_joiner caller key js) c k ≡ is_parked js c k
+pub parked-without : (caller : Caller) (key : Bytes) (js : List Joiner) (c : Caller) (k : Bytes) → (c.session == caller.session) ≡ false → is_parked (taking.joiners_without caller key js) c k ≡ is_parked js c k
 parked-without caller key [] c k differs = refl
 parked-without caller key (j ∷ js) c k differs =
     let rest = parked-without caller key js c k differs in
-    elim (belongs_to caller key j) as (λ b. belongs_to caller key j ≡ b → is_parked (cond (not b) (j ∷ taking.without_joiner caller key js) (taking.without_joiner caller key js)) c k ≡ is_parked (j ∷ js) c k) [
+    elim (belongs_to caller key j) as (λ b. belongs_to caller key j ≡ b → is_parked (cond (not b) (j ∷ taking.joiners_without caller key js) (taking.joiners_without caller key js)) c k ≡ is_parked (j ∷ js) c k) [
       | true ↦ λ e. rest ∙ ap (λ b. (b && is_answered j.state) || is_parked js c k) (sym (other_parks caller key j c k differs e))
       | false ↦ λ e. ap (λ b. (belongs_to c k j && is_answered j.state) || b) rest
     ] refl

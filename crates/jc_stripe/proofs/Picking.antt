@@ -11,12 +11,12 @@ use Rattle.jc_model.specs.Cache.{Bytes}
 use Rattle.jc_inflight.specs.declared.joiner.Joiner.{Joiner}
 use Rattle.jc_inflight.specs.declared.joiner.JoinState.{JoinState}
 use Rattle.jc_inflight.specs.declared.joiner.JoinState.TheVariants.{Waiting, Answered, Again}
-use Rattle.jc_inflight.specs.Joining.{belongs_to, is_waiting}
-use Rattle.jc_inflight.specs.Taking.{after_take}
+use Rattle.jc_inflight.specs.Joining.{belongs_to, is_waiting, waits}
+use Rattle.jc_inflight.specs.Taking.{joiners_after_take}
 use Rattle.jc_inflight.specs.Taking as taking
 use Rattle.jc_inflight.proofs.CallerLemmas.{belongs_to_same, after_take_over, after_take_waiting, count-cons}
 use Rattle.jc_stripe.specs.Tickets.{JoinClaim}
-use Rattle.jc_stripe.specs.State.{State, IsJoined, waits}
+use Rattle.jc_stripe.specs.State.{State, IsJoined}
 use Rattle.jc_stripe.specs.Polled as polled
 use Rattle.jc_stripe.specs.declared.stripe.Stripe.TheInside.{Inside}
 use Rattle.jc_stripe.specs.Inside.{IsStripe, state_of}
@@ -66,35 +66,35 @@ joined_told state join there none = go (find (belongs_to join.caller join.key) s
 
 -- 2. What is left.
 
-pub after_is : (state : State) (join : JoinClaim) (t : JoinState) → told_to state join ≡ Some t → record state { joiners = after_take join.caller join.key state.joiners } ≡ after_pick_up state join t
+pub after_is : (state : State) (join : JoinClaim) (t : JoinState) → told_to state join ≡ Some t → record state { joiners = joiners_after_take join.caller join.key state.joiners } ≡ after_pick_up state join t
 after_is state join (Answered place shared) h = ap (λ js. record state { joiners = js }) (after_take_over join.caller join.key state.joiners (Answered place shared) h refl)
 after_is state join Again h = ap (λ js. record state { joiners = js }) (after_take_over join.caller join.key state.joiners Again h refl)
 after_is state join Waiting h = ap (λ js. record state { joiners = js }) (after_take_waiting join.caller join.key state.joiners Waiting h refl)
 
-not_one : (caller : Caller) (key : Bytes) (js : List Joiner) → list_any (belongs_to caller key) js ≡ false → taking.without_joiner caller key js ≡ js
+not_one : (caller : Caller) (key : Bytes) (js : List Joiner) → list_any (belongs_to caller key) js ≡ false → taking.joiners_without caller key js ≡ js
 not_one caller key [] h = refl
 not_one caller key (j ∷ js) h =
-    elim (belongs_to caller key j) as (λ b. (b || list_any (belongs_to caller key) js) ≡ false → cond (not b) (j ∷ taking.without_joiner caller key js) (taking.without_joiner caller key js) ≡ j ∷ js) [
+    elim (belongs_to caller key j) as (λ b. (b || list_any (belongs_to caller key) js) ≡ false → cond (not b) (j ∷ taking.joiners_without caller key js) (taking.joiners_without caller key js) ≡ j ∷ js) [
       | true ↦ λ h. cc
       | false ↦ λ h. ap (λ xs. j ∷ xs) (not_one caller key js h)
     ] h
 
 -- a joiner that waits no more goes: as many wait as before
-pub count-without : (caller : Caller) (key : Bytes) (js : List Joiner) (j : Joiner) → are_apart js ≡ true → find (belongs_to caller key) js ≡ Some j → waits j ≡ false → count_by waits (taking.without_joiner caller key js) ≡ count_by waits js
+pub count-without : (caller : Caller) (key : Bytes) (js : List Joiner) (j : Joiner) → are_apart js ≡ true → find (belongs_to caller key) js ≡ Some j → waits j ≡ false → count_by waits (taking.joiners_without caller key js) ≡ count_by waits js
 count-without caller key [] j apart h w = cc
 count-without caller key (x ∷ xs) j apart h w =
     let parts = and_parts (list_all (is_other_join x.caller x.key) xs) (are_apart xs) apart in
-    elim (belongs_to caller key x) as (λ b. belongs_to caller key x ≡ b → cond b (Some x) (find (belongs_to caller key) xs) ≡ Some j → count_by waits (cond (not b) (x ∷ taking.without_joiner caller key xs) (taking.without_joiner caller key xs)) ≡ count_by waits (x ∷ xs)) [
+    elim (belongs_to caller key x) as (λ b. belongs_to caller key x ≡ b → cond b (Some x) (find (belongs_to caller key) xs) ≡ Some j → count_by waits (cond (not b) (x ∷ taking.joiners_without caller key xs) (taking.joiners_without caller key xs)) ≡ count_by waits (x ∷ xs)) [
       | true ↦ λ e h.
           let is : x ≡ j = cc in
           let same = belongs_to_same caller key x e in
           let none : list_any (belongs_to caller key) xs ≡ false = (λ i. list_any (belongs_to (sym same.0 i) (sym same.1 i)) xs) ∙ not_joined x.caller x.key xs parts.0 in
           ap (count_by waits) (not_one caller key xs none) ∙ sym (count-cons waits x xs ∙ ap (λ b. cond b 1 0 + count_by waits xs) (ap waits is ∙ w) ∙ zero-add (count_by waits xs))
-      | false ↦ λ e h. count-cons waits x (taking.without_joiner caller key xs) ∙ ap (λ m. cond (waits x) 1 0 + m) (count-without caller key xs j parts.1 h w) ∙ sym (count-cons waits x xs)
+      | false ↦ λ e h. count-cons waits x (taking.joiners_without caller key xs) ∙ ap (λ m. cond (waits x) 1 0 + m) (count-without caller key xs j parts.1 h w) ∙ sym (count-cons waits x xs)
     ] refl h
 
 -- a stripe after a pick-up is as every stripe is
-pub pick_sound : (i : Inside) (join : JoinClaim) (js : List Joiner) (t : JoinState) → IsStripe i → told_to (state_of i) join ≡ Some t → js ≡ after_take join.caller join.key i.joiners → IsStripe (record i { joiners = js })
+pub pick_sound : (i : Inside) (join : JoinClaim) (js : List Joiner) (t : JoinState) → IsStripe i → told_to (state_of i) join ≡ Some t → js ≡ joiners_after_take join.caller join.key i.joiners → IsStripe (record i { joiners = js })
 pick_sound i join js t sound h e = record {
   capacity = sound.capacity;
   limit = sound.limit;
@@ -105,12 +105,12 @@ pick_sound i join js t sound h e = record {
   state = subst IsReached (sym (ap (λ xs. state_of (record i { joiners = xs })) e ∙ after_is (state_of i) join t h)) (took_reached t);
 }
   where
-    gone : (t : JoinState) → told_to (state_of i) join ≡ Some t → is_waiting t ≡ false → count_by waits (after_take join.caller join.key i.joiners) ≡ count_by waits i.joiners
+    gone : (t : JoinState) → told_to (state_of i) join ≡ Some t → is_waiting t ≡ false → count_by waits (joiners_after_take join.caller join.key i.joiners) ≡ count_by waits i.joiners
     gone t h over =
         let known = told_some (find (belongs_to join.caller join.key) i.joiners) t h in
         ap (count_by waits) (after_take_over join.caller join.key i.joiners t h over) ∙ count-without join.caller join.key i.joiners known.0 sound.state.apart known.1 (ap is_waiting known.2 ∙ over)
 
-    took_count : (t : JoinState) → told_to (state_of i) join ≡ Some t → count_by waits (after_take join.caller join.key i.joiners) ≡ count_by waits i.joiners
+    took_count : (t : JoinState) → told_to (state_of i) join ≡ Some t → count_by waits (joiners_after_take join.caller join.key i.joiners) ≡ count_by waits i.joiners
     took_count (Answered place shared) h = gone (Answered place shared) h refl
     took_count Again h = gone Again h refl
     took_count Waiting h = ap (count_by waits) (after_take_waiting join.caller join.key i.joiners Waiting h refl)

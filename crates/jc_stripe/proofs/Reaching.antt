@@ -15,12 +15,12 @@ use Rattle.jc_model.specs.Group.{Group, nothing_said, events_of}
 use Rattle.jc_model.specs.Legal.{Legal}
 use Rattle.jc_stripe.specs.Outcomes as begun
 use Rattle.jc_inflight.specs.declared.joiner.Joiner.{Joiner}
-use Rattle.jc_inflight.specs.Joining.{callers_of}
+use Rattle.jc_inflight.specs.Joining.{callers_of, waits}
 use Rattle.jc_inflight.specs.Resolving.{after_resolve}
 use Rattle.jc_stripe.specs.declared.ticket.First.{First}
 use Rattle.jc_stripe.specs.declared.ticket.First.TheVariants.{Nobody}
 use Rattle.jc_stripe.specs.Tickets.{TicketClaim}
-use Rattle.jc_stripe.specs.State.{State, is_key, is_reserved, IsOut, new_reservation, with_reservation, without_key, waits}
+use Rattle.jc_stripe.specs.State.{State, is_key, is_reserved, IsOut, new_reservation, with_reservation, without_key}
 use Rattle.jc_stripe.specs.Refusals.{first_refusal, first_asked, needs_free_key, places_needed, needs_reservation}
 use Rattle.jc_stripe.specs.Phases.{MayBegin, is_other_call, is_other_join, new_group, after_group, Steps, Begins, Commits, with_joiner, after_commit}
 use Rattle.jc_stripe.specs.Reached.{IsReached, IsUsed}

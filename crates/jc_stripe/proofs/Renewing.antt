@@ -14,14 +14,14 @@ use Rattle.jc_model.specs.Cache.{Bytes, key_cmp}
 use Rattle.jc_model.specs.declared.event.Event.{Event}
 use Rattle.jc_inflight.specs.declared.joiner.Joiner.{Joiner}
 use Rattle.jc_history.specs.Past.{Past, no_events}
-use Rattle.jc_stripe.specs.State.{State, Generation, waits}
+use Rattle.jc_stripe.specs.State.{State, Generation}
 use Rattle.jc_types.specs.declared.caller.Caller.{Caller}
 use Rattle.std.specs.List.{list_all, list_any}
 use Rattle.std.proofs.lemmas.Bool.{and_parts, and_cases, and_right, and_from, or_parts, not-true, not_from_false}
 use Rattle.jc_model.proofs.CallerLemmas.{opening_of}
 use Rattle.jc_inflight.specs.declared.joiner.JoinState.{JoinState}
 use Rattle.jc_inflight.specs.declared.joiner.JoinState.TheVariants.{Waiting, Answered, Again}
-use Rattle.jc_inflight.specs.Joining.{belongs_to}
+use Rattle.jc_inflight.specs.Joining.{belongs_to, waits}
 use Rattle.jc_stripe.specs.Life.{Life}
 use Rattle.jc_model.specs.Statistics.{statistics_of}
 use Rattle.jc_stripe.specs.Occurrences.{occurrences}

@@ -20,7 +20,7 @@ use Rattle.jc_stripe.specs.Occurrences.{occurrences}
 use Rattle.jc_stripe.specs.OrderOfUse.{by_use}
 use Rattle.jc_stripe.specs.Reached.{IsReached}
 use Rattle.jc_stripe.specs.Reopening.{opened_stripe}
-use Rattle.jc_stripe.specs.State.{waits}
+use Rattle.jc_inflight.specs.Joining.{waits}
 use Rattle.jc_stripe.proofs.Tables.{reached_start}
 
 reached_empty : (config : Config) (origin : Origin) (number : ℕ) → check config ≡ Ok tt → IsReached (opened_stripe config origin number [])

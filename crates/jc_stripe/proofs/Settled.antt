@@ -26,11 +26,11 @@ use Rattle.jc_model.specs.Legal.{may_come}
 use Rattle.jc_inflight.specs.declared.joiner.Joiner.{Joiner}
 use Rattle.jc_inflight.specs.declared.joiner.JoinState.{JoinState}
 use Rattle.jc_inflight.specs.declared.joiner.JoinState.TheVariants.{Waiting, Answered, Again}
-use Rattle.jc_inflight.specs.Joining.{is_waiting, waits_for, callers_of}
+use Rattle.jc_inflight.specs.Joining.{is_waiting, waits_for, callers_of, waits}
 use Rattle.jc_inflight.specs.Resolving.{with_answer, answered_from, after_resolve}
 use Rattle.jc_inflight.proofs.CallerLemmas.{calls-answered_from, count-cons}
 use Rattle.jc_stripe.specs.declared.ticket.First.TheVariants.{Loader}
-use Rattle.jc_stripe.specs.State.{State, is_key, is_of, IsOut, without_key, waits}
+use Rattle.jc_stripe.specs.State.{State, is_key, is_of, IsOut, without_key}
 use Rattle.jc_stripe.specs.Refusals.{first_asked}
 use Rattle.jc_stripe.specs.Phases.{MayBegin, after_commit, is_other_call, is_other_join}
 use Rattle.jc_stripe.specs.Reached.{IsReached, AreNumbered, AllAsk, FindsLoad, JoinFits, AllJoin, may_end, may_share, are_beside, are_apart, all_apart}

@@ -25,7 +25,8 @@ use Rattle.jc_model.proofs.CallerLemmas.{same_key, get-with_entry}
 use Rattle.jc_entries.specs.ByUse.{is_pinned}
 use Rattle.jc_entries.proofs.CallerLemmas.{lru_victim-unpinned}
 use Rattle.jc_inflight.specs.declared.joiner.Joiner.{Joiner}
-use Rattle.jc_stripe.specs.State.{State, is_key, is_of, waits}
+use Rattle.jc_inflight.specs.Joining.{waits}
+use Rattle.jc_stripe.specs.State.{State, is_key, is_of}
 use Rattle.jc_stripe.specs.OrderOfUse.{by_use, pinned, least_used}
 use Rattle.jc_stripe.specs.Phases.{is_other_call, is_other_join, new_group, inserts_here, overflows, own_cause, after_group}
 use Rattle.jc_stripe.specs.Reached.{IsUsed, may_end, may_share, is_own}

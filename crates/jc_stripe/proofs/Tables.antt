@@ -19,14 +19,14 @@ use Rattle.jc_model.specs.Listed.{has_distinct_keys}
 use Rattle.jc_model.proofs.CallerLemmas.{opening_of}
 use Rattle.jc_inflight.specs.declared.joiner.Joiner.{Joiner}
 use Rattle.jc_inflight.specs.declared.joiner.JoinState.TheVariants.{Waiting, Again}
-use Rattle.jc_inflight.specs.Joining.{belongs_to, waits_for}
+use Rattle.jc_inflight.specs.Joining.{belongs_to, waits_for, waits}
 use Rattle.jc_inflight.specs.Dissolving.{after_dissolve}
 use Rattle.jc_inflight.proofs.CallerLemmas.{calls-after_dissolve, count-cons}
 use Rattle.jc_stripe.specs.Polled.{Polled}
 use Rattle.jc_stripe.specs.Polled as polled
 use Rattle.jc_stripe.specs.declared.ticket.First.{First}
 use Rattle.jc_stripe.specs.Tickets.{JoinClaim}
-use Rattle.jc_stripe.specs.State.{State, is_of as is_own_key, is_reserved, new_reservation, with_reservation, without_key, waits, promised, IsOut}
+use Rattle.jc_stripe.specs.State.{State, is_of as is_own_key, is_reserved, new_reservation, with_reservation, without_key, promised, IsOut}
 use Rattle.jc_stripe.specs.Refusals.{first_asked, load_joined}
 use Rattle.jc_stripe.specs.OrderOfUse.{by_use}
 use Rattle.jc_stripe.specs.Phases.{MayBegin, with_joiner, Withdraws, after_withdrawal, PicksUp, without_joiner, is_other_join}

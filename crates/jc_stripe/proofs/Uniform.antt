@@ -66,7 +66,7 @@ others_begun other old new caller key op (first.Done done) differs h = others_do
 others_begun other old new caller key op (first.Asks ticket) differs h = ap (λ (s : State). own_steps other s) h.5
 others_begun other old new caller key op (first.Joined join) differs h =
     ap (λ (s : State). own_steps other s) h.3
-    ∙ own-parked other old.joiners (joining.with_joiner join.caller join.key join.load old.joiners) old.history (λ c k e. parked-joined join.caller join.load join.key old.joiners c k)
+    ∙ own-parked other old.joiners (joining.joiners_with join.caller join.key join.load old.joiners) old.history (λ c k e. parked-joined join.caller join.load join.key old.joiners c k)
 
 pub next_begun : (old new : State) (caller : Caller) (key : Bytes) (op : Op) (begun : Begun) → Begins old caller key op begun new → old.next ≤ new.next
 next_begun old new caller key op (first.Refused refusal) h = let n = ap (λ (s : State). s.next) h.1 in omega arith
@@ -120,7 +120,7 @@ uniform_withdrawn session old new reached b =
 others_left : (other : ℕ) (old new : State) (join : JoinClaim) → (other == join.caller.session) ≡ false → new ≡ without_joiner old join → own_steps other new ≡ own_steps other old
 others_left other old new join differs is =
     ap (λ (s : State). own_steps other s) is
-    ∙ own-parked other old.joiners (taking.without_joiner join.caller join.key old.joiners) old.history
+    ∙ own-parked other old.joiners (taking.joiners_without join.caller join.key old.joiners) old.history
     (λ c k e. parked-without join.caller join.key old.joiners c k (ap (λ t. t == join.caller.session) (eqb-true c.session other e) ∙ differs))
 
 others_picked : (other : ℕ) (old new : State) (join : JoinClaim) (picked : Polled) → (other == join.caller.session) ≡ false → PicksUp old join picked new → own_steps other new ≡ own_steps other old

@@ -151,7 +151,7 @@ uniform_reservations session old new reached phase =
 abbrev others_joined : ℕ → List Joiner → List JoinClaim
 others_joined session js = filter (λ j. is_of_others session j.caller) (map join_claim js)
 
-joined_pushed : (session : ℕ) (caller : Caller) (key : Bytes) (load : ℕ) (js : List Joiner) → caller.session ≡ session → others_joined session (joining.with_joiner caller key load js) ≡ others_joined session js
+joined_pushed : (session : ℕ) (caller : Caller) (key : Bytes) (load : ℕ) (js : List Joiner) → caller.session ≡ session → others_joined session (joining.joiners_with caller key load js) ≡ others_joined session js
 joined_pushed session caller key load [] own = ap (λ b. cond b (record { caller = caller; key = key; load = load } ∷ []) []) (mine_not session caller.session own)
 joined_pushed session caller key load (j ∷ js) own = ap (λ rest. cond (is_of_others session j.caller) (join_claim j ∷ rest) rest) (joined_pushed session caller key load js own)
 
@@ -172,11 +172,11 @@ claims_dissolved load (j ∷ js) =
       | false ↦ ap (λ x. join_claim j ∷ x) rest
     ]
 
-joined_without : (session : ℕ) (caller : Caller) (key : Bytes) (js : List Joiner) → caller.session ≡ session → others_joined session (taking.without_joiner caller key js) ≡ others_joined session js
+joined_without : (session : ℕ) (caller : Caller) (key : Bytes) (js : List Joiner) → caller.session ≡ session → others_joined session (taking.joiners_without caller key js) ≡ others_joined session js
 joined_without session caller key [] own = refl
 joined_without session caller key (j ∷ js) own =
     let rest = joined_without session caller key js own in
-    elim (belongs_to caller key j) as (λ b. belongs_to caller key j ≡ b → others_joined session (cond (not b) (j ∷ taking.without_joiner caller key js) (taking.without_joiner caller key js)) ≡ others_joined session (j ∷ js)) [
+    elim (belongs_to caller key j) as (λ b. belongs_to caller key j ≡ b → others_joined session (cond (not b) (j ∷ taking.joiners_without caller key js) (taking.joiners_without caller key js)) ≡ others_joined session (j ∷ js)) [
       | true ↦ λ e.
           let mine : j.caller.session ≡ session = eqb-true j.caller.session caller.session (joiners_call caller key j e).session ∙ own in
           rest ∙ ap (λ b. cond b (join_claim j ∷ others_joined session js) (others_joined session js)) (sym (mine_not session j.caller.session mine))

@@ -137,7 +137,7 @@ pub record Steps (old : State) (caller : Caller) (key : Bytes) (op : Op) (out : 
 -- 4. The first phase.
 
 abbrev pub with_joiner : State → JoinClaim → State
-with_joiner old join = record old { joiners = joining.with_joiner join.caller join.key join.load old.joiners }
+with_joiner old join = record old { joiners = joining.joiners_with join.caller join.key join.load old.joiners }
 
 -- the step of a get that found this value, at this place: nobody is evicted
 abbrev pub hit_done : ℕ → Bytes → StepDone
@@ -187,7 +187,7 @@ Withdraws old r new = IsOut old r × (new ≡ after_withdrawal old r)
 
 -- the join is over
 abbrev pub without_joiner : State → JoinClaim → State
-without_joiner old join = record old { joiners = taking.without_joiner join.caller join.key old.joiners }
+without_joiner old join = record old { joiners = taking.joiners_without join.caller join.key old.joiners }
 
 -- the event at a place is the join's own step, which names the step that loaded
 abbrev pub IsSharedStep : State → JoinClaim → Reply → ℕ → ℕ → Type 0

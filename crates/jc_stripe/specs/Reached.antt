@@ -35,7 +35,8 @@ use Rattle.jc_inflight.specs.declared.joiner.Joiner.{Joiner}
 use Rattle.jc_inflight.specs.declared.joiner.JoinState.{JoinState}
 use Rattle.jc_inflight.specs.declared.joiner.JoinState.TheVariants.{Waiting, Answered, Again}
 use Rattle.jc_stripe.specs.declared.ticket.Reservation.{Reservation}
-use Rattle.jc_stripe.specs.State.{State, is_of, is_key, waits, promised, reservation_of}
+use Rattle.jc_inflight.specs.Joining.{waits}
+use Rattle.jc_stripe.specs.State.{State, is_of, is_key, promised, reservation_of}
 use Rattle.jc_stripe.specs.Refusals.{first_asked, load_at}
 use Rattle.jc_stripe.specs.OrderOfUse.{by_use}
 use Rattle.jc_stripe.specs.Generations.{IsChain}

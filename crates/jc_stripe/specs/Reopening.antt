@@ -3,7 +3,7 @@
 --     all_entries       the entries that these stripes cache, stripe by stripe
 --     shares_key        whether a key is cached in both stripes
 --     some_share_key    whether two of these stripes share a key
---     belongs_to        whether an entry is of the stripe with this number, in this shape
+--     belongs_to_stripe whether an entry is of the stripe with this number, in this shape
 --     entries_for       the entries of the stripe with this number, in their order
 --     kept              the entries that this stripe opens with: its first ones, as many as it has room for
 --     is_full_behind    whether the stripe of a key has as many entries as it has room for among these
@@ -11,8 +11,8 @@
 --     dropped           the entries that are dropped
 --     opened_stripe     the stripe with this number, in which nothing has happened: it opens with these entries
 --     opened_stripes    a number of such stripes, numbered from a first number on, each with the entries that it keeps
---     KeepsOrDrops      the entries that all these stripes open with, and the dropped ones, are the given entries in another
---                       order: none is lost, and none is there more often than it was given
+--     KeepsOrDrops      the entries that all these stripes open with, and the dropped ones, are the given entries in another order:
+--                       none is lost, and none is there more often than it was given
 use Rattle.std.specs.Prelude.{◌≡◌, ◌==◌, ℕ, zero, suc, ◌+◌, List, [], ◌∷◌, ◌++◌, filter, length, take, Bool, false, not, ◌||◌, Ok, nat_le, if◌then◌else◌}
 use Rattle.std.specs.List.{list_any}
 use Rattle.std.specs.List.Sorted.{IsPermutation}
@@ -47,11 +47,11 @@ some_share_key (state ∷ states) = list_any (shares_key state) states || some_s
 
 -- 3. The entries that are kept.
 
-abbrev pub belongs_to : Config → ℕ → Bytes × Bytes → Bool
-belongs_to config number entry = stripe_of entry.0 config.stripes == number
+abbrev pub belongs_to_stripe : Config → ℕ → Bytes × Bytes → Bool
+belongs_to_stripe config number entry = stripe_of entry.0 config.stripes == number
 
 abbrev pub entries_for : Config → ℕ → List (Bytes × Bytes) → List (Bytes × Bytes)
-entries_for config number entries = filter (belongs_to config number) entries
+entries_for config number entries = filter (belongs_to_stripe config number) entries
 
 abbrev pub kept : Config → ℕ → List (Bytes × Bytes) → List (Bytes × Bytes)
 kept config number entries = take config.capacity (entries_for config number entries)

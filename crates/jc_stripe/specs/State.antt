@@ -2,8 +2,8 @@
 --     Generation          a generation that has ended
 --     State               the stripe as a caller sees it
 --     is_of               whether a key is of this stripe
---     waits               whether a joiner waits for its load
---     promised            the reserved room in the history: `STEP_PLACES` for each reservation, `HIT_PLACES` for each joiner that waits
+--     promised            the reserved room in the history: `STEP_PLACES` for each reservation, `HIT_PLACES` for each joiner that
+--                         waits
 --     is_key              whether a reservation is of this key
 --     is_reserved         whether a key is reserved
 --     reservation_of      the reservation of a key, if it has one
@@ -25,7 +25,7 @@ use Rattle.jc_model.specs.declared.event.Op.{Op}
 use Rattle.jc_model.specs.declared.event.Event.{Event}
 use Rattle.jc_model.specs.Cache.{Bytes, Cache}
 use Rattle.jc_inflight.specs.declared.joiner.Joiner.{Joiner}
-use Rattle.jc_inflight.specs.Joining.{waits as is_waiter, belongs_to}
+use Rattle.jc_inflight.specs.Joining.{waits, belongs_to}
 use Rattle.jc_outside.specs.declared.done.Origin.{Origin}
 use Rattle.jc_stripe.specs.declared.ticket.First.{First}
 use Rattle.jc_stripe.specs.declared.ticket.Reservation.{Reservation}
@@ -53,9 +53,6 @@ abbrev pub is_of : State → Bytes → Bool
 is_of state key = stripe_of key state.config.stripes == state.stripe
 
 -- 1. Reserved room in the history.
-
-abbrev pub waits : Joiner → Bool
-waits j = is_waiter j
 
 -- a reservation keeps room for its commit, and a joiner that waits for its shared step
 abbrev pub promised : State → ℕ

@@ -9,12 +9,12 @@
 ghost use Rattle.std.specs.Prelude.{◌≡◌, ◌≤◌, ◌<◌, ◌+◌, ◌^◌, ◌↔◌, [], false, IsTrue, IfOk, IfSome, MatchBool, is_some, count_by, length, map, nat_le, option_map};
 ghost use Rattle.std.specs.Bool.{OnTrue, OnFalse};
 ghost use Rattle.jc_types.specs.declared.limits.TheConstants.{RESERVATIONS_MAX, JOINERS_MAX, LAST_NUMBER};
-ghost use Rattle.jc_reserve.specs.Reserving.{is_held, reservation_at, CanReserve, with_reservation, without_reservation};
+ghost use Rattle.jc_reserve.specs.Reserving.{is_held, reservation_at, CanReserve, table_with, table_without};
 ghost use Rattle.jc_reserve.specs.IsReservationTable.{IsReservationTable};
-ghost use Rattle.jc_inflight.specs.Joining.{has_joined, waits_for, with_joiner};
+ghost use Rattle.jc_inflight.specs.Joining.{has_joined, waits_for, joiners_with};
 ghost use Rattle.jc_inflight.specs.Resolving.{after_resolve};
 ghost use Rattle.jc_inflight.specs.Dissolving.{after_dissolve};
-ghost use Rattle.jc_inflight.specs.Taking.{join_state_of, after_take};
+ghost use Rattle.jc_inflight.specs.Taking.{join_state_of, joiners_after_take};
 ghost use Rattle.jc_inflight.specs.IsJoinerList.{IsJoinerList};
 ghost use Rattle.jc_stripe.specs.declared.ticket.Reservation.{Reservation};
 
@@ -72,7 +72,7 @@ impl StripeReservations {
         requires { reservation.now.number ≡ self.old.next }
         ensures can { IsTrue (is_some result) ↔ CanReserve (λ (x : Reservation). x.key) self.old reservation.now.key }
         ensures number { IfSome result (λ number. number ≡ self.old.next) }
-        ensures table { MatchBool (is_some result) (self.new ≡ with_reservation self.old reservation.now) (self.new ≡ self.old) }
+        ensures table { MatchBool (is_some result) (self.new ≡ table_with self.old reservation.now) (self.new ≡ self.old) }
     {
         self.only[0].reserve(reservation)
     }
@@ -89,7 +89,7 @@ impl StripeReservations {
     /// bytes each. That takes time only if many are out.
     pub(crate) fn release(&mut self, key: &Key) -> bool
         ensures found { result ≡ is_held (λ (x : Reservation). x.key) self.old key.now }
-        ensures released { self.new ≡ without_reservation (λ (x : Reservation). x.key) self.old key.now }
+        ensures released { self.new ≡ table_without (λ (x : Reservation). x.key) self.old key.now }
     {
         self.only[0].release(key)
     }
@@ -173,7 +173,7 @@ impl StripeJoiners {
     pub(crate) fn join(&mut self, caller: Caller, key: &Key, load: u64) -> bool
         requires { has_joined caller key.now self.old ≡ false }
         ensures room { IsTrue result ↔ (length self.old < JOINERS_MAX) }
-        ensures joined { OnTrue result (self.new ≡ with_joiner caller key.now load self.old) }
+        ensures joined { OnTrue result (self.new ≡ joiners_with caller key.now load self.old) }
         ensures full { OnFalse result (self.new ≡ self.old) }
     {
         self.only[0].join(caller, key, load)
@@ -207,7 +207,7 @@ impl StripeJoiners {
     /// The state of the load that a call has joined at a key. If the load is over, the joiner is removed.
     pub(crate) fn take(&mut self, caller: Caller, key: &Key) -> Option<JoinState>
         ensures state { result ≡ join_state_of caller key.now self.old }
-        ensures left { self.new ≡ after_take caller key.now self.old }
+        ensures left { self.new ≡ joiners_after_take caller key.now self.old }
     {
         self.only[0].take(caller, key)
     }

@@ -7,7 +7,7 @@ use Rattle.std.specs.FinMap as map
 use Rattle.std.proofs.lemmas.Bool.{le-leb, lt-leb}
 use Rattle.std.proofs.lemmas.List.{length-append}
 use Rattle.jc_model.specs.Listed.{has_distinct_keys}
-use Rattle.jc_stripe.specs.Reopening.{entries_of, all_entries, belongs_to, entries_for, kept, is_full_behind, dropped_behind, dropped}
+use Rattle.jc_stripe.specs.Reopening.{entries_of, all_entries, belongs_to_stripe, entries_for, kept, is_full_behind, dropped_behind, dropped}
 use Rattle.jc_world.proofs.Lemmas.{split, tied}
 
 abbrev Entries : Type 0
@@ -52,9 +52,9 @@ module _ (config : Config) (key : Bytes) where
   room_less there (suc room) h = omega arith
 
   -- one entry more in front
-  own_more : (before : Entries) (e : Bytes × Bytes) (b : Bool) → belongs_to config number e ≡ b → length (own (before ++ e ∷ [])) ≡ length (own before) + cond b 1 0
-  own_more before e true is = ap length (filter-append (belongs_to config number) before (e ∷ []) ∙ ap (λ b. own before ++ cond b (e ∷ []) []) is) ∙ length-append (own before) (e ∷ [])
-  own_more before e false is = ap length (filter-append (belongs_to config number) before (e ∷ []) ∙ ap (λ b. own before ++ cond b (e ∷ []) []) is) ∙ length-append (own before) []
+  own_more : (before : Entries) (e : Bytes × Bytes) (b : Bool) → belongs_to_stripe config number e ≡ b → length (own (before ++ e ∷ [])) ≡ length (own before) + cond b 1 0
+  own_more before e true is = ap length (filter-append (belongs_to_stripe config number) before (e ∷ []) ∙ ap (λ b. own before ++ cond b (e ∷ []) []) is) ∙ length-append (own before) (e ∷ [])
+  own_more before e false is = ap length (filter-append (belongs_to_stripe config number) before (e ∷ []) ∙ ap (λ b. own before ++ cond b (e ∷ []) []) is) ∙ length-append (own before) []
 
   abbrev nothing : Entries
   nothing = []
@@ -104,11 +104,11 @@ module _ (config : Config) (key : Bytes) where
       let rest : (next : ℕ) → HasRoom (length (own (before ++ e ∷ []))) next → map.find key_cmp key (take next (own es)) ≡ left (before ++ e ∷ []) es = λ next has. found_kept_from next (before ++ e ∷ []) es parts.1 has in
       split key e.0 (λ b. map.find key_cmp key (take room (own (e ∷ es))) ≡ left before (e ∷ es))
       (λ same.
-      let is : belongs_to config number e ≡ true = eq-eqb (stripe_of e.0 config.stripes) number (ap (λ k. stripe_of k config.stripes) (sym same)) in
+      let is : belongs_to_stripe config number e ≡ true = eq-eqb (stripe_of e.0 config.stripes) number (ap (λ k. stripe_of k config.stripes) (sym same)) in
       let none : map.find key_cmp key es ≡ None = ap (λ k. map.find key_cmp k es) same ∙ none_is (map.find key_cmp e.0 es) parts.0 in
       ap (λ b. map.find key_cmp key (take room (cond b (e ∷ own es) (own es)))) is ∙ own_entry room before e es same none has)
       (λ apart.
-      elim (belongs_to config number e) as (λ b. belongs_to config number e ≡ b → map.find key_cmp key (take room (cond b (e ∷ own es) (own es))) ≡ left (before ++ e ∷ []) es) [
+      elim (belongs_to_stripe config number e) as (λ b. belongs_to_stripe config number e ≡ b → map.find key_cmp key (take room (cond b (e ∷ own es) (own es))) ≡ left (before ++ e ∷ []) es) [
         | true ↦ λ is. taken_other room before e es apart has (own_more before e true is) rest
         | false ↦ λ is. rest room (subst (λ n. HasRoom n room) (sym (own_more before e false is ∙ add-zero (length (own before)))) has)
       ] refl
@@ -123,10 +123,10 @@ module _ (config : Config) (key : Bytes) where
 
 -- 3. All entries.
 
-missing_own : (config : Config) (key : Bytes) (n : ℕ) (es : Entries) → list_all (belongs_to config n) es ≡ true → (stripe_of key config.stripes ≡ n → ⊥) → map.find key_cmp key es ≡ None
+missing_own : (config : Config) (key : Bytes) (n : ℕ) (es : Entries) → list_all (belongs_to_stripe config n) es ≡ true → (stripe_of key config.stripes ≡ n → ⊥) → map.find key_cmp key es ≡ None
 missing_own config key n [] own other = refl
 missing_own config key n (e ∷ es) own other =
-    let parts = and_parts (belongs_to config n e) (list_all (belongs_to config n) es) own in
+    let parts = and_parts (belongs_to_stripe config n e) (list_all (belongs_to_stripe config n) es) own in
     split key e.0 (λ b. cond b (Some e.1) (map.find key_cmp key es) ≡ None)
     (λ same. absurd (other (ap (λ k. stripe_of k config.stripes) same ∙ eqb-true (stripe_of e.0 config.stripes) n parts.0)))
     (λ apart. missing_own config key n es parts.1 other)
@@ -147,9 +147,9 @@ or_none (Some x) = refl
 abbrev AreStripes : Config → ℕ → List State → Type 0
 AreStripes config n stripes = (i : ℕ) (s : State) → slice_get stripes i ≡ Some s → IsReached s × (s.config ≡ config) × (s.stripe ≡ n + i)
 
-first_own : (config : Config) (n : ℕ) (s : State) → IsReached s × (s.config ≡ config) × (s.stripe ≡ n + 0) → list_all (belongs_to config n) (entries_of s) ≡ true
+first_own : (config : Config) (n : ℕ) (s : State) → IsReached s × (s.config ≡ config) × (s.stripe ≡ n + 0) → list_all (belongs_to_stripe config n) (entries_of s) ≡ true
 first_own config n s (reached, shape, number) =
-    subst (λ (x : Config × ℕ). list_all (belongs_to x.0 x.1) (entries_of s) ≡ true) (λ i. (shape i, (number ∙ add-zero n) i)) reached.used.own
+    subst (λ (x : Config × ℕ). list_all (belongs_to_stripe x.0 x.1) (entries_of s) ≡ true) (λ i. (shape i, (number ∙ add-zero n) i)) reached.used.own
 
 others : (config : Config) (n : ℕ) (s : State) (ss : List State) → AreStripes config n (s ∷ ss) → AreStripes config (n + 1) ss
 others config n s ss at i t h = let r = at (suc i) t h in (r.0, r.1, (let e = r.2 in omega arith))

@@ -8,7 +8,7 @@ use Rattle.jc_model.specs.Cache.{Bytes}
 use Rattle.jc_model.specs.Listed.{has_distinct_keys}
 use Rattle.jc_entries.specs.ByUse.{ByUse}
 use Rattle.jc_stripe.specs.Reached.{IsReached}
-use Rattle.jc_stripe.specs.Reopening.{belongs_to, kept, opened_stripe}
+use Rattle.jc_stripe.specs.Reopening.{belongs_to_stripe, kept, opened_stripe}
 use Rattle.jc_stripe.proofs.Kept.{kept_once, kept_own, read_list}
 use Rattle.jc_stripe.proofs.Opened.{opened_next}
 use Rattle.jc_stripe.proofs.reopening.reopen.Goals as goal
@@ -32,7 +32,7 @@ open_with-requires-clause-own c =
     let n : ℕ = c.loop-number.number in
     let there = c.in_ok-lists.ensures.lists n c.loop-number-test.true in
     let is : c.deref.result.now ≡ kept config n entries = c.deref.ensures.value ∙ read_list contents c.in_ok-lists.field-0.lists.items n c.index.result.now (kept config n entries) there c.index.ensures in
-    ap (λ (e : ByUse). list_all (belongs_to config n) e.list) c.in_ok-contents.ensures ∙ ap (list_all (belongs_to config n)) is ∙ kept_own config n entries
+    ap (λ (e : ByUse). list_all (belongs_to_stripe config n) e.list) c.in_ok-contents.ensures ∙ ap (list_all (belongs_to_stripe config n)) is ∙ kept_own config n entries
 
 pub loop-number-preserved : goal.loop-number-preserved
 loop-number-preserved c =

@@ -1,7 +1,7 @@
 use Rattle.std.proofs.Common.{Some, position, subst, sym, ap, ◌∙◌, get_or}
 use Rattle.jc_inflight.specs.declared.joiner.Joiner.{Joiner}
 use Rattle.jc_inflight.specs.Joining.{belongs_to, is_waiting}
-use Rattle.jc_inflight.specs.Taking.{join_state_of, after_take}
+use Rattle.jc_inflight.specs.Taking.{join_state_of, joiners_after_take}
 use Rattle.jc_inflight.specs.IsJoinerList.{IsJoinerList}
 use Rattle.jc_inflight.proofs.CallerLemmas.{after_take_over, after_take_waiting, after_take_nobody}
 use Rattle.jc_inflight.proofs.JoinerList.{IsJoinerList-without, state_at_place, remove_joiner, state_nowhere}
@@ -16,7 +16,7 @@ pub returns-in_err-place-clause-left : goal.returns-in_err-place-clause-left
 returns-in_err-place-clause-left c =
     let none = ap (position (belongs_to c.args.caller c.args.key.now)) (sym c.deref.ensures.0) ∙ sym c.place_of.ensures ∙ c.in_err-place.was in
     let nobody = state_nowhere c.args.caller c.args.key.now c.self.inside.joiners.items none in
-    sym c.self.view_is ∙ sym (after_take_nobody c.args.caller c.args.key.now c.self.inside.joiners.items nobody) ∙ ap (after_take c.args.caller c.args.key.now) c.self.view_is
+    sym c.self.view_is ∙ sym (after_take_nobody c.args.caller c.args.key.now c.self.inside.joiners.items nobody) ∙ ap (joiners_after_take c.args.caller c.args.key.now) c.self.view_is
 
 pub returns-then-not-is_waiting-clause-state : goal.returns-then-not-is_waiting-clause-state
 returns-then-not-is_waiting-clause-state c =
@@ -42,7 +42,7 @@ returns-then-not-is_waiting-clause-left c =
     let state = state_at_place c.args.caller c.args.key.now c.self.inside.joiners.items c.in_ok-place.place j at is in
     let over = ap (λ (x : Joiner). is_waiting x.state) c.index-deref-place.is ∙ sym c.is_waiting.ensures ∙ c.if-not-is_waiting.true in
     c.remove.ensures.items ∙ remove_joiner c.args.caller c.args.key.now c.self.inside.joiners.items c.in_ok-place.place c.self.invariant.list at
-    ∙ sym (after_take_over c.args.caller c.args.key.now c.self.inside.joiners.items j.state state over) ∙ ap (after_take c.args.caller c.args.key.now) c.self.view_is
+    ∙ sym (after_take_over c.args.caller c.args.key.now c.self.inside.joiners.items j.state state over) ∙ ap (joiners_after_take c.args.caller c.args.key.now) c.self.view_is
 
 pub returns-else-not-is_waiting-clause-left : goal.returns-else-not-is_waiting-clause-left
 returns-else-not-is_waiting-clause-left c =
@@ -52,7 +52,7 @@ returns-else-not-is_waiting-clause-left c =
     let state = state_at_place c.args.caller c.args.key.now c.self.inside.joiners.items c.in_ok-place.place j at is in
     let waiting = ap (λ (x : Joiner). is_waiting x.state) c.index-deref-place.is ∙ sym c.is_waiting.ensures ∙ c.if-not-is_waiting.false in
     sym c.self.view_is ∙ sym (after_take_waiting c.args.caller c.args.key.now c.self.inside.joiners.items j.state state waiting)
-    ∙ ap (after_take c.args.caller c.args.key.now) c.self.view_is
+    ∙ ap (joiners_after_take c.args.caller c.args.key.now) c.self.view_is
 
 pub invariant_of-self : goal.invariant_of-self
 invariant_of-self c =

@@ -10,8 +10,8 @@ loop-key-init g c = record { loads = λ result after end it. it; room = refl }
 pub loop-key-preserved : goal.loop-key-preserved
 loop-key-preserved g c =
     record {
-      loads = loads_more g.Self.Load.loads g.Self.Load.load_state c.args.self.now c.loop-key.self c.load.new.self c.args.keys.now c.loop-key.key-index c.key-item.result c.args.answers.now.by_key c.loop-key.answers.by_key c.put_found.new.answers.by_key _
-          c.loop-key-test.true c.key-item.is c.loop-key.invariant.loads c.in-Ok.ensures c.put_found.ensures.found;
+      loads = loads_more g.Self.Load.loads g.Self.Load.load_state c.args.self.now c.loop-key.self c.load.new.self c.args.keys.now c.loop-key.key-index c.key-item.result c.args.answers.now.by_key c.loop-key.answers.by_key c.put_found.new.self.by_key _
+          c.loop-key-test.true c.key-item.is c.loop-key.invariant.loads c.in-Ok.ensures c.put_found.ensures.answers;
       room = c.put_found.ensures.room ∙ c.loop-key.invariant.room;
     }
 

@@ -1,6 +1,6 @@
 use Rattle.std.proofs.Common.{sym, ◌∙◌, ap, subst, position, remove, map, is_some}
 use Rattle.jc_reserve.specs.Table.{Table}
-use Rattle.jc_reserve.specs.Reserving.{has_key, without_reservation}
+use Rattle.jc_reserve.specs.Reserving.{has_key, table_without}
 use Rattle.jc_reserve.specs.Inside.{table_of}
 use Rattle.jc_reserve.specs.IsReservationTable.{IsReservationTable}
 use Rattle.jc_types.proofs.CallerLemmas.{map-remove, is_some_position}
@@ -25,7 +25,7 @@ returns-clause-released g c =
     let key_of = g.R.Reserved.key in
     let at = ap (λ (t : Table g.row.R.Denot). position (has_key key_of key) t.held) c.self.view_is ∙ sym c.place_of.ensures.place ∙ c.in-Some.is in
     let held = c.remove-2.ensures.items ∙ without_place key_of g.R.Reserved.number (table_of c.self.inside) key c.in-Some.place c.self.invariant.table at in
-    (λ i. record { held = held i; next = c.self.inside.next }) ∙ ap (λ (t : Table g.row.R.Denot). without_reservation key_of t key) c.self.view_is
+    (λ i. record { held = held i; next = c.self.inside.next }) ∙ ap (λ (t : Table g.row.R.Denot). table_without key_of t key) c.self.view_is
 
 pub invariant_of-self : goal.invariant_of-self
 invariant_of-self g c =

@@ -14,7 +14,7 @@ use Rattle.jc_stripe.specs.Inside.{state_of}
 use Rattle.jc_stripe.specs.Life.{Life}
 use Rattle.jc_stripe.specs.OrderOfUse.{by_use}
 use Rattle.jc_stripe.specs.Reached.{IsReached}
-use Rattle.jc_stripe.specs.State.{waits}
+use Rattle.jc_inflight.specs.Joining.{waits}
 use Rattle.jc_stripe.proofs.Tables.{reached_start}
 use Rattle.jc_stripe.proofs.stripe.Stripe.make.Goals as goal
 

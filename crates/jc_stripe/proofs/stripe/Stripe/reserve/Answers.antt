@@ -30,10 +30,10 @@ asked : (c : goal.After-new) → c.write_first_asked.new.first ≡ first_asked c
 asked c = c.write_first_asked.ensures ∙ ap (λ (s : State). first_asked s.config c.args.op.now c.args.entry.now) c.self.view_is
 
 table_is : (c : goal.After-new)
-    → c.reserve.new.self ≡ reserving.with_reservation c.self.inside.reservations (new_reservation (state_of c.self.inside) c.args.caller c.args.key.now c.args.op.now c.write_first_asked.new.first)
+    → c.reserve.new.self ≡ reserving.table_with c.self.inside.reservations (new_reservation (state_of c.self.inside) c.args.caller c.args.key.now c.args.op.now c.write_first_asked.new.first)
 table_is c =
     let Reserves : Reservation → Type 0 = λ r. (IsTrue (is_some c.reserve.result) ↔ CanReserve (λ (x : Reservation). x.key) c.self.inside.reservations r.key)
-    × MatchBool (is_some c.reserve.result) (c.reserve.new.self ≡ reserving.with_reservation c.self.inside.reservations r) (c.reserve.new.self ≡ c.self.inside.reservations) in
+    × MatchBool (is_some c.reserve.result) (c.reserve.new.self ≡ reserving.table_with c.self.inside.reservations r) (c.reserve.new.self ≡ c.self.inside.reservations) in
     let same : c.deref.result.now ≡ claim c =
     c.deref.ensures ∙ ap (λ (r : Reservation). record { caller = r.caller; key = r.key; op = r.op; number = r.number; first = c.write_first_asked.new.first }) c.set_call.ensures in
     let reserves = subst Reserves same (c.reserve.ensures.can, c.reserve.ensures.table) in

@@ -19,7 +19,7 @@ unreachable-requires c =
 pub invariant_of-self : goal.invariant_of-self
 invariant_of-self c =
     pick_sound c.self.inside c.args.join.now c.take.new.self c.in-Some.state c.self.invariant (heard c)
-    (c.take.ensures.left ∙ (λ i. taking.after_take (c.caller.ensures i) (c.key.ensures i) c.self.inside.joiners))
+    (c.take.ensures.left ∙ (λ i. taking.joiners_after_take (c.caller.ensures i) (c.key.ensures i) c.self.inside.joiners))
 
 pub returns-clause-step : goal.returns-clause-step
 returns-clause-step c =
