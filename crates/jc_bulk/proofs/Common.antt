@@ -43,8 +43,8 @@ pub use Rattle.jc_rounds.specs.declared.bulk_call.BulkCall.{BulkCall}
 pub use Rattle.jc_rounds.specs.declared.load_call.SpentLoads.{SpentLoads}
 pub use Rattle.jc_rounds.specs.declared.progress.KeyProgress.{KeyProgress}
 pub use Rattle.jc_stripe.proofs.CallerLemmas.{keys_once, keys_own, none_twice}
-pub use Rattle.jc_stripe.specs.Refusals.{first_asked, first_by, reserves, writer_for}
-pub use Rattle.jc_stripe.specs.Tickets.{Claim, TicketClaim, asks_loader, asks_processor, asks_writer, change_asked, claim_of}
+pub use Rattle.jc_stripe.specs.Refusals.{first_asked, first_by, reserves}
+pub use Rattle.jc_stripe.specs.Tickets.{Claim, TicketClaim, asks_loader, asks_processor, asks_writer, change_asked, claim_of, writer_for}
 pub use Rattle.jc_stripe.specs.declared.ticket.First.{First}
 pub use Rattle.jc_stripe.specs.declared.ticket.First.TheVariants.{Loader, Nobody, Processor, Writer}
 pub use Rattle.jc_stripe.specs.declared.ticket.Reservation.{Reservation}

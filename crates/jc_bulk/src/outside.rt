@@ -1,6 +1,7 @@
 //! The one call outside that a bulk call makes for all keys that a round has reserved.
 ghost use Rattle.std.specs.Prelude.{◌≡◌, ◌≤◌, ◌+◌, ◌-◌, ◌<◌, ◌++◌, ◌∷◌, ℕ, [], false, length, map, vec_capacity, IfNone, IfOk, IfSome, IsSome};
 ghost use Rattle.jc_model.specs.Batches.{is_among};
+ghost use Rattle.jc_stripe.specs.Tickets.{change_asked};
 ghost use Rattle.jc_cache.specs.Sessions.{HasAsked};
 ghost use Rattle.jc_rounds.specs.OutsideCalls.{asked_keys};
 ghost use Rattle.jc_rounds.specs.Rounds.{writer_failure};
@@ -88,8 +89,8 @@ impl OutsideCall {
     /// Conditions: there is room; the ask is of this kind; no other ask has its key.
     fn push(&mut self, ask: Ask)
         requires room { 0 < self.old.room }
-        requires kind { fits_kind self.old.kind ask.change }
-        requires new { is_among (asked_keys self.old.items) ask.reservation.key ≡ false }
+        requires kind { fits_kind self.old.kind (change_asked ask.asked) }
+        requires new { is_among (asked_keys self.old.items) ask.key ≡ false }
         ensures { self.new ≡ with_ask self.old ask }
     {
         match &mut self.of {

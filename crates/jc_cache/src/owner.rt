@@ -17,7 +17,7 @@ use crate::cache::Cache;
 use jc_lock::{HistLock, Seat};
 use jc_outside::{CacheLoader, CacheWriter};
 use jc_session::{Agent, Session, SessionFault};
-use jc_stripe::{Origin, Reopened, Stripe, reopen};
+use jc_stripe::{Origin, ReopenedStripes, Stripe, reopen};
 use jc_types::{Config, Key, Refusal, SESSIONS_MAX, Value};
 use std::alloc::{AllocError, Global};
 use std::marker::Model;
@@ -106,7 +106,7 @@ pub(crate) fn open_with(
     ensures { IfOk result (λ r. OpensWith lives config.now entries.now r.0
         × (r.1.items ≡ dropped config.now entries.now)) }
 {
-    let Reopened {
+    let ReopenedStripes {
         mut stripes,
         dropped,
     } = reopen(alloc, config, Origin::Live, entries)?;

@@ -46,7 +46,7 @@ module _ {I J : Type 0} {D : I → Type 0} {E : J → Type 0}
     reservation = ap (λ (t : TicketClaim). t.reservation) spent;
     answered = subst (λ (t : TicketClaim). IsAnswered t (Loaded done)) (sym spent) (first, d.ask ∙ is, d.origin);
     loader = subst (λ b. MatchBool b (LoadsOnce (boxed loads) (boxed load_state) old.hands.outside.loader ticket.reservation.key done.answer new.hands.outside.loader) (new.hands.outside.loader ≡ old.hands.outside.loader)) (sym d.given)
-        (subst (λ (a : Claim). LoadsOnce (boxed loads) (boxed load_state) old.hands.outside.loader a.reservation.key done.answer new.hands.outside.loader) is d.loader);
+        (subst (λ (a : Claim). LoadsOnce (boxed loads) (boxed load_state) old.hands.outside.loader a.key done.answer new.hands.outside.loader) is d.loader);
     writer = λ wanted same. d.writer;
     process = refl;
     types = (d.loader_type, ap (λ w. option_map (λ b. b.vtable) w) d.writer);
@@ -63,7 +63,7 @@ module _ {I J : Type 0} {D : I → Type 0} {E : J → Type 0}
     loader = d.loader;
     writer = λ wanted same. subst (λ b. MatchBool b (WritesOnce (boxed writes) (boxed write_state) old.hands.outside.writer ticket.reservation.key wanted done.answer new.hands.outside.writer) (new.hands.outside.writer ≡ old.hands.outside.writer)) (sym d.given)
         (subst (λ (c : Option Change). WritesOnce (boxed writes) (boxed write_state) old.hands.outside.writer ticket.reservation.key c done.answer new.hands.outside.writer) (sym (same first))
-        (subst (λ (a : Claim). WritesOnce (boxed writes) (boxed write_state) old.hands.outside.writer a.reservation.key a.change done.answer new.hands.outside.writer) is d.writer));
+        (subst (λ (a : Claim). WritesOnce (boxed writes) (boxed write_state) old.hands.outside.writer a.key (change_asked a.asked) done.answer new.hands.outside.writer) is d.writer));
     process = refl;
     types = (ap (λ l. option_map (λ b. b.vtable) l) d.loader, d.writer_type);
     held = d.held;

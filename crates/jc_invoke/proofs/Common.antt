@@ -41,5 +41,5 @@ pub use Rattle.jc_rounds.specs.declared.answers.RoundAnswers.{RoundAnswers}
 pub use Rattle.jc_rounds.specs.declared.bulk_call.BulkCall.{BulkCall}
 pub use Rattle.jc_rounds.specs.declared.progress.KeyProgress.{KeyProgress}
 pub use Rattle.jc_session.specs.declared.agent.Agent.{Agent}
-pub use Rattle.jc_stripe.specs.Tickets.{Claim, TicketClaim, asks_processor, claim_of, entry_seen, id_of, is_loadable}
+pub use Rattle.jc_stripe.specs.Tickets.{Claim, TicketClaim, asks_processor, change_asked, claim_of, entry_seen, is_loadable, report_claim, writer_for}
 pub use Rattle.jc_stripe.specs.declared.ticket.Reservation.{Reservation}

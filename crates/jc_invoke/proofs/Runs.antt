@@ -7,7 +7,7 @@
 --     changes_are              what is asked for, as changes of keys
 --     has_writer               there is a writer if anything is asked for
 --     rest_on                  two calls outside leave all of a session but its hands
-use Rattle.jc_invoke.proofs.Common.{Session, RunBehavior, RunsEach, RunsOne, batch_changes, is_among, Bytes, Change, ProcessResult, RunState, claim_after, claims_after, done_of, is_change_of, key_run, reservations_of, reserved_keys, asked_keys, wanted, KeyRun, change_of, Claim, claim_of, entry_seen, id_of, is_loadable, Reservation, ◌≡◌, ◌==◌, ◌||◌, ◌++◌, ℕ, List, [], ◌∷◌, map, Bool, true, false, Option, None, Some, IsSome, if◌then◌else◌, refl, sym, ap, subst, ◌∙◌, nat_list_eq_equiv, map-append, pointwise, AllByRecursion, IsDistinct, cons_option}
+use Rattle.jc_invoke.proofs.Common.{Session, RunBehavior, RunsEach, RunsOne, batch_changes, is_among, Bytes, Change, ProcessResult, RunState, claim_after, claims_after, done_of, is_change_of, key_run, reservations_of, reserved_keys, asked_keys, wanted, KeyRun, change_of, Claim, claim_of, change_asked, entry_seen, is_loadable, report_claim, writer_for, Reservation, ◌≡◌, ◌==◌, ◌||◌, ◌++◌, ℕ, List, [], ◌∷◌, map, Bool, true, false, Option, None, Some, IsSome, if◌then◌else◌, refl, sym, ap, subst, ◌∙◌, nat_list_eq_equiv, map-append, pointwise, AllByRecursion, IsDistinct, cons_option}
 use Rattle.std.proofs.lemmas.Map.Keys.{IsDistinct-head, IsDistinct-tail}
 use Rattle.jc_outside.specs.declared.done.Origin.TheVariants.{Live}
 use Rattle.jc_mutentry.specs.Running.{LoadsIfGiven, RunsOnce}
@@ -23,13 +23,13 @@ module _ {P L W : Type 0} (behavior : RunBehavior L W P) (args : List Bytes) whe
 
   -- a run of a ticket's reservation
   pub one_of : (run : RunState) (r : Reservation) (ask : Claim) (p q : P) (l m : Option L) → run.reservation ≡ r → ask ≡ claim_of r
-      → RunsOnce behavior.processes behavior.process_state p ask.reservation.key args (is_loadable ask.reservation.first) (entry_seen ask.reservation.first) run.load run.process q
-      → LoadsIfGiven behavior.loads behavior.load_state l ask.reservation.key run.load m → RunsOne behavior args p l (key_run run) q m
+      → RunsOnce behavior.processes behavior.process_state p ask.key args (is_loadable ask.asked) (entry_seen ask.asked) run.load run.process q
+      → LoadsIfGiven behavior.loads behavior.load_state l ask.key run.load m → RunsOne behavior args p l (key_run run) q m
   one_of run r ask p q l m same is once load =
       let asks : ask ≡ claim_of run.reservation = is ∙ ap claim_of (sym same) in
       record {
-        run_is = subst (λ (x : Claim). RunsOnce behavior.processes behavior.process_state p x.reservation.key args (is_loadable x.reservation.first) (entry_seen x.reservation.first) run.load run.process q) asks once;
-        load_is = subst (λ (x : Claim). LoadsIfGiven behavior.loads behavior.load_state l x.reservation.key run.load m) asks load;
+        run_is = subst (λ (x : Claim). RunsOnce behavior.processes behavior.process_state p x.key args (is_loadable x.asked) (entry_seen x.asked) run.load run.process q) asks once;
+        load_is = subst (λ (x : Claim). LoadsIfGiven behavior.loads behavior.load_state l x.key run.load m) asks load;
       }
 
   pub runs_push : (runs runs' : List RunState) (run : RunState) (p q r : P) (l m n : Option L) → runs' ≡ runs ++ run ∷ [] → RunsEach behavior args p l (map key_run runs) q m
@@ -58,7 +58,7 @@ all_at P [] r rest all = all.0
 all_at P (x ∷ runs) r rest all = all_at P runs r rest all.1
 
 among_head : (b : Bool) (key : Bytes) (x : Reservation) (ch : Option Change) (claims : List Claim) → pointwise ◌==◌ key x.key ≡ false → is_among (asked_keys claims) key ≡ false
-    → is_among (asked_keys (cons_option (if b then Some (record { reservation = id_of x; change = ch }) else None) claims)) key ≡ false
+    → is_among (asked_keys (cons_option (if b then Some (report_claim x ch) else None) claims)) key ≡ false
 among_head true key x ch claims apart rest = λ i. apart i || rest i
 among_head false key x ch claims apart rest = rest
 
@@ -71,9 +71,13 @@ new_claim through deletes (x ∷ runs) r rest d =
 
 -- 3. A round.
 
+for_writer : (change : Option Change) → change_asked (writer_for change) ≡ change
+for_writer None = refl
+for_writer (Some change) = refl
+
 changes_head : (b : Bool) (r : Reservation) (ch : Option Change) (claims : List Claim) (changes : List (Bytes × Option Change)) → wanted claims ≡ changes
-    → wanted (cons_option (if b then Some (record { reservation = id_of r; change = ch }) else None) claims) ≡ cons_option (if b then Some (r.key, ch) else None) changes
-changes_head true r ch claims changes is = ap (λ cs. (r.key, ch) ∷ cs) is
+    → wanted (cons_option (if b then Some (report_claim r ch) else None) claims) ≡ cons_option (if b then Some (r.key, ch) else None) changes
+changes_head true r ch claims changes is = ap (λ (c : Option Change). (r.key, c) ∷ wanted claims) (for_writer ch) ∙ ap (λ cs. (r.key, ch) ∷ cs) is
 changes_head false r ch claims changes is = is
 
 pub changes_are : (through deletes : Bool) (runs : List RunState) → wanted (claims_after through deletes runs) ≡ batch_changes through deletes (map key_run runs)

@@ -36,7 +36,7 @@ use Rattle.jc_mutentry.specs.Done.{ProcessResult}
 use Rattle.jc_stripe.specs.Effects.{HasReport, report_answer}
 use Rattle.jc_stripe.specs.declared.ticket.First.{First}
 use Rattle.jc_stripe.specs.declared.ticket.Reservation.{Reservation}
-use Rattle.jc_stripe.specs.Tickets.{Claim, asks_loader, asks_processor, asks_writer, claim_of, entry_seen, id_of, is_loadable}
+use Rattle.jc_stripe.specs.Tickets.{Claim, asks_loader, asks_processor, asks_writer, claim_of, entry_seen, is_loadable, report_claim}
 use Rattle.jc_session.specs.declared.counts.Counted.TheVariants.{Committed}
 use Rattle.jc_session.specs.declared.session.Session.{Session}
 use Rattle.jc_cache.specs.Caches.{CacheState}
@@ -48,7 +48,7 @@ use Rattle.jc_rounds.specs.Rounds.{IsAnswer, KeyRun, LoadAll, ProcessAll, Proces
 use Rattle.jc_rounds.specs.Seats.{view_of}
 
 abbrev pub asked_key : Claim → Bytes
-asked_key ask = ask.reservation.key
+asked_key ask = ask.key
 
 -- 1. Runs of a processor.
 
@@ -79,7 +79,7 @@ is_change_of deletes (Some Delete) = deletes
 
 abbrev pub claim_after : Bool → Bool → RunState → Option Claim
 claim_after through deletes run =
-    if is_change_of deletes (change_of through (key_run run)) then Some (record { reservation = id_of run.reservation; change = change_of through (key_run run) }) else None
+    if is_change_of deletes (change_of through (key_run run)) then Some (report_claim run.reservation (change_of through (key_run run))) else None
 
 abbrev pub claims_after : Bool → Bool → List RunState → List Claim
 claims_after through deletes runs = filter_map (claim_after through deletes) runs

@@ -28,7 +28,7 @@ use Rattle.jc_outside.specs.Calling.{KeepsType}
 use Rattle.jc_outside.specs.CallingAll.{LoadAllRelation, DeleteAllRelation, LoadsAllOnce, WriteAllRelation, WritesAllOnce, asked_changes, loads_done, writes_done}
 use Rattle.jc_outside.specs.Done.{LoadResult, WriteResult}
 use Rattle.jc_session.specs.Boxed.{boxed}
-use Rattle.jc_stripe.specs.Tickets.{Claim}
+use Rattle.jc_stripe.specs.Tickets.{Claim, change_asked}
 use Rattle.jc_session.specs.declared.session.Session.{Session}
 use Rattle.jc_rounds.specs.declared.load_call.SpentLoads.{SpentLoads}
 use Rattle.jc_rounds.specs.Answers.{asked_key}
@@ -37,7 +37,7 @@ abbrev pub asked_keys : List Claim → List Bytes
 asked_keys asks = map asked_key asks
 
 abbrev pub wanted : List Claim → List (Bytes × Option Change)
-wanted asks = asked_changes asked_key (λ (a : Claim). a.change) asks
+wanted asks = asked_changes asked_key (λ (a : Claim). change_asked a.asked) asks
 
 abbrev pub is_delete : Batch → Bool
 is_delete (Writes batch) = false

@@ -51,7 +51,7 @@ impl LoadCall {
     /// Conditions: there is room; no other ask has its key.
     pub fn push(&mut self, ask: Ask)
         requires room { 0 < self.old.room }
-        requires new { is_among (asked_keys self.old.items) ask.reservation.key ≡ false }
+        requires new { is_among (asked_keys self.old.items) ask.key ≡ false }
         ensures { self.new ≡ with_load self.old ask }
     {
         self.batch.insert(*ask.key());

@@ -2,6 +2,7 @@
 ghost use Rattle.std.specs.Prelude.{◌≡◌, ◌++◌, ◌∷◌, ◌-◌, ◌<◌, [], map, true, false, Some, IfOk, IsSome};
 ghost use Rattle.jc_model.specs.Batches.{is_among};
 ghost use Rattle.jc_batch.specs.Changes.{changes_of};
+ghost use Rattle.jc_stripe.specs.Tickets.{change_asked};
 ghost use Rattle.jc_cache.specs.Sessions.{HasAsked, HoldsNothing};
 ghost use Rattle.jc_rounds.specs.Answers.{is_change_of};
 ghost use Rattle.jc_rounds.specs.OutsideCalls.{WriteCallAsked, asked_keys, batch_room, is_delete, no_writes, with_write};
@@ -82,8 +83,8 @@ impl WriteCall {
     /// Conditions: there is room; the ask's change is of this call's kind; no other ask has its key.
     pub fn push(&mut self, ask: Ask)
         requires room { 0 < self.old.room }
-        requires kind { is_change_of self.old.deletes ask.change ≡ true }
-        requires new { is_among (asked_keys self.old.items) ask.reservation.key ≡ false }
+        requires kind { is_change_of self.old.deletes (change_asked ask.asked) ≡ true }
+        requires new { is_among (asked_keys self.old.items) ask.key ≡ false }
         ensures { self.new ≡ with_write self.old ask }
     {
         insert_change(&mut self.batch, *ask.key(), ask.change());

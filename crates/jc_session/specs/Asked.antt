@@ -18,7 +18,7 @@ use Rattle.jc_outside.specs.Done.{LoadResult, WriteResult}
 use Rattle.jc_outside.specs.declared.done.Origin.TheVariants.{Live}
 use Rattle.jc_mutentry.specs.Done.{ProcessResult}
 use Rattle.jc_mutentry.specs.Running.{ProcessRelation, RunsOnce, LoadsIfGiven}
-use Rattle.jc_stripe.specs.Tickets.{Claim, entry_seen, is_loadable}
+use Rattle.jc_stripe.specs.Tickets.{Claim, change_asked, entry_seen, is_loadable}
 use Rattle.jc_session.specs.Boxed.{boxed}
 use Rattle.jc_session.specs.declared.agent.Agent.{Agent}
 
@@ -30,7 +30,7 @@ pub record LoaderAsked
   pub ask : done.ask ≡ asked
   pub origin : done.origin ≡ Live
   pub given : is_load_given done.answer ≡ true
-  pub loader : LoadsOnce (boxed loads) (boxed load_state) old.hands.outside.loader asked.reservation.key done.answer new.hands.outside.loader
+  pub loader : LoadsOnce (boxed loads) (boxed load_state) old.hands.outside.loader asked.key done.answer new.hands.outside.loader
   pub loader_type : KeepsType old.hands.outside.loader new.hands.outside.loader
   pub writer : new.hands.outside.writer ≡ old.hands.outside.writer
   pub held : new.hands.held ≡ 0
@@ -42,7 +42,7 @@ pub record WriterAsked
   pub ask : done.ask ≡ asked
   pub origin : done.origin ≡ Live
   pub given : is_write_given done.answer ≡ true
-  pub writer : WritesOnce (boxed writes) (boxed write_state) old.hands.outside.writer asked.reservation.key asked.change done.answer new.hands.outside.writer
+  pub writer : WritesOnce (boxed writes) (boxed write_state) old.hands.outside.writer asked.key (change_asked asked.asked) done.answer new.hands.outside.writer
   pub writer_type : KeepsType old.hands.outside.writer new.hands.outside.writer
   pub loader : new.hands.outside.loader ≡ old.hands.outside.loader
   pub held : new.hands.held ≡ 0
@@ -55,8 +55,8 @@ pub record ProcessorRun
   pub ask : done.ask ≡ asked
   pub origin : done.origin ≡ Live
   pub given : is_process_given done.process ≡ true
-  pub run : RunsOnce processes process_state processor asked.reservation.key args (is_loadable asked.reservation.first) (entry_seen asked.reservation.first) done.load done.process processor'
-  pub loader : LoadsIfGiven (boxed loads) (boxed load_state) old.hands.outside.loader asked.reservation.key done.load new.hands.outside.loader
+  pub run : RunsOnce processes process_state processor asked.key args (is_loadable asked.asked) (entry_seen asked.asked) done.load done.process processor'
+  pub loader : LoadsIfGiven (boxed loads) (boxed load_state) old.hands.outside.loader asked.key done.load new.hands.outside.loader
   pub loader_type : KeepsType old.hands.outside.loader new.hands.outside.loader
   pub processor_type : processor'.vtable ≡ processor.vtable
   pub writer : new.hands.outside.writer ≡ old.hands.outside.writer
@@ -70,7 +70,7 @@ pub record LoaderAskedAll
     (old : Agent I J D E) (asks : List Claim) (keys : List Bytes) (before after : List (LoadResult Claim)) (new : Agent I J D E) : Type 0 where
   pub said : Bytes → LoadAnswer
   pub loader : LoadsAllOnce (boxed loads_all) (boxed load_state) old.hands.outside.loader keys said new.hands.outside.loader
-  pub done : after ≡ before ++ loads_done (λ (ask : Claim). ask.reservation.key) said asks
+  pub done : after ≡ before ++ loads_done (λ (ask : Claim). ask.key) said asks
   pub loader_type : KeepsType old.hands.outside.loader new.hands.outside.loader
   pub writer : new.hands.outside.writer ≡ old.hands.outside.writer
   pub held : new.hands.held ≡ 0
@@ -81,7 +81,7 @@ pub record WriterAskedAll
     (old : Agent I J D E) (asks : List Claim) (batch : Batch) (returned : Result (Unit {0}) ℕ) (before after : List (WriteResult Claim)) (new : Agent I J D E) : Type 0 where
   pub said : Bytes → WriteAnswer
   pub writer : WritesAllOnce (boxed writes_all) (boxed deletes_all) (boxed write_state) old.hands.outside.writer batch returned said new.hands.outside.writer
-  pub done : after ≡ before ++ writes_done (λ (ask : Claim). ask.reservation.key) said asks
+  pub done : after ≡ before ++ writes_done (λ (ask : Claim). ask.key) said asks
   pub writer_type : KeepsType old.hands.outside.writer new.hands.outside.writer
   pub loader : new.hands.outside.loader ≡ old.hands.outside.loader
   pub held : new.hands.held ≡ 0

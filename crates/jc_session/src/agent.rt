@@ -1,7 +1,7 @@
 //! Agents: a session without its seats.
 ghost use Rattle.std.specs.Prelude.{◌≡◌, max, true, is_some, IsSome, IfSome, IfNone};
 ghost use Rattle.jc_stripe.specs.State.{State};
-ghost use Rattle.jc_stripe.specs.Tickets.{asks_loader, asks_processor};
+ghost use Rattle.jc_stripe.specs.Tickets.{asks_loader, asks_processor, change_asked};
 ghost use Rattle.jc_stripe.specs.Renewal.{StaysOrRenews};
 ghost use Rattle.jc_session.specs.Asked.{LoaderAsked, WriterAsked, ProcessorRun};
 ghost use Rattle.jc_session.specs.Counting.{one_more, call_before, IsCounted};
@@ -217,10 +217,10 @@ impl Agent {
     ///
     /// It may wait, as long as the loader does.
     ///
-    /// Conditions: the agent holds no stripe, and the ask's reservation asks the loader first.
+    /// Conditions: the agent holds no stripe, and the ask is of the loader.
     pub fn ask_loader<R: Wait>(&mut self, rt: &R, ask: Ask) -> LoadDone<Ask>
         requires held { self.old.hands.held ≡ 0 }
-        requires first { asks_loader ask.reservation.first ≡ true }
+        requires first { asks_loader ask.asked ≡ true }
         ensures { LoaderAsked loads load_state self.old ask result self.new }
     {
         call_loader(rt, &mut self.hands, ask)
@@ -233,7 +233,7 @@ impl Agent {
     /// Conditions: the agent holds no stripe, and has a writer; the ask has a change.
     pub fn ask_writer<R: Wait>(&mut self, rt: &R, ask: Ask) -> WriteDone<Ask>
         requires held { self.old.hands.held ≡ 0 }
-        requires change { is_some ask.change ≡ true }
+        requires change { is_some (change_asked ask.asked) ≡ true }
         requires writer { IsSome self.old.hands.outside.writer }
         ensures { WriterAsked writes write_state self.old ask result self.new }
     {
@@ -246,7 +246,7 @@ impl Agent {
     ///
     /// It may wait, as long as the processor and the loader do.
     ///
-    /// Conditions: the agent holds no stripe, and the ask's reservation asks the processor first.
+    /// Conditions: the agent holds no stripe, and the ask is of the processor.
     pub fn run_processor<R: Wait>(
         &mut self,
         rt: &R,
@@ -255,7 +255,7 @@ impl Agent {
         args: &[Value],
     ) -> ProcDone<Ask>
         requires held { self.old.hands.held ≡ 0 }
-        requires first { asks_processor ask.reservation.first ≡ true }
+        requires first { asks_processor ask.asked ≡ true }
         ensures { ProcessorRun loads load_state processes process_state
             self.old ask args.now processor.old result self.new processor.new }
     {

@@ -14,7 +14,8 @@ use Rattle.jc_model.specs.Table.{answers_fit, always_if, wanted_if, load_fits, e
 use Rattle.jc_model.specs.Group.{load_only, write_only, nothing_said}
 use Rattle.jc_stripe.specs.declared.ticket.First.{First}
 use Rattle.jc_stripe.specs.declared.ticket.First.TheVariants.{Nobody, Loader, Writer, Processor}
-use Rattle.jc_stripe.specs.Refusals.{first_asked, first_by, is_wanted, writer_for}
+use Rattle.jc_stripe.specs.Refusals.{first_asked, first_by, is_wanted}
+use Rattle.jc_stripe.specs.Tickets.{writer_for}
 use Rattle.jc_stripe.specs.Appending.{AnswersFirst, AnswersProcess, is_write_due}
 
 -- a writer's request is none of the loader's

@@ -18,7 +18,8 @@ use Rattle.jc_model.specs.Group.{nothing_said}
 use Rattle.jc_stripe.specs.declared.ticket.First.{First}
 use Rattle.jc_stripe.specs.declared.ticket.First.TheVariants.{Nobody, Loader}
 use Rattle.jc_stripe.specs.State.{State, is_key, is_reserved, reservation_of, promised}
-use Rattle.jc_stripe.specs.Refusals.{first_asked, first_by, first_refusal, full_refusal, needs_free_key, may_join, has_room, last_number, load_at, load_joined, needs_reservation, answers_at_once, places_needed, reserves, writer_for}
+use Rattle.jc_stripe.specs.Refusals.{first_asked, first_by, first_refusal, full_refusal, needs_free_key, may_join, has_room, last_number, load_at, load_joined, needs_reservation, answers_at_once, places_needed, reserves}
+use Rattle.jc_stripe.specs.Tickets.{writer_for}
 use Rattle.jc_types.proofs.CallerLemmas.{found_any}
 use Rattle.jc_stripe.specs.declared.ticket.Reservation.{Reservation}
 

@@ -16,7 +16,7 @@ use Rattle.jc_outside.specs.Done.{WriteResult}
 use Rattle.jc_mutentry.specs.Done.{ProcessResult}
 use Rattle.jc_mutentry.specs.Done as processed
 use Rattle.jc_stripe.specs.declared.ticket.Reservation.{Reservation}
-use Rattle.jc_stripe.specs.Tickets.{Claim, id_of}
+use Rattle.jc_stripe.specs.Tickets.{Claim, report_claim}
 
 abbrev pub change_due : Config → ProcessResult Claim → Option Change
 change_due config done = if config.write_through then processed.effect_change done.load done.process else None
@@ -25,7 +25,7 @@ abbrev pub HasReport : Origin → Reservation → Option Change → Option (Writ
 HasReport origin r None None = Unit {0}
 HasReport origin r None (Some report) = ⊥
 HasReport origin r (Some change) None = ⊥
-HasReport origin r (Some change) (Some report) = (report.ask ≡ record { reservation = id_of r; change = Some change }) × (report.origin ≡ origin)
+HasReport origin r (Some change) (Some report) = (report.ask ≡ report_claim r (Some change)) × (report.origin ≡ origin)
 
 abbrev pub report_answer : Option (WriteResult Claim) → WriteAnswer
 report_answer None = NotAsked

@@ -1,5 +1,4 @@
 -- The partner that a first phase asks, and its refusals.
---     writer_for           the writer, for a change that is asked for
 --     first_by             whom a call without a processor asks first: the loader, if the loader table asks it, otherwise the
 --                          writer
 --     is_wanted            the loader table leaves it to the processor whether its key is loaded
@@ -38,13 +37,10 @@ use Rattle.jc_model.specs.Table.{op_kind, loader_ask, write_ask, is_invoke}
 use Rattle.jc_stripe.specs.declared.ticket.First.{First}
 use Rattle.jc_stripe.specs.declared.ticket.First.TheVariants.{Nobody, Loader, Writer, Processor}
 use Rattle.jc_stripe.specs.declared.ticket.Reservation.{Reservation}
+use Rattle.jc_stripe.specs.Tickets.{writer_for}
 use Rattle.jc_stripe.specs.State.{State, is_reserved, reservation_of, promised}
 
 -- 1. Whom a call asks first.
-
-abbrev pub writer_for : Option Change → First
-writer_for None = Nobody
-writer_for (Some change) = Writer change
 
 -- the loader before the writer
 abbrev pub first_by : LoaderAsk → Option Change → First

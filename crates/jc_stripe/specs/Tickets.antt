@@ -1,10 +1,10 @@
 -- Tickets and joins, as data.
 --     TicketClaim       the ticket of a reservation: the whole reservation, whether the one whom it asks first was asked, and
 --                       whether the writer was asked after a processor
---     ReservationId     a reservation as an ask names it: its key, its number, and whom it asks first
---     Claim             the content of an ask for a reservation, with the change of the store if the writer is asked
---     id_of             a reservation as an ask names it
+--     Claim             the content of an ask for a reservation: the reservation's key and number, and whom the ask is of
 --     claim_of          the content of the first ask for a reservation
+--     writer_for        the ask is of the writer, for this change, or of nobody if there is none
+--     report_claim      the content of a reservation's ask of the writer after its processor, for this change
 --     asks_loader       a reservation asks the loader first
 --     asks_writer       a reservation asks the writer first
 --     asks_processor    a reservation asks the processor first
@@ -25,14 +25,10 @@ pub record TicketClaim : Type 0 where
   pub asked : Bool
   pub writer_asked : Bool  -- after the processor
 
-pub record ReservationId : Type 0 where
+pub record Claim : Type 0 where
   pub key : Bytes
   pub number : ℕ
-  pub first : First
-
-pub record Claim : Type 0 where
-  pub reservation : ReservationId
-  pub change : Option Change
+  pub asked : First  -- the writer after a processor, too
 
 abbrev pub asks_loader : First → Bool
 asks_loader Nobody = false
@@ -58,11 +54,15 @@ change_asked Loader = None
 change_asked (Writer change) = Some change
 change_asked (Processor entry loads) = None
 
-abbrev pub id_of : Reservation → ReservationId
-id_of r = record { key = r.key; number = r.number; first = r.first }
-
 abbrev pub claim_of : Reservation → Claim
-claim_of r = record { reservation = id_of r; change = change_asked r.first }
+claim_of r = record { key = r.key; number = r.number; asked = r.first }
+
+abbrev pub writer_for : Option Change → First
+writer_for None = Nobody
+writer_for (Some change) = Writer change
+
+abbrev pub report_claim : Reservation → Option Change → Claim
+report_claim r change = record { key = r.key; number = r.number; asked = writer_for change }
 
 abbrev pub entry_seen : First → Option Bytes
 entry_seen Nobody = None

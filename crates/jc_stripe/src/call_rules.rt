@@ -3,7 +3,8 @@
 ghost use Rattle.std.specs.Prelude.{◌≡◌, option_map};
 ghost use Rattle.jc_model.specs.Table.{to_change};
 ghost use Rattle.jc_model.specs.declared.event.ProcessAnswer.TheVariants.{NotAsked};
-ghost use Rattle.jc_stripe.specs.Refusals.{answers_at_once, may_join, places_needed, first_asked, is_wanted, writer_for, load_of, reserves, change_for};
+ghost use Rattle.jc_stripe.specs.Refusals.{answers_at_once, may_join, places_needed, first_asked, is_wanted, load_of, reserves, change_for};
+ghost use Rattle.jc_stripe.specs.Tickets.{writer_for};
 ghost use Rattle.jc_stripe.specs.Finding.{is_to_reserve};
 
 use crate::ticket::First;

@@ -32,6 +32,6 @@ pub use begun::{Appended, Eviction, Picked, Started};
 pub use desk::{CommitDone, Desk, FirstAnswer, OpenFault, PickUpAnswer, ValueMoves};
 pub use jc_mutentry::{AskProcess, ProcDone};
 pub use jc_outside::{LoadDone, Origin, WriteDone, played_load, played_write};
-pub use reopening::{Reopened, keeps_or_drops, reopen};
+pub use reopening::{ReopenedStripes, keeps_or_drops, reopen};
 pub use stripe::Stripe;
 pub use ticket::{Ask, First, Join, Reservation, Ticket};

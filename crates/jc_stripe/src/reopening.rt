@@ -13,7 +13,7 @@ use std::alloc::{AllocError, Global};
 
 /// Stripes that were opened with given entries.
 #[derive(Drop)]
-pub struct Reopened {
+pub struct ReopenedStripes {
     /// The stripes, by their numbers.
     pub stripes: Vec<Stripe>,
     /// The entries for which the stripe of their key had no room, in the order in which they were given.
@@ -39,7 +39,7 @@ pub fn reopen(
     config: &Config,
     origin: Origin,
     entries: &[(Key, Value)],
-) -> Result<Reopened, AllocError>
+) -> Result<ReopenedStripes, AllocError>
     requires fits { check config.now ≡ Ok tt }
     requires once { has_distinct_keys entries.now ≡ true }
     ensures stripes { IfOk result (λ r. r.stripes.items ≡ opened_stripes config.now origin entries.now 0 config.now.stripes) }
@@ -52,7 +52,7 @@ pub fn reopen(
         let contents = Entries::of(alloc, config.capacity, &lists[number])?;
         stripes.push_reserved(Stripe::open_with(alloc, config, number, origin, contents)?);
     }
-    Ok(Reopened { stripes, dropped })
+    Ok(ReopenedStripes { stripes, dropped })
 }
 
 /// A law: a reopening loses no entry and doubles none. The entries that all the stripes open with and the dropped ones, together,

@@ -8,7 +8,7 @@
 ghost use Rattle.std.specs.Prelude.{◌≡◌, true, false, Some, is_some};
 ghost use Rattle.jc_mutentry.specs.Done as processed;
 ghost use Rattle.jc_stripe.specs.declared.ticket.First.TheVariants.{Nobody};
-ghost use Rattle.jc_stripe.specs.Tickets.{change_asked, claim_of, entry_seen, id_of};
+ghost use Rattle.jc_stripe.specs.Tickets.{claim_of, entry_seen, report_claim, writer_for};
 
 use jc_model::{Change, Op};
 use jc_mutentry::{AskProcess, ProcDone};
@@ -92,13 +92,13 @@ impl Reservation {
 }
 
 impl First {
-    /// The change of the store that the writer is asked for, if the writer is asked first.
-    fn change(&self) -> Option<Change>
-        ensures { result ≡ change_asked self.now }
+    /// The writer, for a change, or nobody if there is none.
+    fn writer_for(change: Option<Change>) -> Self
+        ensures { result ≡ writer_for change }
     {
-        match self {
-            First::Writer(change) => Some(*change),
-            First::Nobody | First::Loader | First::Processor { .. } => None,
+        match change {
+            Some(change) => First::Writer(change),
+            None => First::Nobody,
         }
     }
 
@@ -156,8 +156,7 @@ impl Ticket {
         ensures asked { self.new ≡ record self.old { asked = true } }
     {
         self.is_asked = true;
-        let change = self.reservation.first.change();
-        Ask::new(&self.reservation, change)
+        Ask::new(&self.reservation, self.reservation.first)
     }
 
     /// The ask of the writer after the processor: the reservation's key, and the change of the store that is the processor's net
@@ -170,11 +169,11 @@ impl Ticket {
         requires writer { self.old.writer_asked ≡ false }
         requires claim { done.now.ask ≡ claim_of self.old.reservation }
         requires change { is_some (processed.effect_change done.now.load done.now.process) ≡ true }
-        ensures ask { result ≡ record { reservation = id_of self.old.reservation; change = processed.effect_change done.now.load done.now.process } }
+        ensures ask { result ≡ report_claim self.old.reservation (processed.effect_change done.now.load done.now.process) }
         ensures writer_asked { self.new ≡ record self.old { writer_asked = true } }
     {
         self.is_writer_asked = true;
-        Ask::new(&self.reservation, done.change())
+        Ask::new(&self.reservation, First::writer_for(done.change()))
     }
 
     /// Spends the ticket, and returns its box with the reservation.
@@ -192,12 +191,12 @@ impl Ticket {
 
 /// An ask of the loader, the writer or the processor. Only a ticket makes one, and one done value is made of it.
 ///
-/// It has the key, the number and the `first` of its reservation, and no copy of the rest.
+/// It has the key and the number of its reservation, and whom it asks: the one whom the reservation names as the first, or the
+/// writer after a processor.
 pub struct Ask {
     key: Key,
     number: u64,
-    first: First,
-    change: Option<Change>,
+    asked: First,
 }
 
 impl Model for Ask {
@@ -205,28 +204,24 @@ impl Model for Ask {
 
     ghost Value = { Claim };
 
-    ghost view = { λ a. record {
-      reservation = record { key = a.key; number = a.number; first = a.first };
-      change = a.change;
-    } };
+    ghost view = { λ a. record { key = a.key; number = a.number; asked = a.asked } };
 }
 
 impl Ask {
-    /// The ask for a reservation, with the change of the store if the writer is asked.
-    fn new(reservation: &Reservation, change: Option<Change>) -> Self
-        ensures { result ≡ record { reservation = id_of reservation.now; change = change } }
+    /// The ask of this one, for a reservation.
+    fn new(reservation: &Reservation, asked: First) -> Self
+        ensures { result ≡ record { key = reservation.now.key; number = reservation.now.number; asked = asked } }
     {
         Ask {
             key: reservation.key,
             number: reservation.number,
-            first: reservation.first,
-            change,
+            asked,
         }
     }
 }
 
 impl jc_outside::Ask for Ask {
-    ghost key = { λ a. a.reservation.key };
+    ghost key = { λ a. a.key };
 
     fn key(&self) -> &Key {
         &self.key
@@ -236,19 +231,20 @@ impl jc_outside::Ask for Ask {
         let Ask {
             key: _,
             number: _,
-            first: _,
-            change: _,
+            asked: _,
         } = self;
     }
 }
 
 impl AskWrite for Ask {
-    ghost change = { λ a. a.change };
+    ghost use Rattle.jc_stripe.specs.Tickets.{change_asked};
+
+    ghost change = { λ a. change_asked a.asked };
 
     fn change(&self) -> Change {
-        match self.change {
-            Some(change) => change,
-            None => unreachable!(),
+        match self.asked {
+            First::Writer(change) => change,
+            First::Nobody | First::Loader | First::Processor { .. } => unreachable!(),
         }
     }
 }
@@ -256,16 +252,16 @@ impl AskWrite for Ask {
 impl AskProcess for Ask {
     ghost use Rattle.jc_stripe.specs.Tickets.{entry_seen, is_loadable};
 
-    ghost initial = { λ a. entry_seen a.reservation.first };
+    ghost initial = { λ a. entry_seen a.asked };
 
-    ghost may_load = { λ a. is_loadable a.reservation.first };
+    ghost may_load = { λ a. is_loadable a.asked };
 
     fn initial(&self) -> Option<Value> {
-        self.first.entry()
+        self.asked.entry()
     }
 
     fn may_load(&self) -> bool {
-        match self.first {
+        match self.asked {
             First::Processor { entry: _, may_load } => may_load,
             First::Nobody | First::Loader | First::Writer(_) => false,
         }

@@ -13,7 +13,7 @@ use Rattle.jc_model.specs.declared.event.WriteAnswer.TheVariants as write
 use Rattle.jc_outside.specs.Done.{WriteResult}
 use Rattle.jc_outside.specs.declared.done.Origin.{Origin}
 use Rattle.jc_stripe.specs.Effects.{HasReport}
-use Rattle.jc_stripe.specs.Tickets.{id_of}
+use Rattle.jc_stripe.specs.Tickets.{report_claim}
 use Rattle.jc_world.specs.Held.{HasPlayedRun}
 
 -- 1. Of a processor.
@@ -100,7 +100,7 @@ pub given_if : (o : Option Change) (change : Change) (b : Bool) → o ≡ Some c
 given_if (Some x) change b is h = not_false b h
 given_if None change b is h = cc
 
-pub has_report : (origin : Origin) (r : Reservation) (due : Option Change) (change : Change) (report : WriteResult Claim) → due ≡ Some change → report.ask ≡ record { reservation = id_of r; change = due } → report.origin ≡ origin → HasReport origin r due (Some report)
+pub has_report : (origin : Origin) (r : Reservation) (due : Option Change) (change : Change) (report : WriteResult Claim) → due ≡ Some change → report.ask ≡ report_claim r due → report.origin ≡ origin → HasReport origin r due (Some report)
 has_report origin r (Some x) change report is asked from = (asked, from)
 has_report origin r None change report is asked from = cc
 

@@ -79,9 +79,9 @@ pub use Rattle.jc_stripe.specs.OrderOfUse.{by_use, least_used}
 pub use Rattle.jc_stripe.specs.OwnSteps.{may_come_all}
 pub use Rattle.jc_stripe.specs.Phases.{is_other_call, is_other_join, MayBegin, overflows, victim, new_group, Steps, with_joiner, Begins, after_commit, Commits, Withdraws, without_joiner, told_to, PicksUp, polled_with}
 pub use Rattle.jc_stripe.specs.Reached.{AllAsk, JoinFits, AllJoin, are_apart, is_own, IsReached}
-pub use Rattle.jc_stripe.specs.Refusals.{writer_for, first_by, first_asked, reserves, answers_at_once, load_of, load_at, load_joined, needs_free_key, places_needed, first_refusal}
+pub use Rattle.jc_stripe.specs.Refusals.{first_by, first_asked, reserves, answers_at_once, load_of, load_at, load_joined, needs_free_key, places_needed, first_refusal}
 pub use Rattle.jc_stripe.specs.State.{State, is_of, is_key, is_reserved, reservation_of, new_reservation, with_reservation, without_key, without_reservation, IsOut, IsJoined}
-pub use Rattle.jc_stripe.specs.Tickets.{TicketClaim, Claim, claim_of, asks_loader, asks_writer, asks_processor, entry_seen, JoinClaim}
+pub use Rattle.jc_stripe.specs.Tickets.{TicketClaim, Claim, claim_of, asks_loader, asks_writer, asks_processor, entry_seen, JoinClaim, writer_for}
 pub use Rattle.jc_stripe.specs.declared.begun.Picked.{Picked}
 pub use Rattle.jc_stripe.specs.Outcomes.{Begun, StepDone}
 pub use Rattle.jc_stripe.specs.Polled.{Polled}

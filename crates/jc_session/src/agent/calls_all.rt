@@ -2,7 +2,7 @@
 ghost use Rattle.std.specs.Prelude.{◌≡◌, ◌≤◌, ◌+◌, map, IsSome, vec_len, vec_capacity};
 ghost use Rattle.jc_batch.specs.Changes.{changes_of};
 ghost use Rattle.jc_outside.specs.CallingAll.{KeepsLoadRoom, asked_changes};
-ghost use Rattle.jc_stripe.specs.Tickets.{Claim};
+ghost use Rattle.jc_stripe.specs.Tickets.{Claim, change_asked};
 ghost use Rattle.jc_session.specs.Asked.{LoaderAskedAll, WriterAskedAll};
 
 use super::Agent;
@@ -28,7 +28,7 @@ impl Agent {
         done: &mut Vec<LoadDone<Ask>>,
     ) -> LoadBatch
         requires held { self.old.hands.held ≡ 0 }
-        requires batch { batch.items ≡ map (λ (ask : Claim). ask.reservation.key) asks.old.items }
+        requires batch { batch.items ≡ map (λ (ask : Claim). ask.key) asks.old.items }
         requires room { vec_len done.old + vec_len asks.old ≤ vec_capacity done.old }
         ensures asked { LoaderAskedAll loads_all load_state
             self.old asks.old.items batch.items done.old.items done.new.items self.new }
@@ -55,7 +55,7 @@ impl Agent {
         requires held { self.old.hands.held ≡ 0 }
         requires writer { IsSome self.old.hands.outside.writer }
         requires batch { changes_of batch
-            ≡ asked_changes (λ (ask : Claim). ask.reservation.key) (λ (ask : Claim). ask.change) asks.items }
+            ≡ asked_changes (λ (ask : Claim). ask.key) (λ (ask : Claim). change_asked ask.asked) asks.items }
         requires room { vec_len done.old + vec_len asks ≤ vec_capacity done.old }
         ensures asked { WriterAskedAll writes_all deletes_all write_state
             self.old asks.items batch result done.old.items done.new.items self.new }

@@ -8,7 +8,7 @@ ghost use Rattle.jc_model.specs.Listed.{has_distinct_keys};
 use super::script::number;
 use super::{is, pairs};
 use jc_model::legal;
-use jc_stripe::{Origin, Reopened, Stripe, reopen};
+use jc_stripe::{Origin, ReopenedStripes, Stripe, reopen};
 use jc_types::{Config, Key, Value};
 use std::alloc::Global;
 use std::process::Abort;
@@ -99,7 +99,7 @@ fn opens(rt: &impl Abort, alloc: Global, row: &str) {
     config.check().expect(rt, words);
     assert!(rt; is_once(rt, alloc, &given), "each key once");
     let reopened = reopen(alloc, &config, Origin::Played, &given);
-    let Reopened { stripes, dropped } = reopened.expect(rt, "memory");
+    let ReopenedStripes { stripes, dropped } = reopened.expect(rt, "memory");
     is(rt, first, stripes.len(), lines.lines().count());
     for (stripe, line) in stripes.iter().zip(lines.lines()) {
         keeps(rt, alloc, stripe, line);

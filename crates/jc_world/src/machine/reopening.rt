@@ -15,7 +15,7 @@ use crate::machine::auditing::is_stored;
 use crate::read_only::ReadOnlyList;
 use crate::stripes::Stripes;
 use jc_model::Contents;
-use jc_stripe::{Origin, Reopened, Stripe, reopen};
+use jc_stripe::{Origin, ReopenedStripes, Stripe, reopen};
 use jc_types::{Config, Key, Value};
 use std::alloc::{AllocError, Global};
 
@@ -30,7 +30,12 @@ impl Machine {
         ensures err { OnErr result (self.new ≡ self.old) }
     {
         let entries = all_entries(self.alloc, self.stripes.items())?;
-        let Reopened { stripes, dropped } = reopen(self.alloc, config, Origin::Played, &entries)?;
+        let ReopenedStripes { stripes, dropped } = reopen(
+            self.alloc,
+            config,
+            Origin::Played,
+            &entries,
+        )?;
         let keys = keys_of(self.alloc, &dropped)?;
         let opened = all_entries(self.alloc, &stripes)?;
         self.config = *config;

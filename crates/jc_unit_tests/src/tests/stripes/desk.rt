@@ -7,7 +7,7 @@ use super::super::reopenings::is_once;
 use super::words::Seen;
 use jc_model::{Op, Out, Reply};
 use jc_stripe::{
-    Appended, First, Join, Origin, Picked, Reopened, Started, Stripe, Ticket, played_load,
+    Appended, First, Join, Origin, Picked, ReopenedStripes, Started, Stripe, Ticket, played_load,
     played_write, reopen,
 };
 use jc_types::{Caller, Config, Key, Value};
@@ -102,7 +102,7 @@ impl Desk {
         config.check().expect(rt, "a shape");
         assert!(rt; is_once(rt, alloc, opening), "each key once");
         let reopened = reopen(alloc, config, Origin::Played, opening);
-        let Reopened {
+        let ReopenedStripes {
             mut stripes,
             dropped,
         } = reopened.expect(rt, "memory");

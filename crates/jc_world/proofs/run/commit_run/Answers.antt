@@ -1,7 +1,7 @@
 use Rattle.jc_world.proofs.Common.{◌≡◌, is_some, Option, Some, None, sym, ap, ◌∙◌, subst, Change, Out, change_due, Commits, IsOut, TicketClaim, Claim, claim_of, asks_processor, Reservation}
 use Rattle.jc_world.proofs.Committing.{change_is, change_some, given_if, has_report, no_report}
 use Rattle.jc_outside.specs.Done.{WriteResult}
-use Rattle.jc_stripe.specs.Tickets.{id_of}
+use Rattle.jc_stripe.specs.Tickets.{report_claim}
 use Rattle.jc_stripe.specs.Effects.{process_out}
 use Rattle.jc_stripe.specs.Phases.{with_reply}
 use Rattle.jc_world.proofs.run.commit_run.Goals as goal
@@ -32,7 +32,7 @@ commit_process-requires c =
     let r : c.ask_writer.new.self.reservation ≡ c.args.ticket.reservation = ap (λ (t : TicketClaim). t.reservation) c.ask_writer.ensures.writer_asked in
     let is : change_due config done ≡ Some c.in-Some.field-0 = change_is config done c.args.progress.now.out c.requires.load c.requires.process ∙ sym c.requires.due ∙ c.in-Some.is in
     let same = change_some config done c.in-Some.field-0 is ∙ sym is in
-    let claim : Reservation → Option Change → Claim = λ r change. record { reservation = id_of r; change = change } in
+    let claim : Reservation → Option Change → Claim = report_claim in
     let asked : written.ask ≡ claim c.ask_writer.new.self.reservation (change_due config done) =
     ap (λ (d : WriteResult Claim). d.ask) c.played_write-written.ensures ∙ c.ask_writer.ensures.ask ∙ (λ i. claim (sym r i) (same i)) in
     record {
