@@ -11,7 +11,7 @@ pub use Rattle.jc_batch.specs.Changes.{changes_of}
 pub use Rattle.jc_batch.specs.declared.batch.Batch.{Batch}
 pub use Rattle.jc_bulk.specs.Bulk.{DoesAll, GetsAll, HasLooked, IsBulkCall, IsLookedAt, LooksOnce, OnlyLooks, OrNoMemory, OrRefused, SweepsAll, TellsDone, TellsFound, causes_of}
 pub use Rattle.jc_bulk.specs.Carrying.{IsRoomOf, IsRoomOfCall}
-pub use Rattle.jc_bulk.specs.Outside.{Answered, AsksAs, BulkBehavior, CallsInRounds, HasOneToAsk, HaveAsked, IsAskedOf, IsRest, IsSpent, IsWrittenOf, MayAskFor, OutsideState, bulk_behavior, fits_first, fits_kind, items_in, no_asks, outside_kind, room_in, wanted_changes, with_ask, write_kind}
+pub use Rattle.jc_bulk.specs.Outside.{Answered, AsksAs, BulkBehavior, CallsInRounds, HasOneToAsk, HaveAsked, IsAskedOf, IsRest, IsSpent, IsWrittenOf, MayAskFor, OutsideState, bulk_behavior, fits_first, items_in, no_asks, outside_kind, room_in, wanted_changes, with_ask, write_kind}
 pub use Rattle.jc_bulk.specs.RoundsRun.{IsOutsideReady, KeysAskAs, RunsOn, TakesNew}
 pub use Rattle.jc_bulk.specs.Targets.{clear_ops, get_ops, load_ops, remove_ops}
 pub use Rattle.jc_bulk.specs.declared.fault.BulkFault.{BulkFault}

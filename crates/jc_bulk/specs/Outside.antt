@@ -4,8 +4,7 @@
 --     write_kind                        the kind of a writer's call, by whether it deletes
 --     no_asks                           an empty call
 --     with_ask                          the call with one ask more
---     fits_kind                         an ask's change is of this kind
---     fits_first                        a reservation asks first whoever calls of this kind ask
+--     fits_first                        this asks whoever calls of this kind ask
 --     HasOneToAsk                       the session has a writer, if calls of this kind ask it
 --     AsksAs                            this operation asks outside by calls of this kind, if it asks at all; a `Clear` asks
 --                                       nobody
@@ -87,11 +86,6 @@ no_asks kind room = record { kind = kind; items = []; room = room }
 
 abbrev pub with_ask : OutsideState → Claim → OutsideState
 with_ask calls ask = record calls { items = calls.items ++ ask ∷ []; room = calls.room - 1 }
-
-abbrev pub fits_kind : OutsideKind → Option Change → Type 0
-fits_kind Load change = Unit {0}
-fits_kind Write change = is_change_of false change ≡ true
-fits_kind Delete change = is_change_of true change ≡ true
 
 abbrev pub fits_first : OutsideKind → First → Bool
 fits_first Load first = asks_loader first

@@ -1,12 +1,11 @@
 //! The one call outside that a bulk call makes for all keys that a round has reserved.
-ghost use Rattle.std.specs.Prelude.{◌≡◌, ◌≤◌, ◌+◌, ◌-◌, ◌<◌, ◌++◌, ◌∷◌, ℕ, [], false, length, map, vec_capacity, IfNone, IfOk, IfSome, IsSome};
+ghost use Rattle.std.specs.Prelude.{◌≡◌, ◌≤◌, ◌+◌, ◌-◌, ◌<◌, ◌++◌, ◌∷◌, ℕ, [], false, true, length, map, vec_capacity, IfNone, IfOk, IfSome, IsSome};
 ghost use Rattle.jc_model.specs.Batches.{is_among};
-ghost use Rattle.jc_stripe.specs.Tickets.{change_asked};
 ghost use Rattle.jc_cache.specs.Sessions.{HasAsked};
 ghost use Rattle.jc_rounds.specs.OutsideCalls.{asked_keys};
 ghost use Rattle.jc_rounds.specs.Rounds.{writer_failure};
 ghost use Rattle.jc_rounds.specs.Ran.{KeepsTickets};
-ghost use Rattle.jc_bulk.specs.Outside.{Answered, IsSpent, MayAskFor, bulk_behavior, fits_kind, no_asks, with_ask};
+ghost use Rattle.jc_bulk.specs.Outside.{Answered, IsSpent, MayAskFor, bulk_behavior, fits_first, no_asks, with_ask};
 ghost use Rattle.jc_bulk.specs.declared.outside.OutsideKind.{OutsideKind as KindState};
 ghost use Rattle.jc_bulk.specs.declared.outside.OutsideKind.TheVariants.{Load as LoadKind};
 
@@ -89,7 +88,7 @@ impl OutsideCall {
     /// Conditions: there is room; the ask is of this kind; no other ask has its key.
     fn push(&mut self, ask: Ask)
         requires room { 0 < self.old.room }
-        requires kind { fits_kind self.old.kind (change_asked ask.asked) }
+        requires kind { fits_first self.old.kind ask.asked ≡ true }
         requires new { is_among (asked_keys self.old.items) ask.key ≡ false }
         ensures { self.new ≡ with_ask self.old ask }
     {

@@ -4,7 +4,7 @@
 --     start_else, start_past                   a key for which there is no room, and one that doesn't wait
 --     commit_noted, commit_from, next_commit, commit_none, commit_past, commit_over    the last phases
 --     pick_noted, pick_from, next_pick, pick_none, pick_past, pick_over              the pick-ups
-use Rattle.jc_rounds.proofs.Common.{◌≡◌, ⊎_elim, inl, inr, ◌≤◌, ◌+◌, ◌++◌, ℕ, List, [], ◌∷◌, length, map, reverse, slice_get, false, true≢false, Some, vec_capacity, vec_len, refl, sym, ap, subst, ◌∙◌, arith, reverse-reverse, Vec, Bytes, Op, JoinClaim, TicketClaim, CacheState, Session, RoundAnswers, BulkCall, KeyProgress, Waiting, Reserved, Joined, AreAnswers, IsCauseIn, IsNoted, StillWaits, failures, holds_reservation, waits_for_joined_load, waits_for_round, IsJoinFor, IsTicketFor, Round, faults_in, view_of, AreHeldBack, AreIn, IsHeldAt, HaveJoined, IsFull, ops_of, Advances, CallPast, HasCommitted, HasNoRoom, HasStarted, IsAnswered, IsBetween, IsCommitting, IsCommittingNext, IsOn, IsPicking, IsPickingNext, IsStarting, KeepsJoined, are_fresh, reserved_by}
+use Rattle.jc_rounds.proofs.Common.{◌≡◌, ⊎_elim, inl, inr, ◌≤◌, ◌+◌, ◌++◌, ℕ, List, [], ◌∷◌, length, map, reverse, slice_get, false, true≢false, Some, vec_capacity, vec_len, refl, sym, ap, subst, ◌∙◌, arith, reverse-reverse, Vec, Bytes, Op, JoinClaim, TicketClaim, CacheState, Session, RoundAnswers, BulkCall, KeyProgress, Waiting, Reserved, Joined, AreAnswers, IsCauseIn, IsNoted, StillWaits, failures, holds_reservation, waits_for_joined_load, waits_for_round, IsJoinFor, IsTicketFor, Round, faults_in, view_of, AreHeldBack, AreIn, IsHeldAt, HaveJoined, IsFull, ops_of, Advances, CallPast, HasCommitted, HasNoRoom, HasStarted, IsAnswered, IsBetween, IsCommitting, IsOn, IsPicking, IsStarting, KeepsJoined, are_fresh, reserved_by}
 use Rattle.jc_rounds.proofs.Failures.{cause_met, keeps_both, keeps_noted, noted_all}
 use Rattle.jc_rounds.proofs.Held.{full_by, full_later, held_next, not_held}
 use Rattle.jc_rounds.proofs.OnCall.{on_by}
@@ -151,7 +151,7 @@ module _ {I J : Type 0} {D : I → Type 0} {E : J → Type 0} where
   }
 
   pub commit_from : (cache : CacheState) (past : CallPast) (round : Round) (session : Session I J D E) (call : BulkCall) (v : Vec TicketClaim) (a : RoundAnswers) → v.items ≡ reverse call.tickets.items → vec_capacity v ≡ vec_capacity call.tickets
-      → IsAnswered cache past round session call a → IsCommitting cache past round session (record call { tickets = v }) a 0
+      → IsAnswered cache past round session call a → IsCommitting cache past round session (record call { tickets = v }) (reverse v.items) a 0
   commit_from cache past round session call v a is room answered =
       let back : call.tickets.items ≡ reverse v.items = sym (ap reverse is ∙ reverse-reverse call.tickets.items) in
       record {
@@ -162,7 +162,7 @@ module _ {I J : Type 0} {D : I → Type 0} {E : J → Type 0} where
       }
 
   pub next_commit : (cache : CacheState) (past : CallPast) (round : Round) (session : Session I J D E) (call : BulkCall) (v : Vec TicketClaim) (t : TicketClaim) (a : RoundAnswers) (place : ℕ) → call.tickets.items ≡ v.items ++ t ∷ [] → vec_capacity v ≡ vec_capacity call.tickets
-      → IsCommitting cache past round session call a place → IsCommittingNext cache past round session (record call { tickets = v }) t a place
+      → IsCommitting cache past round session call (reverse call.tickets.items) a place → IsCommitting cache past round session (record call { tickets = v }) (t ∷ reverse v.items) a place
   next_commit cache past round session call v t a place is room c =
       let first : reverse call.tickets.items ≡ t ∷ reverse v.items = last_first call.tickets.items v.items t is in
       record {
@@ -173,17 +173,17 @@ module _ {I J : Type 0} {D : I → Type 0} {E : J → Type 0} where
       }
 
   -- a key that is reserved has a ticket
-  pub commit_none : (cache : CacheState) (past : CallPast) (round : Round) (session : Session I J D E) (call : BulkCall) (a : RoundAnswers) (place : ℕ) → slice_get call.progress.items place ≡ Some Reserved → call.tickets.items ≡ [] → IsCommitting cache past round session call a place → ⊥
+  pub commit_none : (cache : CacheState) (past : CallPast) (round : Round) (session : Session I J D E) (call : BulkCall) (a : RoundAnswers) (place : ℕ) → slice_get call.progress.items place ≡ Some Reserved → call.tickets.items ≡ [] → IsCommitting cache past round session call (reverse call.tickets.items) a place → ⊥
   commit_none cache past round session call a place there none c =
       let u = c.on.under in
       true≢false (none_in holds_reservation _ (ops_of call.targets.now) call.progress.items u.so_far.many (subst (AreIn holds_reservation (IsTicketFor past.caller cache.config) (ops_of call.targets.now) call.progress.items) (ap (λ ts. map reserved_by (reverse ts)) none) u.calls_are) place Reserved there)
 
   pub commit_past : (cache : CacheState) (past : CallPast) (round : Round) (session : Session I J D E) (call : BulkCall) (a : RoundAnswers) (place : ℕ) (q : KeyProgress) → slice_get call.progress.items place ≡ Some q → holds_reservation q ≡ false
-      → IsCommitting cache past round session call a place → IsCommitting cache past round session call a (place + 1)
+      → IsCommitting cache past round session call (reverse call.tickets.items) a place → IsCommitting cache past round session call (reverse call.tickets.items) a (place + 1)
   commit_past cache past round session call a place q there isnt c =
       record { on = c.on; among = c.among; answered = c.answered; committed = under_next holds_reservation call.progress.items place q there isnt c.committed }
 
-  pub commit_over : (cache : CacheState) (past : CallPast) (round : Round) (session : Session I J D E) (call : BulkCall) (a : RoundAnswers) (place : ℕ) → length call.progress.items ≤ place → IsCommitting cache past round session call a place
+  pub commit_over : (cache : CacheState) (past : CallPast) (round : Round) (session : Session I J D E) (call : BulkCall) (a : RoundAnswers) (place : ℕ) → length call.progress.items ≤ place → IsCommitting cache past round session call (reverse call.tickets.items) a place
       → (call.tickets.items ≡ []) × AreAnswers cache.config round a [] × IsOn cache past session call [] call.joins.items
   commit_over cache past round session call a place end c =
       let u = c.on.under in
@@ -197,7 +197,7 @@ module _ {I J : Type 0} {D : I → Type 0} {E : J → Type 0} where
   -- 4. Pick-ups.
 
   pub pick_from : (cache : CacheState) (past : CallPast) (session : Session I J D E) (call : BulkCall) (v : Vec JoinClaim) → v.items ≡ reverse call.joins.items → vec_capacity v ≡ vec_capacity call.joins
-      → HasCommitted cache past session call → IsPicking cache past session (record call { joins = v }) 0
+      → HasCommitted cache past session call → IsPicking cache past session (record call { joins = v }) (reverse v.items) 0
   pick_from cache past session call v is room has = record {
     on = re_join cache past session call v [] (reverse v.items) room (subst (IsOn cache past session call []) (sym (ap reverse is ∙ reverse-reverse call.joins.items)) has.on);
     no_tickets = has.no_tickets;
@@ -205,22 +205,22 @@ module _ {I J : Type 0} {D : I → Type 0} {E : J → Type 0} where
   }
 
   pub next_pick : (cache : CacheState) (past : CallPast) (session : Session I J D E) (call : BulkCall) (v : Vec JoinClaim) (j : JoinClaim) (place : ℕ) → call.joins.items ≡ v.items ++ j ∷ [] → vec_capacity v ≡ vec_capacity call.joins
-      → IsPicking cache past session call place → IsPickingNext cache past session (record call { joins = v }) j place
+      → IsPicking cache past session call (reverse call.joins.items) place → IsPicking cache past session (record call { joins = v }) (j ∷ reverse v.items) place
   next_pick cache past session call v j place is room c = record {
     on = re_join cache past session call v [] (j ∷ reverse v.items) room (subst (IsOn cache past session call []) (last_first call.joins.items v.items j is) c.on);
     no_tickets = c.no_tickets;
     picked = c.picked;
   }
 
-  pub pick_none : (cache : CacheState) (past : CallPast) (session : Session I J D E) (call : BulkCall) (place : ℕ) → slice_get call.progress.items place ≡ Some Joined → call.joins.items ≡ [] → IsPicking cache past session call place → ⊥
+  pub pick_none : (cache : CacheState) (past : CallPast) (session : Session I J D E) (call : BulkCall) (place : ℕ) → slice_get call.progress.items place ≡ Some Joined → call.joins.items ≡ [] → IsPicking cache past session call (reverse call.joins.items) place → ⊥
   pick_none cache past session call place there none c =
       let u = c.on.under in
       true≢false (none_in waits_for_joined_load _ (ops_of call.targets.now) call.progress.items u.so_far.many (subst (AreIn waits_for_joined_load (λ k o j. IsJoinFor past.caller (view_of cache.config.stripes past.first k) k o j) (ops_of call.targets.now) call.progress.items) (ap reverse none) u.joins_are) place Joined there)
 
-  pub pick_past : (cache : CacheState) (past : CallPast) (session : Session I J D E) (call : BulkCall) (place : ℕ) (q : KeyProgress) → slice_get call.progress.items place ≡ Some q → waits_for_joined_load q ≡ false → IsPicking cache past session call place → IsPicking cache past session call (place + 1)
+  pub pick_past : (cache : CacheState) (past : CallPast) (session : Session I J D E) (call : BulkCall) (place : ℕ) (q : KeyProgress) → slice_get call.progress.items place ≡ Some q → waits_for_joined_load q ≡ false → IsPicking cache past session call (reverse call.joins.items) place → IsPicking cache past session call (reverse call.joins.items) (place + 1)
   pick_past cache past session call place q there isnt c = record { on = c.on; no_tickets = c.no_tickets; picked = under_next waits_for_joined_load call.progress.items place q there isnt c.picked }
 
-  pub pick_over : (cache : CacheState) (past : CallPast) (session : Session I J D E) (call : BulkCall) (place : ℕ) → length call.progress.items ≤ place → IsPicking cache past session call place → (call.joins.items ≡ []) × IsOn cache past session call [] []
+  pub pick_over : (cache : CacheState) (past : CallPast) (session : Session I J D E) (call : BulkCall) (place : ℕ) → length call.progress.items ≤ place → IsPicking cache past session call (reverse call.joins.items) place → (call.joins.items ≡ []) × IsOn cache past session call [] []
   pick_over cache past session call place end c =
       let u = c.on.under in
       let none : reverse call.joins.items ≡ [] = nothing_out waits_for_joined_load _ (ops_of call.targets.now) call.progress.items (reverse call.joins.items) (none_at_all waits_for_joined_load call.progress.items place end c.picked) u.joins_are in

@@ -8,7 +8,7 @@
 --     starting_on, held_by, kept_joined       a first phase
 --     committing_on     a commit
 --     picking_on        a pick-up
-use Rattle.jc_rounds.proofs.Common.{◌≡◌, ◌==◌, ◌⊎◌, inl, inr, ◌<◌, ◌≤◌, ◌+◌, ◌++◌, ℕ, List, [], ◌∷◌, length, map, set, reverse, slice_get, true, false, Option, None, Some, Result, Ok, vec_capacity, vec_len, refl, sym, ap, subst, ◌∙◌, arith, length-append, Vec, IsAmong, IsDistinct, keys_of, pointwise, JOINERS_MAX, RESERVATIONS_MAX, HaveJoined, IsRoomFor, Config, Refusal, is_among, Bytes, Op, Get, Out, Reply, Begun, Polled, Reservation, JoinClaim, TicketClaim, View, counted_begun, counted_polled, Agent, CacheState, Session, RoundAnswers, BulkCall, KeyProgress, Waiting, Reserved, Joined, Ended, AreAnswers, HasAskedSoFar, IsMet, StayEnded, failures, holds_reservation, is_held_back, waits_for_joined_load, HasBegun, HasPicked, IsCommitted, IsEarly, IsJoinFor, IsAnswer, LoadAll, ProcessAll, Round, WriteAll, asked_in, faults_in, keys_asked, AreBefore, HasGrown, view_of, steps_of, Caller, AreSettledFrom, AreUnder, IsHeldAt, IsKept, IsPicked, IsUnderway, KeysAdvance, ops_of, Advances, AdvancesUnnoted, CallPast, HasRoom, IsCommitting, IsCommittingNext, IsFresh, IsOn, IsPicking, IsPickingNext, IsStarting, KeepsJoined, KeepsRoom, are_fresh, reserved_by}
+use Rattle.jc_rounds.proofs.Common.{◌≡◌, ◌==◌, ◌⊎◌, inl, inr, ◌<◌, ◌≤◌, ◌+◌, ◌++◌, ℕ, List, [], ◌∷◌, length, map, set, reverse, slice_get, true, false, Option, None, Some, Result, Ok, vec_capacity, vec_len, refl, sym, ap, subst, ◌∙◌, arith, length-append, Vec, IsAmong, IsDistinct, keys_of, pointwise, JOINERS_MAX, RESERVATIONS_MAX, HaveJoined, IsRoomFor, Config, Refusal, is_among, Bytes, Op, Get, Out, Reply, Begun, Polled, Reservation, JoinClaim, TicketClaim, View, counted_begun, counted_polled, Agent, CacheState, Session, RoundAnswers, BulkCall, KeyProgress, Waiting, Reserved, Joined, Ended, AreAnswers, HasAskedSoFar, IsMet, StayEnded, failures, holds_reservation, is_held_back, waits_for_joined_load, HasBegun, HasPicked, IsCommitted, IsEarly, IsJoinFor, IsAnswer, LoadAll, ProcessAll, Round, WriteAll, asked_in, faults_in, keys_asked, AreBefore, HasGrown, view_of, steps_of, Caller, AreSettledFrom, AreUnder, IsHeldAt, IsKept, IsPicked, IsUnderway, KeysAdvance, ops_of, Advances, AdvancesUnnoted, CallPast, HasRoom, IsCommitting, IsFresh, IsOn, IsPicking, IsStarting, KeepsJoined, KeepsRoom, are_fresh, reserved_by}
 use Rattle.jc_stripe.specs.Outcomes as begun
 use Rattle.jc_session.specs.declared.counts.Counted.{Counted}
 use Rattle.jc_session.specs.declared.counts.Counted.TheVariants.{Committed}
@@ -65,21 +65,21 @@ module _ {I J : Type 0} {D : I → Type 0} {E : J → Type 0} (cache : CacheStat
         subst (λ (w : Caller). AreBefore w session.seats.items) (sym u.caller_is) u.so_far.numbers,
       )
 
-  pub may_commit : (round : Round) (place : ℕ) (ticket : TicketClaim) (a : RoundAnswers) → slice_get call.progress.items place ≡ Some Reserved → IsCommittingNext cache past round session call ticket a place
+  pub may_commit : (round : Round) (place : ℕ) (ticket : TicketClaim) (rest : List TicketClaim) (a : RoundAnswers) → slice_get call.progress.items place ≡ Some Reserved → IsCommitting cache past round session call (ticket ∷ rest) a place
       → MayStep cache session ticket.reservation.key × ((ticket.reservation.caller ≡ session.agent.caller) × IsEarly session.agent.caller)
-  may_commit round place ticket a there next =
+  may_commit round place ticket rest a there next =
       let u = next.on.under in
       let r = ticket.reservation in
-      let t = first_ticket cache past.caller (ops_of call.targets.now) past.rounds past.first session call.progress.items r (map reserved_by (reverse call.tickets.items)) call.joins.items place Waiting there next.committed refl u in (
+      let t = first_ticket cache past.caller (ops_of call.targets.now) past.rounds past.first session call.progress.items r (map reserved_by rest) call.joins.items place Waiting there next.committed refl u in (
         record { own = u.own; none = ap (λ (w : Caller). steps_of w r.key (view_of cache.config.stripes session.seats.items r.key).own) u.caller_is ∙ t.4 },
         (t.2.caller_is ∙ sym u.caller_is, subst IsEarly (sym u.caller_is) t.2.early),
       )
 
-  pub may_pick : (place : ℕ) (join : JoinClaim) → slice_get call.progress.items place ≡ Some Joined → IsPickingNext cache past session call join place
+  pub may_pick : (place : ℕ) (join : JoinClaim) (rest : List JoinClaim) → slice_get call.progress.items place ≡ Some Joined → IsPicking cache past session call (join ∷ rest) place
       → MayStep cache session join.key × ((join.caller ≡ session.agent.caller) × IsEarly session.agent.caller) × (session.agent.counts.reservations ≡ 0)
-  may_pick place join there next =
+  may_pick place join rest there next =
       let u = next.on.under in
-      let t = first_join cache past.caller (ops_of call.targets.now) past.rounds past.first session call.progress.items [] join (reverse call.joins.items) place Waiting there next.picked refl u in (
+      let t = first_join cache past.caller (ops_of call.targets.now) past.rounds past.first session call.progress.items [] join rest place Waiting there next.picked refl u in (
         record { own = u.own; none = ap (λ (w : Caller). steps_of w join.key (view_of cache.config.stripes session.seats.items join.key).own) u.caller_is ∙ t.3 },
         (t.1.caller_is ∙ sym u.caller_is, subst IsEarly (sym u.caller_is) t.1.early),
         u.reservations,
@@ -211,55 +211,54 @@ module _ {I J : Type 0} {D : I → Type 0} {E : J → Type 0} (cache : CacheStat
 
   -- 4. Last phases.
 
-  pub committing_on : (round : Round) (place : ℕ) (ticket : TicketClaim) (reply : Reply) (a a' : RoundAnswers) → later.progress.items ≡ set call.progress.items place (Ended (Ok reply)) → later.tickets.items ≡ call.tickets.items → later.joins.items ≡ call.joins.items
-      → slice_get call.progress.items place ≡ Some Reserved → AreAnswers cache.config round a' (map reserved_by (reverse call.tickets.items))
+  pub committing_on : (round : Round) (place : ℕ) (ticket : TicketClaim) (rest : List TicketClaim) (reply : Reply) (a a' : RoundAnswers) → later.progress.items ≡ set call.progress.items place (Ended (Ok reply)) → later.joins.items ≡ call.joins.items
+      → slice_get call.progress.items place ≡ Some Reserved → AreAnswers cache.config round a' (map reserved_by rest)
       → IsKeyPhase cache old ticket.reservation.key Committed new
       ((out : Out) × IsAnswer cache.config round ticket.reservation.key ticket.reservation.first out
       × IsCommitted cache.config old.agent.caller ticket.reservation out (view_of cache.config.stripes old.seats.items ticket.reservation.key) (view_of cache.config.stripes new.seats.items ticket.reservation.key) reply)
-      → IsCommittingNext cache past round old call ticket a place → IsCommitting cache past round new later a' (place + 1)
-  committing_on round place ticket reply a a' is tickets joins there rest phase next =
+      → IsCommitting cache past round old call (ticket ∷ rest) a place → IsCommitting cache past round new later rest a' (place + 1)
+  committing_on round place ticket rest reply a a' is joins there answered phase next =
       let on = next.on in
       let ops = ops_of call.targets.now in
       let ps = call.progress.items in
       let r = ticket.reservation in
-      let others = map reserved_by (reverse call.tickets.items) in
+      let others = map reserved_by rest in
       let t = first_ticket cache past.caller ops past.rounds past.first old ps r others call.joins.items place (Ended (Ok reply)) there next.committed refl on.under in
       record {
-        on = subst (λ xs. IsOn cache past new later (reverse xs) later.joins.items) (sym tickets) (subst (IsOn cache past new later (reverse call.tickets.items)) (sym joins)
-            (on_by (ticket ∷ reverse call.tickets.items) (reverse call.tickets.items) call.joins.items call.joins.items on
+        on = subst (IsOn cache past new later rest) (sym joins)
+            (on_by (ticket ∷ rest) rest call.joins.items call.joins.items on
             (subst (λ qs. IsUnderway cache past.caller ops past.rounds past.first new qs others call.joins.items) (sym is)
             (committed_on cache past.caller ops past.rounds past.first old new ps r phase.made.0 others call.joins.items place reply round on.distinct there next.committed next.among (asked_next cache.config round a r others next.answered) phase.made.1
             (record { own = phase.own; agent = phase.agent; moves = phase.moves; made = phase.made.2 }) on.under))
             (subst (HasAskedSoFar cache.config ops past.rounds) (sym is) (asked_set cache.config ops past.rounds ps place r.key t.0 Reserved (Ended (Ok reply)) t.1 there (inr refl) on.asked))
-            (subst (λ qs. IsMet call.cause qs (faults_in past.rounds)) (sym is) (met_stay call.cause ps (set ps place (Ended (Ok reply))) (faults_in past.rounds) (stay_set ps place Reserved (Ended (Ok reply)) there (λ e bad. cc)) on.met))));
+            (subst (λ qs. IsMet call.cause qs (faults_in past.rounds)) (sym is) (met_stay call.cause ps (set ps place (Ended (Ok reply))) (faults_in past.rounds) (stay_set ps place Reserved (Ended (Ok reply)) there (λ e bad. cc)) on.met)));
         among = next.among;
-        answered = subst (λ xs. AreAnswers cache.config round a' (map reserved_by (reverse xs))) (sym tickets) rest;
+        answered = answered;
         committed = subst (AreUnder holds_reservation (place + 1)) (sym is) (under_set holds_reservation ps place (Ended (Ok reply)) refl next.committed);
       }
 
   -- 5. Pick-ups.
 
-  pub picking_on : (place : ℕ) (join : JoinClaim) (p : Polled) (q : KeyProgress) → later.progress.items ≡ set call.progress.items place q → later.tickets.items ≡ call.tickets.items → later.joins.items ≡ call.joins.items
+  pub picking_on : (place : ℕ) (join : JoinClaim) (rest : List JoinClaim) (p : Polled) (q : KeyProgress) → later.progress.items ≡ set call.progress.items place q → later.tickets.items ≡ call.tickets.items
       → slice_get call.progress.items place ≡ Some Joined → IsPicked p q
       → IsKeyPhase cache old join.key (counted_polled p) new
       ((before : View) → HasGrown before (view_of cache.config.stripes old.seats.items join.key) → IsJoinFor old.agent.caller before join.key Get join
       → HasPicked cache.config old.agent.caller before (view_of cache.config.stripes new.seats.items join.key) join.key Get p)
-      → IsPickingNext cache past old call join place → IsPicking cache past new later (place + 1)
-  picking_on place join p q is tickets joins there picked phase next =
+      → IsPicking cache past old call (join ∷ rest) place → IsPicking cache past new later rest (place + 1)
+  picking_on place join rest p q is tickets there picked phase next =
       let on = next.on in
       let ops = ops_of call.targets.now in
       let ps = call.progress.items in
-      let others = reverse call.joins.items in
       let isnt = picked_not_joined p q picked in
-      let t = first_join cache past.caller ops past.rounds past.first old ps [] join others place q there next.picked isnt on.under in
+      let t = first_join cache past.caller ops past.rounds past.first old ps [] join rest place q there next.picked isnt on.under in
       let unasked = unasked_at cache.config ops past.rounds ps place join.key Get Joined t.0 there refl on.asked in
       record {
-        on = subst (λ xs. IsOn cache past new later [] (reverse xs)) (sym joins)
-            (on_by [] [] (join ∷ others) others on
-            (subst (λ qs. IsUnderway cache past.caller ops past.rounds past.first new qs [] others) (sym is)
-            (picked_on cache past.caller ops past.rounds past.first old new ps [] join others place p q on.distinct there next.picked unasked phase picked on.under))
+        on =
+            on_by [] [] (join ∷ rest) rest on
+            (subst (λ qs. IsUnderway cache past.caller ops past.rounds past.first new qs [] rest) (sym is)
+            (picked_on cache past.caller ops past.rounds past.first old new ps [] join rest place p q on.distinct there next.picked unasked phase picked on.under))
             (subst (HasAskedSoFar cache.config ops past.rounds) (sym is) (asked_set cache.config ops past.rounds ps place join.key Get Joined q t.0 there (inl unasked) on.asked))
-            (subst (λ qs. IsMet call.cause qs (faults_in past.rounds)) (sym is) (met_stay call.cause ps (set ps place q) (faults_in past.rounds) (stay_set ps place Joined q there (λ e bad. cc)) on.met)));
+            (subst (λ qs. IsMet call.cause qs (faults_in past.rounds)) (sym is) (met_stay call.cause ps (set ps place q) (faults_in past.rounds) (stay_set ps place Joined q there (λ e bad. cc)) on.met));
         no_tickets = tickets ∙ next.no_tickets;
         picked = subst (AreUnder waits_for_joined_load (place + 1)) (sym is) (under_set waits_for_joined_load ps place q isnt next.picked);
       }

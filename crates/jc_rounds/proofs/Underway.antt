@@ -8,7 +8,7 @@
 --     first_ticket, first_join    the first of what is out is of the first key that is so far
 --     stay_itself, stay_on, stay_set    keys that have ended stay so
 --     under_set, under_next, settled_set, settled_next    the keys before a place, and from it on
-use Rattle.jc_rounds.proofs.Common.{◌≡◌, ◌⊎◌, ⊎_elim, inl, inr, ◌<◌, ◌≤◌, ◌+◌, ◌-◌, ℕ, zero, suc, List, [], ◌∷◌, ◌++◌, length, length-set, set, reverse, Bool, true, false, None, Some, Result, Ok, Err, nat_lt, if◌then◌else◌, get_or, slice_get, refl, sym, ap, subst, ◌∙◌, arith, length-append, reverse-append, same_Some, slice_get-get_or, IsDistinct, keys_of, pointwise, stripe_of, Caller, Config, Refusal, Bytes, may_come, Op, Get, Out, Reply, last_number, JoinClaim, TicketClaim, is_among, reserved_by, map-append, IsAmong, map, Begun, Polled, Reservation, View, one_more, counts_after, counted_begun, counted_polled, Agent, CacheState, Session, KeyProgress, Waiting, Reserved, Joined, Ended, StayEnded, holds_reservation, is_settled, waits_for_joined_load, waits_for_round, HasBegun, HasPicked, IsAt, IsCommitted, IsJoinFor, IsTicketFor, steps_of, IsAnswer, Round, asked_in, keys_asked, HasGrown, MovesAtKey, view_of, AreIn, AreSettledFrom, AreUnder, IsKept, IsPicked, IsUnderway, ◌==◌}
+use Rattle.jc_rounds.proofs.Common.{◌≡◌, ◌⊎◌, ⊎_elim, inl, inr, ◌<◌, ◌≤◌, ◌+◌, ◌-◌, ℕ, zero, suc, List, [], ◌∷◌, ◌++◌, length, length-set, set, reverse, Bool, true, false, None, Some, Result, Ok, Err, nat_lt, if◌then◌else◌, get_or, slice_get, refl, sym, ap, subst, ◌∙◌, arith, length-append, reverse-append, same_Some, slice_get-get_or, IsDistinct, keys_of, pointwise, stripe_of, Caller, Config, Refusal, Bytes, may_come, Op, Get, Out, Reply, last_number, JoinClaim, TicketClaim, is_among, reserved_by, map-append, IsAmong, map, Begun, Polled, Reservation, View, one_more, counts_after, counted_begun, counted_polled, Agent, CacheState, Session, KeyProgress, Waiting, Reserved, Joined, Ended, StayEnded, holds_reservation, is_settled, waits_for_joined_load, waits_for_round, HasBegun, HasPicked, IsAt, IsCommitted, IsJoinFor, IsTicketFor, steps_of, IsAnswer, Round, asked_in, keys_asked, HasGrown, MovesAtKey, view_of, AreIn, AreSettledFrom, AreUnder, IsKept, IsPicked, IsUnderway, ◌==◌, not, ◌||◌}
 use Rattle.jc_types.specs.Refusals.{is_put_off}
 use Rattle.jc_stripe.specs.Outcomes as begun
 use Rattle.jc_stripe.specs.Polled as polled
@@ -347,29 +347,35 @@ none_at_all has ps end past under i p at = under i p (let near = place_near ps i
 pub there_by : (ps : List KeyProgress) (place : ℕ) (p : KeyProgress) → place < length ps → p ≡ get_or ps place p → slice_get ps place ≡ Some p
 there_by ps place p near is = slice_get-get_or ps place p near ∙ ap Some (sym is)
 
-pub reserved_is : (p : KeyProgress) → holds_reservation p ≡ true → p ≡ Reserved
+reserved_is : (p : KeyProgress) → holds_reservation p ≡ true → p ≡ Reserved
 reserved_is Waiting h = cc
 reserved_is Reserved h = refl
 reserved_is Joined h = cc
 reserved_is (Ended e) h = cc
 
-pub joined_is : (p : KeyProgress) → waits_for_joined_load p ≡ true → p ≡ Joined
+pub reserved_there : (ps : List KeyProgress) (place : ℕ) (p : KeyProgress) → place < length ps → p ≡ get_or ps place p → holds_reservation p ≡ true → slice_get ps place ≡ Some Reserved
+reserved_there ps place p near is h = there_by ps place p near is ∙ ap Some (reserved_is p h)
+
+joined_is : (p : KeyProgress) → waits_for_joined_load p ≡ true → p ≡ Joined
 joined_is Waiting h = cc
 joined_is Reserved h = cc
 joined_is Joined h = refl
 joined_is (Ended e) h = cc
 
-pub waiting_is : (p : KeyProgress) → waits_for_round p ≡ true → p ≡ Waiting
+pub joined_there : (ps : List KeyProgress) (place : ℕ) (p : KeyProgress) → place < length ps → p ≡ get_or ps place p → waits_for_joined_load p ≡ true → slice_get ps place ≡ Some Joined
+joined_there ps place p near is h = there_by ps place p near is ∙ ap Some (joined_is p h)
+
+waiting_is : (p : KeyProgress) → waits_for_round p ≡ true → p ≡ Waiting
 waiting_is Waiting h = refl
 waiting_is Reserved h = cc
 waiting_is Joined h = cc
 waiting_is (Ended e) h = cc
 
+pub waiting_there : (ps : List KeyProgress) (place : ℕ) (p : KeyProgress) → place < length ps → p ≡ get_or ps place p → waits_for_round p ≡ true → slice_get ps place ≡ Some Waiting
+waiting_there ps place p near is h = there_by ps place p near is ∙ ap Some (waiting_is p h)
+
 pub settled_by : (p : KeyProgress) → holds_reservation p ≡ false → waits_for_joined_load p ≡ false → is_settled p ≡ true
-settled_by Waiting r j = refl
-settled_by Reserved r j = cc
-settled_by Joined r j = cc
-settled_by (Ended e) r j = refl
+settled_by p r j = λ i. not (r i || j i)
 
 pub last_first : {X : Type 0} (xs ys : List X) (x : X) → xs ≡ ys ++ x ∷ [] → reverse xs ≡ x ∷ reverse ys
 last_first xs ys x is = ap reverse is ∙ reverse-append ys (x ∷ [])

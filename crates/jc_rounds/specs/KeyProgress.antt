@@ -18,7 +18,7 @@
 --     IsNoted                 a cause that was noted before stays; otherwise the cause is the first of these, if there are any
 --     refused_if_waiting      a key that waits is refused, because the allocation of a later round failed; any other key is
 --                             unchanged
-use Rattle.std.specs.Prelude.{◌≡◌, ◌++◌, ℕ, zero, suc, List, [], ◌∷◌, length, Bool, true, false, Option, None, Some, IfSome, Result, Ok, Err, slice_get}
+use Rattle.std.specs.Prelude.{◌≡◌, ◌++◌, ℕ, zero, suc, List, [], ◌∷◌, length, Bool, true, false, not, ◌||◌, Option, None, Some, IfSome, Result, Ok, Err, slice_get}
 use Rattle.std.specs.List.{IsAmong, filter_map}
 use Rattle.jc_types.specs.declared.refusal.Refusal.{Refusal}
 use Rattle.jc_types.specs.declared.refusal.Refusal.TheVariants.{OutOfMemory}
@@ -46,16 +46,10 @@ waits_for_joined_load Joined = true
 waits_for_joined_load (Ended ended) = false
 
 abbrev pub is_settled : KeyProgress → Bool
-is_settled Waiting = true
-is_settled Reserved = false
-is_settled Joined = false
-is_settled (Ended ended) = true
+is_settled progress = not (holds_reservation progress || waits_for_joined_load progress)
 
 abbrev pub is_held_back : KeyProgress → Bool
-is_held_back Waiting = true
-is_held_back Reserved = false
-is_held_back Joined = true
-is_held_back (Ended ended) = false
+is_held_back progress = waits_for_round progress || waits_for_joined_load progress
 
 abbrev pub StillWaits : List KeyProgress → ℕ → Type 0
 StillWaits progress place = slice_get progress place ≡ Some Waiting

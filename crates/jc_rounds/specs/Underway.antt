@@ -10,17 +10,15 @@
 --     IsOn               the session's current call, with this past, which has these tickets and joins out
 --     IsBetween          the call with nothing out, as between two rounds: its cause is one of the faults and refusals that it
 --                        has met
---     IsPickingNext      as `IsPicking`, with the next join taken out
 --     Advances           phases of the call: what has ended stays ended, and a cause that was noted stays; of the session only
 --                        its seats and its counts have changed
 --     AdvancesUnnoted    as `Advances`, before the faults that they have met are noted
 --     HasStarted         the first phases of a round were made: each key that waits was put off, and nobody was asked yet
 --     IsStarting         the first phases are being made, and this place is next
 --     IsAnswered         the tickets' asks were answered in a round of the call
---     IsCommitting       the last phases are being made, and this place is next
---     IsCommittingNext   as `IsCommitting`, with the next ticket taken out
+--     IsCommitting       the last phases are being made, this place is next, and these tickets are left
 --     HasCommitted       the last phases were made: no key is reserved
---     IsPicking          the pick-ups are being made, and this place is next
+--     IsPicking          the pick-ups are being made, this place is next, and these joins are left
 --     HasNoRoom          there is no room for one more ticket, or for one more join
 --     KeepsJoined        a first phase: each key that has joined a load has done so since before the round
 --     HasRoom            there is room for one more ticket and for one more join
@@ -118,40 +116,27 @@ module _ {I J : Type 0} {D : I → Type 0} {E : J → Type 0} (cache : CacheStat
     pub few : length call.tickets.items ≤ call.most
     pub held : AreHeldBack (IsFull past.caller cache.config.stripes (ops_of call.targets.now) old.seats.items new.seats.items (length call.tickets.items)) (length (ops_of call.targets.now)) past.caller cache.config.stripes (ops_of call.targets.now) old.seats.items new.seats.items call.progress.items
 
-  -- 2. Last phases. The tickets stand in the other order.
+  -- 2. Last phases.
 
   pub record IsAnswered (round : Round) (session : Session I J D E) (call : BulkCall) (answers : RoundAnswers) : Type 0 where
     pub on : IsOn session call call.tickets.items call.joins.items
     pub among : IsAmong past.rounds round
     pub answered : AreAnswers cache.config round answers (map reserved_by call.tickets.items)
 
-  pub record IsCommitting (round : Round) (session : Session I J D E) (call : BulkCall) (answers : RoundAnswers) (place : ℕ) : Type 0 where
-    pub on : IsOn session call (reverse call.tickets.items) call.joins.items
+  pub record IsCommitting (round : Round) (session : Session I J D E) (call : BulkCall) (left : List TicketClaim) (answers : RoundAnswers) (place : ℕ) : Type 0 where
+    pub on : IsOn session call left call.joins.items
     pub among : IsAmong past.rounds round
-    pub answered : AreAnswers cache.config round answers (map reserved_by (reverse call.tickets.items))
-    pub committed : AreUnder holds_reservation place call.progress.items
-
-  -- the next of the tickets is taken out
-  pub record IsCommittingNext (round : Round) (session : Session I J D E) (call : BulkCall) (ticket : TicketClaim) (answers : RoundAnswers) (place : ℕ) : Type 0 where
-    pub on : IsOn session call (ticket ∷ reverse call.tickets.items) call.joins.items
-    pub among : IsAmong past.rounds round
-    pub answered : AreAnswers cache.config round answers (map reserved_by (ticket ∷ reverse call.tickets.items))
+    pub answered : AreAnswers cache.config round answers (map reserved_by left)
     pub committed : AreUnder holds_reservation place call.progress.items
 
   pub record HasCommitted (session : Session I J D E) (call : BulkCall) : Type 0 where
     pub on : IsOn session call [] call.joins.items
     pub no_tickets : call.tickets.items ≡ []
 
-  -- 3. Pick-ups. The joins stand in the other order.
+  -- 3. Pick-ups.
 
-  pub record IsPicking (session : Session I J D E) (call : BulkCall) (place : ℕ) : Type 0 where
-    pub on : IsOn session call [] (reverse call.joins.items)
-    pub no_tickets : call.tickets.items ≡ []
-    pub picked : AreUnder waits_for_joined_load place call.progress.items
-
-  -- the next of the joins is taken out
-  pub record IsPickingNext (session : Session I J D E) (call : BulkCall) (join : JoinClaim) (place : ℕ) : Type 0 where
-    pub on : IsOn session call [] (join ∷ reverse call.joins.items)
+  pub record IsPicking (session : Session I J D E) (call : BulkCall) (left : List JoinClaim) (place : ℕ) : Type 0 where
+    pub on : IsOn session call [] left
     pub no_tickets : call.tickets.items ≡ []
     pub picked : AreUnder waits_for_joined_load place call.progress.items
 

@@ -1,17 +1,15 @@
 //! The last phases of a round of a call with many keys, once the outside answers are there.
-ghost use Rattle.std.specs.Prelude.{◌≡◌, ◌<◌, ◌+◌, [], length, slice_get, reverse, Some, ◌∷◌};
-ghost use Rattle.jc_rounds.specs.declared.progress.KeyProgress.TheVariants.{Reserved};
+ghost use Rattle.std.specs.Prelude.{◌≡◌, ◌<◌, ◌+◌, [], length, reverse};
 ghost use Rattle.jc_rounds.specs.Answers.{AreAnswers, done_room};
 ghost use Rattle.jc_rounds.specs.Rounds.{Round};
 ghost use Rattle.jc_rounds.specs.KeyProgress.{IsNoted, failures};
-ghost use Rattle.jc_rounds.specs.Underway.{Advances, AdvancesUnnoted, CallPast, HasCommitted, IsAnswered, IsCommitting, IsCommittingNext};
+ghost use Rattle.jc_rounds.specs.Underway.{Advances, AdvancesUnnoted, CallPast, HasCommitted, IsAnswered, IsCommitting};
 
 use crate::answers::RoundAnswers;
 use crate::bulk_call::BulkCall;
 use crate::progress::KeyProgress;
 use jc_cache::{Cache, Session};
 use jc_model::Reply;
-use jc_stripe::Ticket;
 use jc_types::Value;
 use std::sync::Wait;
 
@@ -56,43 +54,23 @@ impl<'a> BulkCall<'a> {
     )
         requires place { place < length self.old.progress.items }
         requires answered { (past : CallPast) × (round : Round)
-            × IsCommitting cache.now past round session.old self.old answers.old place }
+            × IsCommitting cache.now past round session.old self.old (reverse self.old.tickets.items) answers.old place }
         ensures advances { AdvancesUnnoted session.old session.new self.old self.new }
         ensures committed { (past : CallPast) (round : Round)
-            → IsCommitting cache.now past round session.old self.old answers.old place
-            → IsCommitting cache.now past round session.new self.new answers.new (place + 1) }
-        ensures room { done_room answers.new ≡ done_room answers.old }
-    {
-        if self.progress[place].holds_reservation() {
-            match self.tickets.pop() {
-                Some(ticket) => self.commit_ticket(rt, cache, session, place, ticket, answers),
-                None => unreachable!(),
-            }
-        }
-    }
-
-    /// Makes the last phase at the key of this place, the first one that is reserved.
-    fn commit_ticket<R: Wait>(
-        &mut self,
-        rt: &R,
-        cache: &Cache,
-        session: &mut Session,
-        place: usize,
-        ticket: Ticket,
-        answers: &mut RoundAnswers,
-    )
-        requires there { slice_get self.old.progress.items place ≡ Some Reserved }
-        requires answered { (past : CallPast) × (round : Round)
-            × IsCommittingNext cache.now past round session.old self.old ticket answers.old place }
-        ensures advances { AdvancesUnnoted session.old session.new self.old self.new }
-        ensures committed { (past : CallPast) (round : Round)
-            → IsCommittingNext cache.now past round session.old self.old ticket answers.old place
-            → IsCommitting cache.now past round session.new self.new answers.new (place + 1) }
+            → IsCommitting cache.now past round session.old self.old (reverse self.old.tickets.items) answers.old place
+            → IsCommitting cache.now past round session.new self.new (reverse self.new.tickets.items) answers.new (place + 1) }
         ensures room { done_room answers.new ≡ done_room answers.old }
     {
         let _types: Option<&(Reply, Value)> = None;
-        let mut reply = Reply::Unit;
-        answers.commit_next(rt, cache, session, ticket, &mut reply);
-        self.progress[place] = KeyProgress::Ended(Ok(reply));
+        if self.progress[place].holds_reservation() {
+            match self.tickets.pop() {
+                Some(ticket) => {
+                    let mut reply = Reply::Unit;
+                    answers.commit_next(rt, cache, session, ticket, &mut reply);
+                    self.progress[place] = KeyProgress::Ended(Ok(reply));
+                }
+                None => unreachable!(),
+            }
+        }
     }
 }

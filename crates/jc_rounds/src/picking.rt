@@ -1,18 +1,17 @@
 //! The pick-ups of a round of a call with many keys.
-ghost use Rattle.std.specs.Prelude.{◌≡◌, ◌<◌, ◌+◌, length, slice_get, Some, []};
-ghost use Rattle.jc_rounds.specs.declared.progress.KeyProgress.TheVariants.{Joined};
+ghost use Rattle.std.specs.Prelude.{◌<◌, ◌+◌, length, reverse};
 ghost use Rattle.jc_stripe.specs.Phases.{polled_with};
 ghost use Rattle.jc_rounds.specs.Keys.{IsPickedUp};
 ghost use Rattle.jc_rounds.specs.SoFar.{IsPicked};
 ghost use Rattle.jc_rounds.specs.KeyProgress.{IsNoted, failures};
-ghost use Rattle.jc_rounds.specs.Underway.{Advances, AdvancesUnnoted, CallPast, HasCommitted, IsBetween, IsPicking, IsPickingNext};
+ghost use Rattle.jc_rounds.specs.Underway.{Advances, AdvancesUnnoted, CallPast, HasCommitted, IsBetween, IsPicking};
 
 use crate::bulk_call::BulkCall;
 use crate::key::pick_key;
 use crate::progress::KeyProgress;
 use jc_cache::{Cache, Session};
 use jc_model::Reply;
-use jc_stripe::{Join, Picked};
+use jc_stripe::Picked;
 use jc_types::Value;
 use std::sync::Wait;
 
@@ -39,38 +38,24 @@ impl<'a> BulkCall<'a> {
     /// last in the list.
     fn pick_at<R: Wait>(&mut self, rt: &R, cache: &Cache, session: &mut Session, place: usize)
         requires place { place < length self.old.progress.items }
-        requires picking { (past : CallPast) × IsPicking cache.now past session.old self.old place }
+        requires picking { (past : CallPast)
+            × IsPicking cache.now past session.old self.old (reverse self.old.joins.items) place }
         ensures advances { AdvancesUnnoted session.old session.new self.old self.new }
-        ensures picking { (past : CallPast) → IsPicking cache.now past session.old self.old place
-            → IsPicking cache.now past session.new self.new (place + 1) }
+        ensures picking { (past : CallPast)
+            → IsPicking cache.now past session.old self.old (reverse self.old.joins.items) place
+            → IsPicking cache.now past session.new self.new (reverse self.new.joins.items) (place + 1) }
     {
+        let _types: Option<&(Reply, Value)> = None;
         if self.progress[place].waits_for_joined_load() {
             match self.joins.pop() {
-                Some(join) => self.pick_join(rt, cache, session, place, join),
+                Some(join) => {
+                    let mut reply = Reply::Unit;
+                    let picked = pick_key(rt, cache, session, join, &mut reply);
+                    self.progress[place] = after_pick_up(picked, &reply);
+                }
                 None => unreachable!(),
             }
         }
-    }
-
-    /// Makes the pick-up at the key of this place, the first one that has joined a load.
-    fn pick_join<R: Wait>(
-        &mut self,
-        rt: &R,
-        cache: &Cache,
-        session: &mut Session,
-        place: usize,
-        join: Join,
-    )
-        requires there { slice_get self.old.progress.items place ≡ Some Joined }
-        requires picking { (past : CallPast) × IsPickingNext cache.now past session.old self.old join place }
-        ensures advances { AdvancesUnnoted session.old session.new self.old self.new }
-        ensures picking { (past : CallPast) → IsPickingNext cache.now past session.old self.old join place
-            → IsPicking cache.now past session.new self.new (place + 1) }
-    {
-        let _types: Option<&(Reply, Value)> = None;
-        let mut reply = Reply::Unit;
-        let picked = pick_key(rt, cache, session, join, &mut reply);
-        self.progress[place] = after_pick_up(picked, &reply);
     }
 }
 

@@ -8,8 +8,8 @@ push-requires-clause-new g c =
     let i = c.loop-place.place in
     let d = c.index_mut.result.now in
     let here : d ≡ get_or ts i d = c.index_mut.ensures.value ∙ ap (λ xs. get_or xs i d) c.loop-place.invariant.tickets ∙ next_ticket ts i d in
-    ap (λ s. is_among (asked_keys s.items) c.ask.result.reservation.key) c.loop-place.invariant.call
-    ∙ ap (is_among (asked_keys (asks_of (take i ts)))) (ap (λ a. a.reservation.key) c.ask.ensures.ask ∙ ap (λ t. t.reservation.key) here)
+    ap (λ s. is_among (asked_keys s.items) c.ask.result.key) c.loop-place.invariant.call
+    ∙ ap (is_among (asked_keys (asks_of (take i ts)))) (ap (λ a. a.key) c.ask.ensures.ask ∙ ap (λ t. t.reservation.key) here)
     ∙ new_next ts i d (omega (arith, c.loop-place-test.true, c.len-place-end.ensures, c.args.tickets.now.ok.0)) c.requires.may.distinct
 
 pub loop-place-preserved : goal.loop-place-preserved
