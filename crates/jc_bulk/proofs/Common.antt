@@ -12,7 +12,7 @@ pub use Rattle.jc_batch.specs.declared.batch.Batch.{Batch}
 pub use Rattle.jc_bulk.specs.Bulk.{DoesAll, GetsAll, HasLooked, IsBulkCall, IsLookedAt, LooksOnce, OnlyLooks, OrNoMemory, OrRefused, SweepsAll, TellsDone, TellsFound, causes_of}
 pub use Rattle.jc_bulk.specs.Carrying.{IsRoomOf, IsRoomOfCall}
 pub use Rattle.jc_bulk.specs.Outside.{Answered, AsksAs, BulkBehavior, CallsInRounds, HasOneToAsk, HaveAsked, IsAskedOf, IsRest, IsSpent, IsWrittenOf, MayAskFor, OutsideState, bulk_behavior, fits_first, items_in, no_asks, outside_kind, room_in, wanted_changes, with_ask, write_kind}
-pub use Rattle.jc_bulk.specs.RoundsRun.{IsOutsideReady, KeysAskAs, RunsOn, TakesNew}
+pub use Rattle.jc_bulk.specs.BulkRounds.{IsOutsideReady, KeysAskAs, RunsOn, TakesNew}
 pub use Rattle.jc_bulk.specs.Targets.{clear_ops, get_ops, load_ops, remove_ops}
 pub use Rattle.jc_bulk.specs.declared.fault.BulkFault.{BulkFault}
 pub use Rattle.jc_bulk.specs.declared.outside.OutsideKind.{OutsideKind}
@@ -31,7 +31,7 @@ pub use Rattle.jc_rounds.specs.Asking.{AsksEachOnce, AsksFor, reserved_keys}
 pub use Rattle.jc_rounds.specs.Ends.{KeyEnd, failed_entries, found_entries, key_ends, reply_value, value_at}
 pub use Rattle.jc_rounds.specs.KeyProgress.{IsCauseIn, failure_at, holds_reservation, refusal_in}
 pub use Rattle.jc_rounds.specs.OutsideCalls.{AreSpent, LoadCallAsked, LoadCallState, WriteCallAsked, WritesBatch, asked_keys, is_delete, no_loads, wanted}
-pub use Rattle.jc_rounds.specs.Ran.{HasReserved, IsRoundTold, KeepsTickets}
+pub use Rattle.jc_rounds.specs.AskingRounds.{HasReserved, IsRoundTold, KeepsTickets}
 pub use Rattle.jc_rounds.specs.Rounds.{IsShown, KeyRun, LoadAll, LoadRound, ProcessAll, Round, WriteAll, WriteRound, faults_in, keys_asked, writer_failure}
 pub use Rattle.jc_rounds.specs.Running.{EachTakesMemory, HasRun, with_rounds}
 pub use Rattle.jc_rounds.specs.Seats.{HasGrown, view_at}

@@ -19,7 +19,7 @@ use Rattle.jc_bulk.specs.declared.carrying.BulkRoom.{BulkRoom}
 use Rattle.jc_bulk.specs.declared.outside.OutsideKind.{OutsideKind}
 use Rattle.jc_bulk.specs.Bulk.{IsBulkCall}
 use Rattle.jc_bulk.specs.Outside.{BulkBehavior, no_asks}
-use Rattle.jc_bulk.specs.RoundsRun.{KeysAskAs}
+use Rattle.jc_bulk.specs.BulkRounds.{KeysAskAs}
 
 pub record IsRoomOf (kind : OutsideKind) (keys stripes : ℕ) (room : BulkRoom) : Type 0 where
   pub rooms : AreRooms keys stripes room.rooms

@@ -1,5 +1,5 @@
 pub mod Outside
 pub mod Targets
 pub mod Bulk
-pub mod RoundsRun
+pub mod BulkRounds
 pub mod Carrying

@@ -8,7 +8,7 @@ ghost use Rattle.jc_rounds.specs.Targets.{ops_of};
 ghost use Rattle.jc_bulk.specs.Bulk.{DoesAll, OrNoMemory};
 ghost use Rattle.jc_bulk.specs.Carrying.{IsCallEnd, IsRoomOfCall};
 ghost use Rattle.jc_bulk.specs.Outside.{bulk_behavior};
-ghost use Rattle.jc_bulk.specs.RoundsRun.{KeysAskAs};
+ghost use Rattle.jc_bulk.specs.BulkRounds.{KeysAskAs};
 
 use crate::entries::add_failed;
 use crate::fault::BulkFault;

@@ -4,7 +4,7 @@ ghost use Rattle.jc_model.specs.Batches.{is_among};
 ghost use Rattle.jc_cache.specs.Sessions.{HasAsked};
 ghost use Rattle.jc_rounds.specs.OutsideCalls.{asked_keys};
 ghost use Rattle.jc_rounds.specs.Rounds.{writer_failure};
-ghost use Rattle.jc_rounds.specs.Ran.{KeepsTickets};
+ghost use Rattle.jc_rounds.specs.AskingRounds.{KeepsTickets};
 ghost use Rattle.jc_bulk.specs.Outside.{Answered, IsSpent, MayAskFor, bulk_behavior, fits_first, no_asks, with_ask};
 ghost use Rattle.jc_bulk.specs.declared.outside.OutsideKind.{OutsideKind as KindState};
 ghost use Rattle.jc_bulk.specs.declared.outside.OutsideKind.TheVariants.{Load as LoadKind};

@@ -3,7 +3,7 @@ ghost use Rattle.std.specs.Prelude.{◌≡◌, ◌≤◌, [], IfSome, IfErr, IfO
 ghost use Rattle.jc_rounds.specs.Underway.{CallPast, IsOver};
 ghost use Rattle.jc_rounds.specs.Running.{HasRun};
 ghost use Rattle.jc_bulk.specs.Outside.{bulk_behavior};
-ghost use Rattle.jc_bulk.specs.RoundsRun.{IsOutsideReady, RunsOn};
+ghost use Rattle.jc_bulk.specs.BulkRounds.{IsOutsideReady, RunsOn};
 
 use crate::outside::{OutsideCall, OutsideKind};
 use jc_cache::{Cache, Session};

@@ -32,7 +32,7 @@ pub use Rattle.jc_rounds.specs.Answers.{IsToBeAnswered, RunState, asked_key, cla
 pub use Rattle.jc_rounds.specs.Asking.{AsksFor, reserved_keys}
 pub use Rattle.jc_rounds.specs.Ends.{KeyEnd, key_end, key_ends}
 pub use Rattle.jc_rounds.specs.OutsideCalls.{WriteCallAsked, WriteCallState, WritesBatch, asked_keys, no_writes, wanted}
-pub use Rattle.jc_rounds.specs.Ran.{HasReserved, IsRoundTold, KeepsTickets}
+pub use Rattle.jc_rounds.specs.AskingRounds.{HasReserved, IsRoundTold, KeepsTickets}
 pub use Rattle.jc_rounds.specs.Rounds.{IsShown, KeyRun, ProcessAll, ProcessRound, Round, change_of, keys_asked}
 pub use Rattle.jc_rounds.specs.Running.{EachTakesMemory, HasRun, IsCarriedOut, with_rounds}
 pub use Rattle.jc_rounds.specs.Targets.{ops_of, ops_with}

@@ -14,7 +14,7 @@ use Rattle.jc_cache.specs.Caches.{CacheState}
 use Rattle.jc_session.specs.declared.session.Session.{Session}
 use Rattle.jc_rounds.specs.declared.bulk_call.BulkCall.{BulkCall}
 use Rattle.jc_rounds.specs.Rounds.{ProcessAll, ProcessRound, Round}
-use Rattle.jc_rounds.specs.Ran.{RunsRounds}
+use Rattle.jc_rounds.specs.AskingRounds.{RunsRounds}
 use Rattle.jc_rounds.specs.Targets.{ops_of, ops_with}
 use Rattle.jc_rounds.specs.Underway.{CallPast}
 use Rattle.jc_invoke.specs.declared.room.RoundRoom.{RoundRoom}

@@ -2,7 +2,7 @@
 ghost use Rattle.std.specs.Prelude.{◌≡◌, vec_capacity};
 ghost use Rattle.jc_cache.specs.Sessions.{HasAsked, HoldsNothing};
 ghost use Rattle.jc_rounds.specs.Answers.{done_room};
-ghost use Rattle.jc_rounds.specs.Ran.{KeepsTickets};
+ghost use Rattle.jc_rounds.specs.AskingRounds.{KeepsTickets};
 ghost use Rattle.jc_invoke.specs.RoundRooms.{LeavesBatches};
 ghost use Rattle.jc_invoke.specs.Runs.{run_behavior};
 ghost use Rattle.jc_invoke.specs.Processing.{HasNoted, HasRunEach, IsRoundAsked, IsTicketRun, IsToBeRun, KeepsProcessing, KeepsRunsRoom, MayNote, MayRunEach, TakesKey};

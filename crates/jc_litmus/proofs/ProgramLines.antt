@@ -9,7 +9,7 @@ use Rattle.std.specs.Global.{Vec}
 use Rattle.jc_explore.specs.declared.program.Item.{Item}
 use Rattle.jc_litmus.specs.declared.line_error.LineError.{LineError}
 use Rattle.jc_litmus.specs.declared.line_error.LineError.TheVariants as errors
-use Rattle.jc_litmus.specs.Reads.{ReadsAs}
+use Rattle.jc_litmus.specs.LineResults.{ReadsAs}
 
 pub onto_the_last : (one : Item) (threads : List (List Item)) (last : List Item) → onto_last one (threads ++ last ∷ []) ≡ threads ++ (last ++ one ∷ []) ∷ []
 onto_the_last one [] last = refl

@@ -1,5 +1,5 @@
 pub mod LineFaults
-pub mod Reads
+pub mod LineResults
 pub mod Then
 pub mod WordParts
 pub mod ReplyWords

@@ -3,7 +3,7 @@ ghost use Rattle.std.specs.Prelude.{◌≡◌, ◌++◌, ◌∷◌, [], map, OnO
 ghost use Rattle.std.specs.List.{list_all};
 ghost use Rattle.jc_script.specs.Words.{key_of, value_or_none_of};
 ghost use Rattle.jc_script.specs.Lines.{ok_with};
-ghost use Rattle.jc_litmus.specs.Reads.{ReadsAs};
+ghost use Rattle.jc_litmus.specs.LineResults.{ReadsAs};
 ghost use Rattle.jc_litmus.specs.Atoms.{number_or_bad, numbers_of, in_script, cached_of, stored_of, replied_of, pair_of, atom_of};
 ghost use Rattle.jc_litmus.specs.Atoms.{is_about, is_atom, are_atoms, atom_onto, atoms_from};
 

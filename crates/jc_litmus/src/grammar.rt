@@ -2,7 +2,7 @@
 ghost use Rattle.std.specs.Prelude.{◌≡◌, ◌++◌, codes, map, OnOk, IfOk};
 ghost use Rattle.std.specs.List.{flat_map};
 ghost use Rattle.jc_script.specs.Lines.{ok_with};
-ghost use Rattle.jc_litmus.specs.Reads.{ReadsAs};
+ghost use Rattle.jc_litmus.specs.LineResults.{ReadsAs};
 ghost use Rattle.jc_litmus.specs.Grammar.{after_space, begin_line, begin_words, process_text, made_line, operation_in, plain_calls, act_calls, line_calls, calls_of_text};
 ghost use Rattle.jc_litmus.specs.Grammar.{failing_named, may_fail, with_fault, quantifier_named};
 

@@ -2,7 +2,7 @@
 ghost use Rattle.std.specs.Prelude.{◌≡◌};
 ghost use Rattle.jc_litmus.specs.declared.line_error.LineError.TheVariants as errors;
 ghost use Rattle.jc_litmus.specs.declared.program.LineFault.TheVariants as faults;
-ghost use Rattle.jc_litmus.specs.Reads.{error_of};
+ghost use Rattle.jc_litmus.specs.LineResults.{error_of};
 
 use crate::program::LineFault;
 use jc_script::fault::{Fault, ReadError};

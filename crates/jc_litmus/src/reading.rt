@@ -3,7 +3,7 @@ ghost use Rattle.std.specs.Prelude.{◌≡◌, ◌≤◌, ◌<◌, ◌+◌, ◌+
 ghost use Rattle.jc_types.specs.Limits.{check};
 ghost use Rattle.jc_script.specs.Lines.{ok_with};
 ghost use Rattle.jc_litmus.specs.Opened.{shape_fault};
-ghost use Rattle.jc_litmus.specs.Reads.{ReadsAs};
+ghost use Rattle.jc_litmus.specs.LineResults.{ReadsAs};
 ghost use Rattle.jc_litmus.specs.Program.{after_item, after_open, after_set, expected, fault_at, if_open, is_blank, may_add, nothing_read, onto_last};
 ghost use Rattle.jc_litmus.specs.Program.{program_from, program_of, program_read, value_of_program, ReadsLines, ReadsProgram};
 ghost use Rattle.jc_script.specs.Transcript.{pieces_of};

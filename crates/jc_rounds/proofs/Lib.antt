@@ -20,6 +20,6 @@ pub mod Started
 pub mod Once
 pub mod NoneHeld
 pub mod Whole
-pub mod Ran
+pub mod AskingRounds
 pub mod OutsideCalls
 pub mod CallerLemmas

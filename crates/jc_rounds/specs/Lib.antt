@@ -15,4 +15,4 @@ pub mod OutsideCalls
 pub mod Causes
 pub mod Underway
 pub mod Running
-pub mod Ran
+pub mod AskingRounds

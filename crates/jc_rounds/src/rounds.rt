@@ -2,7 +2,7 @@
 ghost use Rattle.std.specs.Prelude.{◌≡◌, [], true, false};
 ghost use Rattle.jc_rounds.specs.Answers.{AreAnswers, done_room};
 ghost use Rattle.jc_rounds.specs.Rounds.{Round};
-ghost use Rattle.jc_rounds.specs.Ran.{HasReserved, IsRoundTold};
+ghost use Rattle.jc_rounds.specs.AskingRounds.{HasReserved, IsRoundTold};
 ghost use Rattle.jc_rounds.specs.Running.{HasRun};
 ghost use Rattle.jc_rounds.specs.Underway.{Advances, CallPast, IsOver, with_round};
 

@@ -1,7 +1,7 @@
 //! The lines of a program, by their words.
 ghost use Rattle.std.specs.Prelude.{◌≡◌, ◌||◌, map};
 ghost use Rattle.jc_script.specs.Lines.{ok_with};
-ghost use Rattle.jc_litmus.specs.Reads.{ReadsAs};
+ghost use Rattle.jc_litmus.specs.LineResults.{ReadsAs};
 ghost use Rattle.jc_litmus.specs.Program.{after_call, after_expect, after_failing, after_invoke, after_line, after_other_line, after_own_line};
 ghost use Rattle.jc_litmus.specs.Program.{after_script_line, after_thread, invocation, is_outside};
 ghost use Rattle.jc_litmus.specs.Grammar.{quantifier_named};

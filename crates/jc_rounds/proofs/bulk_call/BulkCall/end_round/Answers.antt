@@ -1,5 +1,5 @@
 use Rattle.jc_rounds.proofs.Common.{with_round}
-use Rattle.jc_rounds.proofs.Ran.{told_advances, told_call, told_run}
+use Rattle.jc_rounds.proofs.AskingRounds.{told_advances, told_call, told_run}
 use Rattle.jc_rounds.proofs.bulk_call.BulkCall.end_round.Goals as goal
 
 pub commit-spent-requires : goal.commit-spent-requires

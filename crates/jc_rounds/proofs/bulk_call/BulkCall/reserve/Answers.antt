@@ -1,7 +1,7 @@
 use Rattle.jc_rounds.proofs.Common.{◌≡◌, ap, arith, length}
 use Rattle.jc_rounds.proofs.Loops.{no_items}
 use Rattle.jc_rounds.proofs.OnCall.{advances_both, advances_itself}
-use Rattle.jc_rounds.proofs.Ran.{has_reserved, quiet_run}
+use Rattle.jc_rounds.proofs.AskingRounds.{has_reserved, quiet_run}
 use Rattle.jc_rounds.proofs.Whole.{nobody_asked}
 use Rattle.jc_rounds.proofs.bulk_call.BulkCall.reserve.Goals as goal
 

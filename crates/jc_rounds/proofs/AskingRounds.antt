@@ -8,7 +8,7 @@
 --     ran_quiet, ran_more    after rounds more
 --     ran_refused            each key that waits is refused
 use Rattle.jc_rounds.proofs.Common.{◌≡◌, ◌++◌, append-nil, append_assoc, ℕ, List, [], ◌∷◌, map, length, slice_get, Option, Some, refl, sym, ap, ◌∙◌, subst, arith, option_or, Caller, Refusal, Agent, CacheState, HoldsNothing, IsOf, Session, RoundAnswers, BulkCall, AreAnswers, reserved_keys, IsNoted, KeepsCause, failures, refused_if_waiting, Round, asked_in, keys_asked, round_fault, EachTakesMemory, HasRun, with_rounds, KeysAdvance, ops_of, Advances, CallPast, HasStarted, IsAnswered, IsBetween, reserved_by, with_round}
-use Rattle.jc_rounds.specs.Ran.{HasReserved, IsRoundTold, RunsRounds}
+use Rattle.jc_rounds.specs.AskingRounds.{HasReserved, IsRoundTold, RunsRounds}
 use Rattle.jc_rounds.proofs.Asked.{among_there}
 use Rattle.jc_rounds.proofs.Failures.{keeps_both, keeps_noted, keeps_or}
 use Rattle.jc_rounds.proofs.Held.{goes_both}
