@@ -1,6 +1,7 @@
 -- Rows of seats, one at each lock of a cache.
 --     Seated                   a seat: its lock, and its view
 --     locks_of                 the locks of a row of seats
+--     seat_is                  a seat at a lock, by the lock and its view
 --     seat_there, read_there   there is a seat at each place within a row; what was read there is it
 --     lock_there               a seat is at the lock in its place
 --     push_get                 a seat of a row with one more is the last one, or was there
@@ -18,6 +19,9 @@ locks_of seats = map (λ (seat : Seated). seat.0) seats
 
 pub length_locks : (seats : List Seated) (locks : List TableId) → locks_of seats ≡ locks → length seats ≡ length locks
 length_locks seats locks are = sym (length-map seats (λ (seat : Seated). seat.0)) ∙ ap length are
+
+pub seat_is : (t u : Seated) → u.0 ≡ t.0 → u ≡ (t.0, u.1)
+seat_is t u same i = (same i, u.1)
 
 pub seat_there : {X : Type 0} (xs : List X) (i : ℕ) → i < length xs → (x : X) × (slice_get xs i ≡ Some x)
 seat_there [] i near = absurd (omega arith)

@@ -21,7 +21,7 @@ use Rattle.jc_gate.specs.Lending.{ComesAfter}
 use Rattle.jc_engine.specs.Answered.{CallAnswer, IsAnswered}
 use Rattle.jc_cache.specs.PhaseCalls.{SeatPhase, PhaseAt, MayStart}
 use Rattle.jc_cache.proofs.Lendings.{lock_takes, lock_gives, lock_finds, Lending, row_left, turn_lent}
-use Rattle.jc_cache.proofs.Rows.{Seated, locks_of, length_locks}
+use Rattle.jc_cache.proofs.Rows.{Seated, locks_of, length_locks, seat_is}
 use Rattle.jc_cache.proofs.Seats.{set_get, set_locks, set_total, capped_more, seat_stays}
 
 -- 1. Own steps.
@@ -91,9 +91,6 @@ module _ {G : Type 0} where
       )
 
 -- 3. The session.
-
-seat_is : (t u : Seated) → u.0 ≡ t.0 → u ≡ (t.0, u.1)
-seat_is t u same i = (same i, u.1)
 
 module _ {I J : Type 0} {D : I → Type 0} {E : J → Type 0} where
   of_after : (cache : CacheState) (old new : Session I J D E) (at : ℕ) (t u : Seated) (counted : Counted) → IsOf cache old → slice_get old.seats.items at ≡ Some t → new.seats.items ≡ slice_set old.seats.items at u → u.0 ≡ t.0 → IsSameSeat t.1 u.1

@@ -1,9 +1,6 @@
 -- Whole calls of a session, from those of its agent over the lock of one seat.
 --     some_stripe        there is a stripe
---     lock_near, seat_near
---                        there is a lock, and a seat of the session, for a key's stripe
---     number_near        the number of a key's stripe is one of the cache's
---     at_key, seat_at    the number of a key's stripe, and the session's seat there
+--     at_key, number_near    the number of a key's stripe, and that it is one of the cache's
 --     free_at            the seat is at the lock in its place, which it has not taken
 --     ready, ready_next  the session is at the door of the stripe, as it is and for its next call
 --     may_begin          the seat's own steps let the next call come
@@ -13,7 +10,7 @@
 --     called, invoked, tried
 --                        a whole call, one that runs a processor, and one that waits for nobody: what is said of the session, and that
 --                        it may call again
-use Rattle.jc_cache.proofs.Common.{DynBox, ◌≡◌, ◌<◌, ◌&&◌, MatchBool, Option, is_none, ℕ, List, length, sum, get_or, Bool, true, false, cond, nat_le, Some, IsSome, Result, Ok, Err, arith, slice_get, slice_set, option_map, refl, sym, ap, subst, ◌∙◌, and_parts, leb-true, length-map, slice_get_read, slice_get_within, TableId, check, is_between, stripe_of, Config, STRIPES_MAX, Caller, Refusal, Bytes, entry_at, Event, Out, Op, Get, Invoke, Reply, LoadRelation, WriteRelation, State, OwnNumbers, StepsBehind, may_come_all, View, Finds, Agent, BeginsIfClear, IsReady, PhaseLaws, HasLookedFirst, state_decided, state_found, call_in, IsBetween, CacheState, IsShaped, next_call, Completes, IsOf, MayCall, Session}
+use Rattle.jc_cache.proofs.Common.{DynBox, ◌≡◌, ◌<◌, ◌&&◌, MatchBool, Option, is_none, ℕ, List, length, sum, get_or, Bool, true, false, cond, nat_le, Some, IsSome, Result, Ok, Err, arith, slice_get, slice_set, option_map, refl, sym, ap, subst, ◌∙◌, and_parts, leb-true, slice_get_read, slice_get_within, TableId, check, is_between, stripe_of, Config, STRIPES_MAX, Caller, Refusal, Bytes, entry_at, Event, Out, Op, Get, Invoke, Reply, LoadRelation, WriteRelation, State, OwnNumbers, StepsBehind, may_come_all, View, Finds, Agent, BeginsIfClear, IsReady, PhaseLaws, HasLookedFirst, state_decided, state_found, call_in, IsBetween, CacheState, next_call, Completes, IsOf, MayCall, Session}
 use Rattle.std.proofs.Math.Nat.{mod-lt}
 use Rattle.jc_model.specs.Table.{is_process_given}
 use Rattle.jc_mutentry.specs.Running.{ProcessRelation, RunsOnce}
@@ -23,7 +20,7 @@ use Rattle.jc_engine.specs.declared.access.Access.{Access}
 use Rattle.jc_cache.specs.Calls.{CallsAt, Tried, Invoked}
 use Rattle.jc_cache.proofs.Lendings.{lock_takes, lock_gives, lock_finds, lock_misses, lock_speaks_for, RowLeft, row_left}
 use Rattle.jc_cache.proofs.CallEnds.{CallLeft, call_left, tried_left}
-use Rattle.jc_cache.proofs.Rows.{length_locks, lock_there}
+use Rattle.jc_cache.proofs.Rows.{length_locks, lock_there, seat_is}
 use Rattle.jc_cache.proofs.Seats.{after_call, after_try, may_after}
 
 -- 1. The seat of a key.
@@ -38,30 +35,13 @@ some_stripe config h = leb-true 1 config.stripes ((and_parts (nat_le 1 config.st
 below_stripes : (config : Config) (key : Bytes) (at : ℕ) → check config ≡ Ok tt → at ≡ stripe_of key config.stripes → at < config.stripes
 below_stripes config key at fits at_is = subst (λ (n : ℕ). n < config.stripes) (sym at_is) (mod-lt (sum key) (some_stripe config fits))
 
-pub lock_near : (config : Config) (locks : List TableId) (key : Bytes) (at : ℕ) → IsShaped config locks → at ≡ stripe_of key config.stripes → at < length locks
-lock_near config locks key at shaped at_is = subst (λ (n : ℕ). at < n) (sym shaped.count) (below_stripes config key at shaped.fits at_is)
-
 pub number_near : (cache : CacheState) (config : Config) (key : Bytes) (at : ℕ) → check config ≡ Ok tt → config ≡ cache.config → at ≡ stripe_of key config.stripes → at < cache.config.stripes
 number_near cache config key at fits same at_is = subst (λ (c : Config). at < c.stripes) same (below_stripes config key at fits at_is)
-
-seat_is : (t u : TableId × View) → u.0 ≡ t.0 → u ≡ (t.0, u.1)
-seat_is t u same i = (same i, u.1)
 
 pub at_key : (cache : CacheState) (config : Config) (key : Bytes) (at : ℕ) → config ≡ cache.config → at ≡ stripe_of key config.stripes → at ≡ stripe_of key cache.config.stripes
 at_key cache config key at is at_is = at_is ∙ ap (λ (c : Config). stripe_of key c.stripes) is
 
 module _ {I J : Type 0} {D : I → Type 0} {E : J → Type 0} where
-  pub seat_near : (cache : CacheState) (session : Session I J D E) (config : Config) (key : Bytes) (at : ℕ) → IsOf cache session → check config ≡ Ok tt → config ≡ cache.config → at ≡ stripe_of key config.stripes → at < length session.seats.items
-  seat_near cache session config key at own fits is at_is =
-      let below : at < config.stripes = below_stripes config key at fits at_is in
-      let stripes : config.stripes ≡ cache.config.stripes = ap (λ (c : Config). c.stripes) is in
-      let long : length session.seats.items ≡ cache.config.stripes = sym (length-map session.seats.items (λ (s : TableId × View). s.0)) ∙ ap length own.locks ∙ own.count in
-      omega arith
-
-  pub seat_at : (cache : CacheState) (session : Session I J D E) (config : Config) (key : Bytes) (at : ℕ) (t : TableId × View) → IsOf cache session → check config ≡ Ok tt → config ≡ cache.config → at ≡ stripe_of key config.stripes
-      → t ≡ get_or session.seats.items at t → slice_get session.seats.items at ≡ Some t
-  seat_at cache session config key at t own fits is at_is read = slice_get_read session.seats.items _ at t refl (seat_near cache session config key at own fits is at_is) read
-
   -- 2. What a call needs.
 
   pub free_at : (cache : CacheState) (session : Session I J D E) (locks : List TableId) (at : ℕ) (t : TableId × View) (lock : TableId) → IsOf cache session → locks ≡ cache.locks → slice_get session.seats.items at ≡ Some t

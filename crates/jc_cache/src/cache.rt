@@ -1,5 +1,6 @@
 //! A cache of stripes, each under its lock, that threads share.
-ghost use Rattle.std.specs.Prelude.{◌≡◌, false, Result, Ok, length};
+ghost use Rattle.std.specs.Prelude.{◌≡◌, ◌<◌, false, Result, Ok, length};
+ghost use Rattle.jc_types.specs.Stripes.{stripe_of};
 ghost use Rattle.jc_types.specs.declared.refusal.Refusal.{Refusal};
 ghost use Rattle.jc_model.specs.Table.{is_invoke};
 ghost use Rattle.jc_model.specs.declared.event.Reply.{Reply};
@@ -64,6 +65,14 @@ impl Cache {
         &self.locks
     }
 
+    /// The number of the key's stripe.
+    pub(crate) fn stripe_of(&self, key: &Key) -> usize
+        ensures at { result ≡ stripe_of key.now self.now.config.stripes }
+        ensures near { result < self.now.config.stripes }
+    {
+        stripe_of(key, self.config.stripes)
+    }
+
     /// Carries out the session's next call on one key. Its reply is written to `reply`.
     pub(crate) fn call<R: Wait>(
         &self,
@@ -80,7 +89,7 @@ impl Cache {
             self.now session.old key.now op.now (ended_with result reply.new) session.new) }
     {
         laws();
-        let at = stripe_of(key, self.config.stripes);
+        let at = self.stripe_of(key);
         session.agent.next_call();
         let mut lock = &self.locks[at];
         let mut access = Access {
@@ -109,7 +118,7 @@ impl Cache {
             self.now session.old key.now (value_into value.old) (result, value.new) session.new) }
     {
         laws();
-        let at = stripe_of(key, self.config.stripes);
+        let at = self.stripe_of(key);
         session.agent.next_call();
         let mut lock = &self.locks[at];
         let mut access = Access {
@@ -133,7 +142,7 @@ impl Cache {
             (Tried self.now session.old key.now op.now (ended_with result reply.new) session.new) }
     {
         laws();
-        let at = stripe_of(key, self.config.stripes);
+        let at = self.stripe_of(key);
         session.agent.next_call();
         let mut lock = &self.locks[at];
         let mut access = Access {
@@ -167,7 +176,7 @@ impl Cache {
             × (result ≡ value_in ended)) }
     {
         laws();
-        let at = stripe_of(key, self.config.stripes);
+        let at = self.stripe_of(key);
         session.agent.next_call();
         let mut lock = &self.locks[at];
         let mut access = Access {

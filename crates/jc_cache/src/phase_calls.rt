@@ -29,7 +29,7 @@ use jc_engine::{Access, Answer, BeginCall, Commit, How, Phase, PickUp, Processed
 use jc_model::{Op, Reply};
 use jc_session::{Counted, Session};
 use jc_stripe::{Appended, Ask, Join, LoadDone, Picked, ProcDone, Started, Ticket, WriteDone};
-use jc_types::{Key, stripe_of};
+use jc_types::Key;
 use std::sync::Wait;
 
 impl Cache {
@@ -52,7 +52,7 @@ impl Cache {
             (starting_now session.old.agent.caller key.now op.now (begun_with result reply.new))
             (counted_started result) session.new) }
     {
-        let at = stripe_of(key, self.config.stripes);
+        let at = self.stripe_of(key);
         let first = BeginCall::of(&session.agent, key, op, How::Now);
         self.phase_at(rt, session, at, first, reply)
     }
@@ -143,7 +143,7 @@ impl Cache {
             (PhaseAt (stripe_of join.key self.now.config.stripes) session.old
             (picking_now join (polled_with result reply.new)) (counted_picked result) session.new) }
     {
-        let at = stripe_of(join.key(), self.config.stripes);
+        let at = self.stripe_of(join.key());
         let pick_up = PickUp { join, waits: false };
         self.phase_at(rt, session, at, pick_up, reply)
     }
@@ -166,7 +166,7 @@ impl Cache {
             (PhaseAt (stripe_of join.key self.now.config.stripes) session.old
             (picking_late join (polled_with result reply.new)) (counted_picked result) session.new) }
     {
-        let at = stripe_of(join.key(), self.config.stripes);
+        let at = self.stripe_of(join.key());
         let pick_up = PickUp { join, waits: true };
         self.phase_at(rt, session, at, pick_up, reply)
     }
@@ -182,7 +182,7 @@ impl Cache {
             (PhaseAt (stripe_of ticket.reservation.key self.now.config.stripes) session.old
             (withdrawing ticket.reservation) Withdrawn session.new) }
     {
-        let at = stripe_of(&ticket.reservation().key, self.config.stripes);
+        let at = self.stripe_of(&ticket.reservation().key);
         self.phase_at(rt, session, at, Withdraw { ticket }, &mut Reply::Unit);
     }
 
@@ -193,7 +193,7 @@ impl Cache {
         requires own { IsOf self.now session.now }
         requires reservations { session.now.agent.counts.reservations ≡ 0 }
     {
-        let at = stripe_of(key, self.config.stripes);
+        let at = self.stripe_of(key);
         session
             .agent
             .wait_for_change(rt, &&self.locks[at], &session.seats[at]);
@@ -239,7 +239,7 @@ impl Cache {
             (committing ticket.reservation (out_of (A.answered answer)) (with_reply result reply.new))
             Committed session.new) }
     {
-        let at = stripe_of(&ticket.reservation().key, self.config.stripes);
+        let at = self.stripe_of(&ticket.reservation().key);
         self.phase_at(rt, session, at, Commit { ticket, answer }, reply)
     }
 

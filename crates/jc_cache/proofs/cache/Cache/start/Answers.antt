@@ -1,14 +1,7 @@
-use Rattle.jc_cache.proofs.Common.{ap, refl, subst, sym, begun_with, BeginsIfClear, StartsAt, StartWaits, CacheState}
+use Rattle.jc_cache.proofs.Common.{ap, refl, subst, sym, begun_with, BeginsIfClear, StartsAt, StartWaits}
 use Rattle.jc_engine.specs.declared.first.BeginCall.{BeginCall}
-use Rattle.jc_cache.proofs.WholeCalls.{some_stripe, at_key, number_near}
 use Rattle.jc_cache.proofs.SessionPhases.{start_needs, phase_map}
 use Rattle.jc_cache.proofs.cache.Cache.start.Goals as goal
-
-pub stripe_of-at-requires : goal.stripe_of-at-requires
-stripe_of-at-requires g c = some_stripe c.self.inside.config c.self.invariant.fits
-
-pub phase_at-requires-clause-stripe : goal.phase_at-requires-clause-stripe
-phase_at-requires-clause-stripe g c = number_near c.args.self.now c.self.inside.config c.args.key.now c.stripe_of-at.result c.self.invariant.fits (ap (λ (z : CacheState). z.config) c.self.view_is) c.stripe_of-at.ensures
 
 pub phase_at-requires-clause-who : goal.phase_at-requires-clause-who
 phase_at-requires-clause-who g c = ap (λ first. first.caller.session) c.of-first.ensures
@@ -17,11 +10,11 @@ pub phase_at-requires-clause-needs : goal.phase_at-requires-clause-needs
 phase_at-requires-clause-needs g c a found =
     subst (λ (p : BeginCall). BeginsIfClear p.caller p.key.now a) (sym c.of-first.ensures)
     (start_needs c.args.self.now c.args.session.now c.args.session.now.agent.caller c.args.key.now c.stripe_of-at.result found.0 a c.requires.own c.requires.may refl
-    (at_key c.args.self.now _ c.args.key.now _ (ap (λ (z : CacheState). z.config) c.self.view_is) c.stripe_of-at.ensures) found.1 found.2)
+    c.stripe_of-at.ensures.at found.1 found.2)
 
 pub returns : goal.returns
 returns g c =
-    phase_map c.args.self.now _ c.stripe_of-at.result c.args.session.now _ _ _ _ (at_key c.args.self.now _ c.args.key.now _ (ap (λ (z : CacheState). z.config) c.self.view_is) c.stripe_of-at.ensures)
+    phase_map c.args.self.now _ c.stripe_of-at.result c.args.session.now _ _ _ _ c.stripe_of-at.ensures.at
     (λ a b m. subst (λ (p : BeginCall). StartWaits p.how p.caller p.key.now p.op.now a b) c.of-first.ensures m)
     (λ a b m. subst (λ (p : BeginCall). StartsAt p.caller p.key.now p.op.now (begun_with c.phase_at.result c.phase_at.new.reply) a b) c.of-first.ensures m.first)
     c.phase_at.ensures
