@@ -25,10 +25,10 @@ pub use Rattle.jc_model.specs.Cache.{Bytes}
 pub use Rattle.jc_model.specs.declared.event.Change.{Change}
 pub use Rattle.jc_model.specs.declared.event.Op.{Op}
 pub use Rattle.jc_model.specs.declared.event.Op.TheVariants.{Clear, Get, Put, Remove}
-pub use Rattle.jc_rounds.proofs.CallerLemmas.{IsOutAt, Seated, all_early, all_map, all_mapped, all_out, among_there, as_many, carried_out, distinct_reserved, entries_more, entries_new, entries_whole, failures_are, front_found, grown_itself, grown_on, grown_phase, holds_none, may_again, none_run, opens_call, ran_more, ran_none, ran_quiet, ran_refused, refused_over, same_keys, seen_own, told_failed, told_found, types_on, view_set, view_there}
+pub use Rattle.jc_rounds.proofs.CallerLemmas.{IsOutAt, Seated, all_early, all_map, all_mapped, all_out, among_there, as_many, carried_out, distinct_reserved, failures_are, front_found, grown_itself, grown_on, grown_phase, holds_none, may_again, none_run, opens_call, ran_more, ran_none, ran_quiet, ran_refused, refused_over, same_keys, seen_own, types_on, view_set, view_there}
 pub use Rattle.jc_rounds.specs.Answers.{AreAnswers, IsToBeAnswered, asked_key, done_room, is_change_of}
 pub use Rattle.jc_rounds.specs.Asking.{AsksEachOnce, AsksFor, reserved_keys}
-pub use Rattle.jc_rounds.specs.Ends.{KeyEnd, failed_entries, found_entries, key_ends, reply_value, value_at}
+pub use Rattle.jc_rounds.specs.Ends.{KeyEnd, failed_entries, found_entries, key_ends, reply_value}
 pub use Rattle.jc_rounds.specs.KeyProgress.{IsCauseIn, failure_at, holds_reservation, refusal_in}
 pub use Rattle.jc_rounds.specs.OutsideCalls.{AreSpent, LoadCallAsked, LoadCallState, WriteCallAsked, WritesBatch, asked_keys, is_delete, no_loads, wanted}
 pub use Rattle.jc_rounds.specs.AskingRounds.{HasReserved, IsRoundTold, KeepsTickets}

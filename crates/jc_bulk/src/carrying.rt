@@ -10,14 +10,13 @@ ghost use Rattle.jc_bulk.specs.Carrying.{IsCallEnd, IsRoomOfCall};
 ghost use Rattle.jc_bulk.specs.Outside.{bulk_behavior};
 ghost use Rattle.jc_bulk.specs.BulkRounds.{KeysAskAs};
 
-use crate::entries::add_failed;
 use crate::fault::BulkFault;
 use crate::outside::{OutsideCall, OutsideKind};
 use crate::rounds::run_rounds;
 use indexmap::IndexMap;
 use jc_cache::{Cache, Session};
 use jc_model::Reply;
-use jc_rounds::{BulkCall, KeyProgress, Rooms, Targets};
+use jc_rounds::{BulkCall, KeyProgress, Rooms, Targets, add_entries};
 use jc_types::{Key, Refusal, Value};
 use std::alloc::{AllocError, Global};
 use std::sync::Wait;
@@ -98,7 +97,7 @@ pub(crate) fn carry_out<R: Wait>(
     session.next_call();
     run_rounds(alloc, rt, cache, session, &mut call, outside);
     let (progress, cause) = call.end();
-    add_failed(targets, progress.as_slice(), &mut failed);
+    add_entries(targets, progress.as_slice(), &mut failed);
     CallEnd {
         cause,
         progress,

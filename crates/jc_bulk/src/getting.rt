@@ -9,13 +9,12 @@ ghost use Rattle.jc_bulk.specs.Targets.{get_ops};
 ghost use Rattle.jc_bulk.specs.declared.outside.OutsideKind.TheVariants.{Load};
 
 use crate::carrying::{BulkRoom, CallEnd, carry_out};
-use crate::entries::add_found;
 use crate::fault::BulkFault;
 use crate::outside::OutsideKind;
 use indexmap::{IndexMap, IndexSet};
 use jc_cache::{Cache, Session};
 use jc_model::{Op, Reply};
-use jc_rounds::Targets;
+use jc_rounds::{Targets, add_entries};
 use jc_types::{BULK_KEYS_MAX, Key, Refusal, Value};
 use std::alloc::{AllocError, Global};
 use std::sync::Wait;
@@ -70,7 +69,7 @@ pub fn get_all<R: Wait>(
                 progress,
                 failed,
             } = outcome;
-            add_found(&targets, progress.as_slice(), &mut found);
+            add_entries(&targets, progress.as_slice(), &mut found);
             with_values(cause, failed, found)
         }
     }

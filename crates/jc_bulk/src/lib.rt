@@ -15,7 +15,6 @@
 #![tactic(auto)]
 
 mod carrying;
-mod entries;
 mod fault;
 mod getting;
 mod loading;
@@ -24,7 +23,6 @@ mod rounds;
 mod sweeping;
 mod writing;
 
-pub use entries::insert_some;
 pub use fault::BulkFault;
 pub use getting::get_all;
 pub use loading::load_keys;

@@ -1,5 +1,5 @@
 //! The one call outside that a bulk call makes for all keys that a round has reserved.
-ghost use Rattle.std.specs.Prelude.{◌≡◌, ◌≤◌, ◌+◌, ◌-◌, ◌<◌, ◌++◌, ◌∷◌, ℕ, [], false, true, length, map, vec_capacity, IfNone, IfOk, IfSome, IsSome};
+ghost use Rattle.std.specs.Prelude.{◌≡◌, ◌-◌, ◌<◌, ℕ, [], false, true, IfNone, IfOk, IfSome};
 ghost use Rattle.jc_model.specs.Batches.{is_among};
 ghost use Rattle.jc_cache.specs.Sessions.{HasAsked};
 ghost use Rattle.jc_rounds.specs.OutsideCalls.{asked_keys};

@@ -13,7 +13,7 @@ pub use Rattle.jc_cache.proofs.CallerLemmas.{holds_nothing}
 pub use Rattle.jc_cache.specs.Caches.{CacheState}
 pub use Rattle.jc_cache.specs.Sessions.{HasAsked, MayCall}
 pub use Rattle.jc_session.specs.declared.session.Session.{Session}
-pub use Rattle.jc_invoke.specs.Invoke.{IsInvokedAll, result_at, result_entries, result_of}
+pub use Rattle.jc_invoke.specs.Invoke.{IsInvokedAll}
 pub use Rattle.jc_invoke.specs.InvokeRounds.{HaveAsked, IsInvokeReady, IsInvoked, RunsOn}
 pub use Rattle.jc_invoke.specs.Processing.{HasRunEach, IsRoundAsked, IsTicketRun, IsToBeRun, KeepsProcessing, KeepsRunsRoom, MayRunEach, TakesKey}
 pub use Rattle.jc_invoke.specs.RoundRooms.{IsNextRoom, IsRoundRoomFor, LeavesBatches}
@@ -27,10 +27,10 @@ pub use Rattle.jc_model.specs.declared.event.Op.{Op}
 pub use Rattle.jc_model.specs.declared.event.Op.TheVariants.{Clear, Get, Invoke, LoadAll}
 pub use Rattle.jc_mutentry.specs.Done.{ProcessResult}
 pub use Rattle.jc_outside.specs.Calling.{KeepsType}
-pub use Rattle.jc_rounds.proofs.CallerLemmas.{IsOutAt, all_map, all_mapped, all_out, among_there, carried_out, distinct_reserved, entries_more, entries_new, entries_whole, may_again, no_batch, none_run, opens_call, or_true, ran_more, ran_none, ran_quiet, ran_refused, refused_over, same_keys, types_on}
+pub use Rattle.jc_rounds.proofs.CallerLemmas.{IsOutAt, all_map, all_mapped, all_out, among_there, carried_out, distinct_reserved, may_again, no_batch, none_run, opens_call, or_true, ran_more, ran_none, ran_quiet, ran_refused, refused_over, same_keys, types_on}
 pub use Rattle.jc_rounds.specs.Answers.{IsToBeAnswered, RunState, asked_key, claim_after, claims_after, done_of, done_room, is_change_of, key_run, reports, reservations_of}
 pub use Rattle.jc_rounds.specs.Asking.{AsksFor, reserved_keys}
-pub use Rattle.jc_rounds.specs.Ends.{KeyEnd, key_end, key_ends}
+pub use Rattle.jc_rounds.specs.Ends.{KeyEnd, key_end, key_ends, result_entries}
 pub use Rattle.jc_rounds.specs.OutsideCalls.{WriteCallAsked, WriteCallState, WritesBatch, asked_keys, no_writes, wanted}
 pub use Rattle.jc_rounds.specs.AskingRounds.{HasReserved, IsRoundTold, KeepsTickets}
 pub use Rattle.jc_rounds.specs.Rounds.{IsShown, KeyRun, ProcessAll, ProcessRound, Round, change_of, keys_asked}

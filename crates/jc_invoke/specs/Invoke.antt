@@ -1,48 +1,24 @@
 -- Whole calls that run a processor on many keys.
---     result_of        the result of a key, by its end: its value, its fault or its refusal; if the processor gave no value,
---                      there is none
---     result_at        the result of a key in this state
---     result_entries   each key that has a result, with it, in the call's order
 --     IsInvokedAll     a session's next call, carried out for these keys, each with its end, in rounds with these calls outside
 --     IsRefusedWhole   a call has too many keys, or an allocation failed, and nothing changes
 --     InvokesAll       such a call, with what it returns: the result of each key that has one, or its refusal as a whole
 use Rattle.std.specs.declared.dyn_box.DynBox.{DynBox}
-use Rattle.std.specs.Prelude.{◌≡◌, ◌≤◌, ◌<◌, ◌⊎◌, ℕ, List, length, map, Option, None, Some, Result, Ok, Err}
+use Rattle.std.specs.Prelude.{◌≡◌, ◌≤◌, ◌<◌, ◌⊎◌, ℕ, List, length, map, Result, Ok, Err}
 use Rattle.indexmap.specs.IndexMap.{IndexMap}
 use Rattle.jc_types.specs.declared.limits.TheConstants.{BULK_KEYS_MAX}
 use Rattle.jc_types.specs.declared.refusal.Refusal.{Refusal}
 use Rattle.jc_types.specs.declared.refusal.Refusal.TheVariants.{OutOfMemory, TooManyKeys}
 use Rattle.jc_model.specs.Cache.{Bytes}
 use Rattle.jc_model.specs.declared.event.Op.TheVariants.{Invoke}
-use Rattle.jc_model.specs.declared.event.Reply.{Reply}
 use Rattle.jc_model.specs.declared.event.Reply.TheVariants as reply
 use Rattle.jc_engine.specs.Asking.{KeepsTypes}
 use Rattle.jc_cache.specs.Caches.{CacheState}
 use Rattle.jc_session.specs.declared.session.Session.{Session}
-use Rattle.jc_rounds.specs.declared.progress.KeyProgress.{KeyProgress}
-use Rattle.jc_rounds.specs.declared.progress.KeyProgress.TheVariants.{Waiting, Reserved, Joined, Ended}
-use Rattle.jc_rounds.specs.Ends.{KeyEnd, entries_by}
+use Rattle.jc_rounds.specs.Ends.{KeyEnd, result_entries}
 use Rattle.jc_rounds.specs.Rounds.{ProcessAll, ProcessRound}
 use Rattle.jc_rounds.specs.Running.{IsCarriedOut}
 use Rattle.jc_rounds.specs.Targets.{ops_with}
 use Rattle.jc_invoke.specs.Runs.{CallsEach, RunBehavior, in_boxes}
-
-abbrev pub result_of : Result Reply Refusal → Option (Result Bytes Refusal)
-result_of (Err refusal) = Some (Err refusal)
-result_of (Ok (reply.Fault fault)) = Some (Err fault)
-result_of (Ok (reply.Value None)) = None
-result_of (Ok (reply.Value (Some value))) = Some (Ok value)
-result_of (Ok (reply.Flag flag)) = None
-result_of (Ok reply.Unit) = None
-
-abbrev pub result_at : KeyProgress → Option (Result Bytes Refusal)
-result_at Waiting = None
-result_at Reserved = None
-result_at Joined = None
-result_at (Ended ended) = result_of ended
-
-abbrev pub result_entries : List KeyEnd → List (Bytes × Result Bytes Refusal)
-result_entries ends = entries_by result_of ends
 
 -- `old` and `new` are the session before and after, `processor` and `processor'` the processor
 pub record IsInvokedAll

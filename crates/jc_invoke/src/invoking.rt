@@ -5,15 +5,14 @@ ghost use Rattle.jc_model.specs.declared.event.Op.TheVariants.{Invoke};
 ghost use Rattle.jc_model.specs.declared.event.Reply.{Reply};
 ghost use Rattle.jc_cache.specs.Calls.{Invoked, value_in};
 ghost use Rattle.jc_cache.specs.Sessions.{Completes, MayCall};
-ghost use Rattle.jc_rounds.specs.Ends.{KeyEnd};
+ghost use Rattle.jc_rounds.specs.Ends.{KeyEnd, result_entries};
 ghost use Rattle.jc_rounds.specs.Rounds.{ProcessRound};
 ghost use Rattle.jc_rounds.specs.Targets.{ops_of, ops_with};
-ghost use Rattle.jc_invoke.specs.Invoke.{InvokesAll, IsInvokedAll, result_entries};
+ghost use Rattle.jc_invoke.specs.Invoke.{InvokesAll, IsInvokedAll};
 ghost use Rattle.jc_invoke.specs.Processing.{KeepsProcessing};
 ghost use Rattle.jc_invoke.specs.RoundRooms.{IsMemoryFor};
 ghost use Rattle.jc_invoke.specs.Runs.{run_behavior};
 
-use crate::results::fill_results;
 use crate::room::RoundRoom;
 use crate::rounds::run_rounds;
 use crate::run::Processing;
@@ -21,7 +20,7 @@ use indexmap::{IndexMap, IndexSet};
 use jc_cache::{Cache, Session};
 use jc_model::{Op, Reply};
 use jc_mutentry::EntryProcessor;
-use jc_rounds::{BulkCall, Rooms, Targets};
+use jc_rounds::{BulkCall, Rooms, Targets, add_entries};
 use jc_types::{BULK_KEYS_MAX, Config, Key, Refusal, Value};
 use std::alloc::{AllocError, Global};
 use std::sync::Wait;
@@ -142,7 +141,8 @@ fn carry_out<R: Wait>(
     session.next_call();
     run_rounds(rt, cache, session, &mut call, room, processing);
     let (progress, _cause) = call.end();
-    fill_results(&mut results, slice, progress.as_slice());
+    let targets = Targets::Each(slice, Op::Invoke);
+    add_entries(&targets, progress.as_slice(), &mut results);
     results
 }
 

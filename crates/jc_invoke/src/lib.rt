@@ -2,7 +2,6 @@
 #![tactic(auto)]
 
 mod invoking;
-mod results;
 mod room;
 mod rounds;
 mod run;

@@ -11,7 +11,7 @@ use crate::notes::{PieceResult, find_note};
 use crate::pieces::places_of;
 use crate::worker::Worker;
 use indexmap::IndexMap;
-use jc_bulk::insert_some;
+use jc_rounds::insert_some;
 use jc_types::{Key, Refusal};
 
 /// Joins the notes of all pieces: it returns the first cause, and adds each key that ended in a fault or a refusal, in the order

@@ -1,6 +1,6 @@
 -- Lemmas for the crates above: a call from its rounds, what its rounds asked for, and how its keys ended.
 pub use Rattle.jc_rounds.proofs.Asked.{IsOutAt, all_map, all_mapped, all_out, among_there, distinct_reserved, types_on}
-pub use Rattle.jc_rounds.proofs.KeyEnds.{entries_more, entries_new, entries_whole, failures_are, told_failed, told_found}
+pub use Rattle.jc_rounds.proofs.KeyEnds.{failures_are}
 pub use Rattle.jc_rounds.proofs.OutsideCalls.{no_batch}
 pub use Rattle.jc_rounds.proofs.AskingRounds.{holds_none, ran_more, ran_none, ran_quiet, ran_refused}
 pub use Rattle.jc_rounds.proofs.SeatPhases.{Seated, front_found, grown_itself, grown_on, grown_phase, seen_own, view_set, view_there}

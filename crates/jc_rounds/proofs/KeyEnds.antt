@@ -1,13 +1,14 @@
 -- How the keys of a call ended, as it is added key by key.
 --     ends_more       how the keys before a place ended, with one key more
---     told_failed, told_found    what is said of the end of a key that is so far
+--     told_at         what is said of the end of a key that is so far
 --     entries_more    the entries of what is said of the ends, with one key more
 --     entries_new     the next key is in none of them
 --     entries_whole   the entries of all keys
 --     failures_are    the failures are those of the entries that failed
-use Rattle.jc_rounds.proofs.Common.{◌≡◌, ◌==◌, ◌||◌, ◌<◌, ◌≤◌, ◌+◌, ◌++◌, ℕ, zero, suc, List, [], ◌∷◌, length, map, take, get_or, min, false, Option, None, Some, option_map, Result, slice_get, append_assoc, refl, sym, ap, ◌∙◌, arith, append-nil, or_parts, take_all, take_more, length-take, take-map, filter_map-append, same_Some, cons_option, list_any, IsDistinct, keys_of, pointwise, Refusal, Bytes, Op, Get, Reply, KeyProgress, Waiting, Reserved, Joined, Ended, failure_at, failures, refusal_in}
+use Rattle.jc_rounds.proofs.Common.{◌≡◌, ◌==◌, ◌||◌, ◌<◌, ◌≤◌, ◌+◌, ◌++◌, ℕ, zero, suc, List, [], ◌∷◌, length, map, take, get_or, min, false, Option, None, Some, option_map, Result, slice_get, append_assoc, refl, sym, ap, ◌∙◌, arith, append-nil, or_parts, take_all, take_more, length-take, take-map, filter_map-append, same_Some, cons_option, list_any, IsDistinct, keys_of, pointwise, Refusal, Bytes, Op, Get, Reply, KeyProgress, Waiting, Reserved, Joined, Ended, failures, refusal_in}
 use Rattle.jc_batch.proofs.CallerLemmas.{not_before}
-use Rattle.jc_rounds.specs.Ends.{KeyEnd, entries_by, failed_entries, key_end, key_ends, reply_value, value_at}
+use Rattle.jc_rounds.specs.Ends.{KeyEnd, entries_by, failed_entries, key_end, key_ends}
+use Rattle.jc_rounds.specs.KeyProgress.{at_end}
 
 -- 1. One key more.
 
@@ -37,28 +38,21 @@ keys_before targets i = sym (take-map (λ (t : Bytes × Op). t.0) i targets)
 
 -- 2. What is said of an end.
 
-pub told_failed : (t : Bytes × Op) (p : KeyProgress) → entries_by refusal_in (key_end t p) ≡ cons_option (option_map (λ v. (t.0, v)) (failure_at p)) []
-told_failed t Waiting = refl
-told_failed t Reserved = refl
-told_failed t Joined = refl
-told_failed t (Ended ended) = refl
-
-pub told_found : (t : Bytes × Op) (p : KeyProgress) → entries_by reply_value (key_end t p) ≡ cons_option (option_map (λ v. (t.0, v)) (value_at p)) []
-told_found t Waiting = refl
-told_found t Reserved = refl
-told_found t Joined = refl
-told_found t (Ended ended) = refl
-
 module _ {V : Type 0} (said : Result Reply Refusal → Option V) where
-  pub entries_more : (at : KeyProgress → Option V) → ((t : Bytes × Op) (p : KeyProgress) → entries_by said (key_end t p) ≡ cons_option (option_map (λ v. (t.0, v)) (at p)) [])
-      → (targets : List (Bytes × Op)) (ps : List KeyProgress) (i : ℕ) (key : Bytes) (p : KeyProgress) (es : List (Bytes × V)) → length ps ≡ length targets → i < length ps → slice_get (keys_of targets) i ≡ Some key → p ≡ get_or ps i p
-      → es ≡ entries_by said (key_ends (take i targets) (take i ps)) → es ++ cons_option (option_map (λ v. (key, v)) (at p)) [] ≡ entries_by said (key_ends (take (i + 1) targets) (take (i + 1) ps))
-  entries_more at told targets ps i key p es many near there is so_far =
+  told_at : (t : Bytes × Op) (p : KeyProgress) → entries_by said (key_end t p) ≡ cons_option (option_map (λ v. (t.0, v)) (at_end said p)) []
+  told_at t Waiting = refl
+  told_at t Reserved = refl
+  told_at t Joined = refl
+  told_at t (Ended ended) = refl
+
+  pub entries_more : (targets : List (Bytes × Op)) (ps : List KeyProgress) (i : ℕ) (key : Bytes) (p : KeyProgress) (es : List (Bytes × V)) → length ps ≡ length targets → i < length ps → slice_get (keys_of targets) i ≡ Some key → p ≡ get_or ps i p
+      → es ≡ entries_by said (key_ends (take i targets) (take i ps)) → es ++ cons_option (option_map (λ v. (key, v)) (at_end said p)) [] ≡ entries_by said (key_ends (take (i + 1) targets) (take (i + 1) ps))
+  entries_more targets ps i key p es many near there is so_far =
       let t : Bytes × Op = (key, Get) in
       let here = key_there targets i t key there in
       let more : List KeyEnd = key_end (get_or targets i t) (get_or ps i p) in
-      let one : entries_by said more ≡ cons_option (option_map (λ v. (key, v)) (at p)) [] =
-      told (get_or targets i t) (get_or ps i p) ∙ (λ j. cons_option (option_map (λ v. (here j, v)) (at (sym is j))) []) in
+      let one : entries_by said more ≡ cons_option (option_map (λ v. (key, v)) (at_end said p)) [] =
+      told_at (get_or targets i t) (get_or ps i p) ∙ (λ j. cons_option (option_map (λ v. (here j, v)) (at_end said (sym is j))) []) in
       ap (λ xs. es ++ xs) (sym one) ∙ ap (λ xs. xs ++ entries_by said more) so_far
       ∙ sym (filter_map-append (λ (e : KeyEnd). option_map (λ v. (e.key, v)) (said e.ended)) (key_ends (take i targets) (take i ps)) more)
       ∙ ap (entries_by said) (sym (ends_more targets ps i t p many near))

@@ -8,7 +8,7 @@
 --     starting_on, held_by, kept_joined       a first phase
 --     committing_on     a commit
 --     picking_on        a pick-up
-use Rattle.jc_rounds.proofs.Common.{◌≡◌, ◌==◌, ◌⊎◌, inl, inr, ◌<◌, ◌≤◌, ◌+◌, ◌++◌, ℕ, List, [], ◌∷◌, length, map, set, reverse, slice_get, true, false, Option, None, Some, Result, Ok, vec_capacity, vec_len, refl, sym, ap, subst, ◌∙◌, arith, length-append, Vec, IsAmong, IsDistinct, keys_of, pointwise, JOINERS_MAX, RESERVATIONS_MAX, HaveJoined, IsRoomFor, Config, Refusal, is_among, Bytes, Op, Get, Out, Reply, Begun, Polled, Reservation, JoinClaim, TicketClaim, View, counted_begun, counted_polled, Agent, CacheState, Session, RoundAnswers, BulkCall, KeyProgress, Waiting, Reserved, Joined, Ended, AreAnswers, HasAskedSoFar, IsMet, StayEnded, failures, holds_reservation, is_held_back, waits_for_joined_load, HasBegun, HasPicked, IsCommitted, IsEarly, IsJoinFor, IsAnswer, LoadAll, ProcessAll, Round, WriteAll, asked_in, faults_in, keys_asked, AreBefore, HasGrown, view_of, steps_of, Caller, AreSettledFrom, AreUnder, IsHeldAt, IsKept, IsPicked, IsUnderway, KeysAdvance, ops_of, Advances, AdvancesUnnoted, CallPast, HasRoom, IsCommitting, IsFresh, IsOn, IsPicking, IsStarting, KeepsJoined, KeepsRoom, are_fresh, reserved_by}
+use Rattle.jc_rounds.proofs.Common.{◌≡◌, ◌==◌, ◌⊎◌, inl, inr, ◌<◌, ◌≤◌, ◌+◌, ◌++◌, ℕ, List, [], ◌∷◌, length, map, set, slice_get, true, false, Option, None, Some, Result, Ok, vec_capacity, vec_len, refl, sym, ap, subst, ◌∙◌, arith, length-append, Vec, IsAmong, IsDistinct, keys_of, pointwise, JOINERS_MAX, RESERVATIONS_MAX, HaveJoined, IsRoomFor, Config, Refusal, is_among, Bytes, Op, Get, Out, Reply, Begun, Polled, Reservation, JoinClaim, TicketClaim, View, counted_begun, counted_polled, Agent, CacheState, Session, RoundAnswers, BulkCall, KeyProgress, Waiting, Reserved, Joined, Ended, AreAnswers, HasAskedSoFar, IsMet, StayEnded, failures, holds_reservation, is_held_back, waits_for_joined_load, HasBegun, HasPicked, IsCommitted, IsEarly, IsJoinFor, IsAnswer, LoadAll, ProcessAll, Round, WriteAll, asked_in, faults_in, keys_asked, AreBefore, HasGrown, view_of, steps_of, Caller, AreSettledFrom, AreUnder, IsHeldAt, IsKept, IsPicked, IsUnderway, KeysAdvance, ops_of, Advances, AdvancesUnnoted, CallPast, HasRoom, IsCommitting, IsFresh, IsOn, IsPicking, IsStarting, KeepsJoined, KeepsRoom, are_fresh, reserved_by}
 use Rattle.jc_stripe.specs.Outcomes as begun
 use Rattle.jc_session.specs.declared.counts.Counted.{Counted}
 use Rattle.jc_session.specs.declared.counts.Counted.TheVariants.{Committed}

@@ -3,11 +3,13 @@
 --     key_ops         the keys with their operations, in the call's order
 --     key_end, key_ends    the end of a key, if it has ended, and the ends of these keys, in their order
 --     reply_value     the value in the reply of a key's step, if there is one
---     value_at        the value of a key in this state
+--     result_of       the result of a key, by its end: its value, its fault or its refusal; if a processor gave no value, there is
+--                     none
 --     entries_by      each key for whose end this function gives something, with that, in the call's order
 --     failed_entries  each key that ended in a fault or a refusal, with it, in the call's order
 --     found_entries   each key whose step replied a value, with it, in the call's order
-use Rattle.std.specs.Prelude.{◌++◌, List, [], ◌∷◌, map, Option, None, option_map, Result, Ok, Err}
+--     result_entries  each key that has a result, with it, in the call's order
+use Rattle.std.specs.Prelude.{◌++◌, List, [], ◌∷◌, map, Option, None, Some, option_map, Result, Ok, Err}
 use Rattle.std.specs.List.{filter_map}
 use Rattle.jc_types.specs.declared.refusal.Refusal.{Refusal}
 use Rattle.jc_model.specs.declared.event.Op.{Op}
@@ -46,11 +48,13 @@ reply_value (Ok (reply.Value value)) = value
 reply_value (Ok (reply.Flag flag)) = None
 reply_value (Ok reply.Unit) = None
 
-abbrev pub value_at : KeyProgress → Option Bytes
-value_at Waiting = None
-value_at Reserved = None
-value_at Joined = None
-value_at (Ended ended) = reply_value ended
+abbrev pub result_of : Result Reply Refusal → Option (Result Bytes Refusal)
+result_of (Err refusal) = Some (Err refusal)
+result_of (Ok (reply.Fault fault)) = Some (Err fault)
+result_of (Ok (reply.Value None)) = None
+result_of (Ok (reply.Value (Some value))) = Some (Ok value)
+result_of (Ok (reply.Flag flag)) = None
+result_of (Ok reply.Unit) = None
 
 abbrev pub entries_by : {V : Type 0} → (Result Reply Refusal → Option V) → List KeyEnd → List (Bytes × V)
 entries_by said ends = filter_map (λ (e : KeyEnd). option_map (λ v. (e.key, v)) (said e.ended)) ends
@@ -60,3 +64,6 @@ failed_entries ends = entries_by refusal_in ends
 
 abbrev pub found_entries : List KeyEnd → List (Bytes × Bytes)
 found_entries ends = entries_by reply_value ends
+
+abbrev pub result_entries : List KeyEnd → List (Bytes × Result Bytes Refusal)
+result_entries ends = entries_by result_of ends

@@ -7,6 +7,7 @@
 --     StillWaits              the key at this place waits
 --     all_waiting             the states of this number of keys before the first round
 --     StayEnded               there are as many keys later, and those that have ended have the same end
+--     at_end                  what the end of a key in this state says
 --     refusal_in              the fault or refusal in which a key has ended, if it did
 --     failure_at              the fault or refusal of a key in this state
 --     failures                the faults and refusals of all keys
@@ -68,6 +69,12 @@ pub record StayEnded (progress later : List KeyProgress) : Type 0 where
   pub many : length later ≡ length progress
   pub ended : (place : ℕ) (e : Result Reply Refusal) → slice_get progress place ≡ Some (Ended e) → slice_get later place ≡ Some (Ended e)
 
+abbrev pub at_end : {V : Type 0} → (Result Reply Refusal → Option V) → KeyProgress → Option V
+at_end said Waiting = None
+at_end said Reserved = None
+at_end said Joined = None
+at_end said (Ended ended) = said ended
+
 -- 2. What failed.
 
 abbrev pub refusal_in : Result Reply Refusal → Option Refusal
@@ -78,10 +85,7 @@ refusal_in (Ok (reply.Flag flag)) = None
 refusal_in (Ok reply.Unit) = None
 
 abbrev pub failure_at : KeyProgress → Option Refusal
-failure_at Waiting = None
-failure_at Reserved = None
-failure_at Joined = None
-failure_at (Ended ended) = refusal_in ended
+failure_at progress = at_end refusal_in progress
 
 abbrev pub failures : List KeyProgress → List Refusal
 failures progress = filter_map failure_at progress

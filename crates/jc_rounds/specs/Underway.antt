@@ -24,7 +24,7 @@
 --     HasRoom            there is room for one more ticket and for one more join
 --     KeepsRoom          only the tickets and the joins have changed, and there is as much room for them
 --     IsOver             no key waits
-use Rattle.std.specs.Prelude.{◌≡◌, ◌==◌, ◌⊎◌, ◌≤◌, ◌<◌, ℕ, List, [], ◌∷◌, ◌++◌, length, map, reverse, true, false, None, nat_lt, vec_capacity}
+use Rattle.std.specs.Prelude.{◌≡◌, ◌==◌, ◌⊎◌, ◌≤◌, ◌<◌, ℕ, List, [], ◌∷◌, ◌++◌, length, map, true, false, None, nat_lt, vec_capacity}
 use Rattle.std.specs.List.{AllByRecursion, IsAmong, IsDistinct}
 use Rattle.std.specs.Map.{keys_of}
 use Rattle.std.specs.Cmp.Lexicographic.{pointwise}

@@ -21,6 +21,7 @@
 mod answers;
 mod bulk_call;
 mod committing;
+mod ends;
 mod key;
 mod load_call;
 mod picking;
@@ -32,6 +33,7 @@ mod write_call;
 
 pub use answers::{RoundAnswers, change_after};
 pub use bulk_call::{BulkCall, Rooms};
+pub use ends::{OfEnd, add_entries, insert_some};
 pub use load_call::{LoadCall, SpentLoads};
 pub use progress::KeyProgress;
 pub use targets::Targets;

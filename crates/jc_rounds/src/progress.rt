@@ -2,6 +2,7 @@
 ghost use Rattle.std.specs.Prelude.{◌≡◌};
 ghost use Rattle.jc_rounds.specs.KeyProgress.{failure_at, holds_reservation, refused_if_waiting, waits_for_joined_load, waits_for_round};
 
+use crate::ends::OfEnd;
 use jc_model::Reply;
 use jc_types::Refusal;
 
@@ -54,9 +55,7 @@ impl KeyProgress {
         ensures { result ≡ failure_at self.now }
     {
         match self {
-            KeyProgress::Ended(Err(refusal)) => Some(*refusal),
-            KeyProgress::Ended(Ok(Reply::Fault(fault))) => Some(*fault),
-            KeyProgress::Ended(Ok(Reply::Value(_) | Reply::Flag(_) | Reply::Unit)) => None,
+            KeyProgress::Ended(ended) => Refusal::of_end(ended),
             KeyProgress::Waiting | KeyProgress::Reserved | KeyProgress::Joined => None,
         }
     }

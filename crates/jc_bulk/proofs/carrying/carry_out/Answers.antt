@@ -29,9 +29,9 @@ end-progress-requires g c =
     let between = (c.run_rounds.ensures.runs (begun c.args.session.now) (first g (goal.at.end-progress-requires g c).After-next_call)).run.between in
     (between.no_tickets, between.no_joins)
 
-pub add_failed-requires-clause-many : goal.add_failed-requires-clause-many
-add_failed-requires-clause-many g c =
-    let at = (goal.at.add_failed-requires-clause-many g c).After-next_call in
+pub add_entries-requires-clause-many : goal.add_entries-requires-clause-many
+add_entries-requires-clause-many g c =
+    let at = (goal.at.add_entries-requires-clause-many g c).After-next_call in
     let runs = c.run_rounds.ensures.runs (begun c.args.session.now) (first g at) in
     ap length c.as_slice.ensures.value ∙ ap (λ v. length v.items) c.end-progress.ensures.0 ∙ runs.run.between.on.under.so_far.many ∙ ap (λ t. length (ops_of t)) (ap (λ t. t.now) runs.targets ∙ (new g at).targets_are)
 
@@ -45,7 +45,7 @@ returns g c =
       call = record {
         carried = ends_for _ c.args.cache.now c.args.session.now c.next_call.new.self c.run_rounds.new.session c.args.targets.now c.new-call.result c.run_rounds.new.call c.end-progress.result.0 c.end-progress.result.1 c.next_call.ensures.call (new g at).targets_are c.end-progress.ensures.0
             c.end-progress.ensures.1 c.run_rounds.ensures.over runs;
-        failed = c.add_failed.ensures ∙ ap (λ ps. failed_entries (key_ends ops ps)) c.as_slice.ensures.value;
+        failed = c.add_entries.ensures ∙ ap (λ ps. failed_entries (key_ends ops ps)) c.as_slice.ensures.value;
         many = ap (λ v. length v.items) c.end-progress.ensures.0 ∙ runs.run.between.on.under.so_far.many ∙ ap (λ t. length (ops_of t)) (ap (λ t. t.now) runs.targets ∙ (new g at).targets_are);
       };
     }

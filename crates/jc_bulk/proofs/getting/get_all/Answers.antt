@@ -14,8 +14,8 @@ ready g c =
 pub carry_out-outcome-requires-clause-room : goal.carry_out-outcome-requires-clause-room
 carry_out-outcome-requires-clause-room g c = ready g (goal.at.carry_out-outcome-requires-clause-room g c).In-Ok
 
-pub add_found-requires-clause-distinct : goal.add_found-requires-clause-distinct
-add_found-requires-clause-distinct g c = (ready g (goal.at.add_found-requires-clause-distinct g c).In-Ok).distinct
+pub add_entries-requires-clause-distinct : goal.add_entries-requires-clause-distinct
+add_entries-requires-clause-distinct g c = (ready g (goal.at.add_entries-requires-clause-distinct g c).In-Ok).distinct
 
 pub with_values-requires : goal.with_values-requires
 with_values-requires g c =
@@ -28,7 +28,7 @@ returns-in-Ok g c =
     let outcome = c.carry_out-outcome in
     let call = outcome.ensures.call in
     let ends = key_ends (get_ops c.as_slice.result.now) outcome.result.progress.items in
-    let found = c.add_found.ensures ∙ ap (λ ps. found_entries (key_ends (get_ops c.as_slice.result.now) ps)) c.as_slice-in-Ok.ensures.value in
+    let found = c.add_entries.ensures ∙ ap (λ ps. found_entries (key_ends (get_ops c.as_slice.result.now) ps)) c.as_slice-in-Ok.ensures.value in
     record {
       may = outcome.ensures.may;
       call = inl (

@@ -1,5 +1,6 @@
-use Rattle.jc_invoke.proofs.Common.{result_entries, Invoke, key_ends, HasRun, ops_with, ◌==◌, subst, ap, sym, ◌∙◌, length, pointwise, IsDistinct}
+use Rattle.jc_invoke.proofs.Common.{result_entries, spare, Invoke, key_ends, HasRun, ops_with, ◌≤◌, ◌==◌, subst, ap, sym, ◌∙◌, length, pointwise, IsDistinct}
 use Rattle.jc_invoke.proofs.Invoked.{before_it, has_begun, invoked, over}
+use Rattle.jc_invoke.proofs.KeyResults.{as_many, keys_distinct}
 use Rattle.jc_invoke.proofs.invoking.carry_out.Goals.{After-next_call}
 use Rattle.jc_invoke.proofs.invoking.carry_out.Goals as goal
 
@@ -22,14 +23,21 @@ end-progress-requires g c =
     (over _ c.args.processing.now.args.now c.args.cache.now c.args.session.now c.next_call.new.self c.run_rounds.new.session c.args.memory.call c.run_rounds.new.call
     c.args.processing.now.processor.now c.run_rounds.new.processing.processor.now c.args.keys.now.keys c.requires.memory.targets_are made).1
 
-pub fill_results-requires-clause-keys : goal.fill_results-requires-clause-keys
-fill_results-requires-clause-keys g c =
-    let made = c.run_rounds.ensures.runs _ (first g (goal.at.fill_results-requires-clause-keys g c).After-next_call) in
-    let many = ap length c.as_slice.ensures.value ∙ ap (λ v. length v.items) c.end-progress.ensures.0
+pub add_entries-requires-clause-distinct : goal.add_entries-requires-clause-distinct
+add_entries-requires-clause-distinct g c = keys_distinct Invoke c.as_slice-slice.result.now (subst (IsDistinct (pointwise ◌==◌)) (sym c.as_slice-slice.ensures.keys) c.as_slice-slice.ensures.unique)
+
+pub add_entries-requires-clause-many : goal.add_entries-requires-clause-many
+add_entries-requires-clause-many g c =
+    let made = c.run_rounds.ensures.runs _ (first g (goal.at.add_entries-requires-clause-many g c).After-next_call) in
+    ap length c.as_slice.ensures.value ∙ ap (λ v. length v.items) c.end-progress.ensures.0
     ∙ (over _ c.args.processing.now.args.now c.args.cache.now c.args.session.now c.next_call.new.self c.run_rounds.new.session c.args.memory.call c.run_rounds.new.call
     c.args.processing.now.processor.now c.run_rounds.new.processing.processor.now c.args.keys.now.keys c.requires.memory.targets_are made).2
-    ∙ sym (ap length c.as_slice-slice.ensures.keys) in
-    (subst (IsDistinct (pointwise ◌==◌)) (sym c.as_slice-slice.ensures.keys) c.as_slice-slice.ensures.unique, many)
+    ∙ sym (ap length c.as_slice-slice.ensures.keys) ∙ sym (as_many Invoke c.as_slice-slice.result.now)
+
+pub add_entries-requires-clause-empty : goal.add_entries-requires-clause-empty
+add_entries-requires-clause-empty g c =
+    let m = c.requires.memory in
+    (m.no_results, subst (λ ks. length (ops_with Invoke ks) ≤ spare c.args.memory.results) (sym c.as_slice-slice.ensures.keys) m.results_room)
 
 pub returns : goal.returns
 returns g c =
@@ -46,6 +54,6 @@ returns g c =
         key_ends (ops_with Invoke c.args.keys.now.keys) c.run_rounds.new.call.progress.items,
         is.0,
         is.1,
-        c.fill_results.ensures ∙ (λ i. result_entries (key_ends (ops_with Invoke (c.as_slice-slice.ensures.keys i)) (items i))),
+        c.add_entries.ensures ∙ (λ i. result_entries (key_ends (ops_with Invoke (c.as_slice-slice.ensures.keys i)) (items i))),
       );
     }

@@ -1,4 +1,4 @@
-use Rattle.jc_rounds.proofs.Common.{Ok, refl, reverse, sym, ◌∙◌, BulkCall, Ended, Reserved}
+use Rattle.jc_rounds.proofs.Common.{Ok, refl, reverse, sym, ◌∙◌, Ended, Reserved}
 use Rattle.jc_rounds.proofs.Loops.{commit_none, commit_past, next_commit, no_items}
 use Rattle.jc_rounds.proofs.OnCall.{committing_on, may_commit, near_in, unnoted_by, unnoted_itself}
 use Rattle.jc_rounds.proofs.Underway.{reserved_there, there_by}

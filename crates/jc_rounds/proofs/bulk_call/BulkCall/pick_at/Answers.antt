@@ -1,4 +1,4 @@
-use Rattle.jc_rounds.proofs.Common.{refl, reverse, sym, ◌∙◌, polled_with, BulkCall, Joined}
+use Rattle.jc_rounds.proofs.Common.{refl, reverse, sym, ◌∙◌, polled_with, Joined}
 use Rattle.jc_rounds.proofs.Loops.{next_pick, no_items, pick_none, pick_past}
 use Rattle.jc_rounds.proofs.OnCall.{may_pick, near_in, picking_on, unnoted_by, unnoted_itself}
 use Rattle.jc_rounds.proofs.Underway.{joined_there, there_by}
