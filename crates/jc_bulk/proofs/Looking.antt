@@ -6,12 +6,13 @@
 --     looked_none, looked_next  no stripe, and one stripe more
 --     apart_next                the keys still differ, and are of the stripes that were looked at
 --     sweeps_of                 a call that is carried out for the keys that were found
-use Rattle.jc_bulk.proofs.Common.{DoesAll, HasLooked, IsLookedAt, LooksOnce, OnlyLooks, OrNoMemory, SweepsAll, BulkBehavior, BulkFault, CacheState, IsOf, MayCall, Session, Bytes, Op, Seated, all_early, front_found, grown_itself, grown_on, grown_phase, seen_own, view_set, view_there, HasGrown, view_at, ops_with, keys_once, keys_own, stripe_of, ◌≡◌, ◌==◌, ◌&&◌, ◌⊎◌, ⊎_elim, inl, inr, ◌+◌, ◌<◌, ◌++◌, ℕ, zero, suc, List, [], ◌∷◌, length, Bool, true, false, nat_lt, None, Some, Result, slice_get, refl, sym, ap, subst, ◌∙◌, arith, append-nil, append_assoc, length-append, same_Some, pointwise, same_text, AllByRecursion, IsDistinct, flat_map, list_all}
+use Rattle.jc_bulk.proofs.Common.{DoesAll, HasLooked, IsLookedAt, LooksOnce, OnlyLooks, OrNoMemory, SweepsAll, BulkBehavior, BulkFault, CacheState, IsOf, MayCall, Session, Bytes, Op, Seated, all_early, front_found, grown_itself, grown_on, grown_phase, seen_own, view_set, view_there, HasGrown, view_at, ops_with, keys_once, keys_own, stripe_of, ◌≡◌, ◌==◌, ◌&&◌, ◌⊎◌, ⊎_elim, inl, inr, ◌+◌, ◌<◌, ◌++◌, ℕ, zero, suc, List, [], ◌∷◌, length, Bool, true, false, nat_lt, None, Some, Result, slice_get, refl, sym, ap, subst, ◌∙◌, arith, append-nil, append_assoc, length-append, same_Some, pointwise, same_text, AllByRecursion, IsAmong, IsDistinct, flat_map, list_all}
 use Rattle.std.proofs.lemmas.Bool.{and_parts}
 use Rattle.std.proofs.lemmas.Bool.Decides.{nat_tests}
 use Rattle.std.proofs.lemmas.List.Folds.{list_all-append}
 use Rattle.std.proofs.lemmas.Map.Keys.{IsDistinct-cons, IsDistinct-head, IsDistinct-tail}
 use Rattle.jc_types.proofs.CallerLemmas.{all_imply}
+use Rattle.jc_model.specs.declared.event.Event.{Event}
 use Rattle.jc_stripe.specs.Generations.{IsOfSameStripe}
 use Rattle.jc_stripe.specs.OnePhase.{OnePhase, own_steps}
 use Rattle.jc_stripe.specs.OwnSteps.{is_before_call}
@@ -169,11 +170,14 @@ module _ {I J : Type 0} {D : I → Type 0} {E : J → Type 0} where
     pub elsewhere : (i : ℕ) → (i ≡ number → ⊥) → view_at new.seats.items i ≡ view_at old.seats.items i
     elsewhere i apart = ap (λ (xs : List Seated). view_at xs i) x.now ∙ ⊎_elim (λ t. absurd (apart t.0)) (λ t. t.1) (view_set old.seats.items number i (x.lock, x.before) (x.lock, x.after) x.was)
 
+    same_own : x.after.own ≡ x.before.own
+    same_own = seen_own law old.agent.caller.session _ x.before x.after x.seat (ap (own_steps old.agent.caller.session) x.seat.made.0)
+
     pub looks_at : OnlyLooks old new
     looks_at = record {
-      grown = seats_on HasGrown grown_itself (grown_phase law old.agent.caller.session _ x.before x.after x.seat);
+      grown = seats_on HasGrown grown_itself (grown_phase law old.agent.caller.session _ x.before x.after x.seat (λ event among. subst (λ (es : List Event). IsAmong es event) (sym same_own) among));
       looks = seats_on LooksOnce (λ u. inl (none_lent u)) (inr (x.seat.found, lent_here));
-      own = seats_on (λ u v. v.own ≡ u.own) (λ u. refl) (seen_own law old.agent.caller.session _ x.before x.after x.seat (ap (own_steps old.agent.caller.session) x.seat.made.0));
+      own = seats_on (λ u v. v.own ≡ u.own) (λ u. refl) same_own;
       agent = x.left;
     }
 

@@ -196,10 +196,10 @@ module _ (law : OnePhase) (steps : OwnSteps) where
       let was : v.own ≡ g.before ++ g.after = sym x.own ∙ ap (λ (n : ℕ). all_own_steps n x.found) mine ∙ g.was in
       let is : w.own ≡ g.before ++ Step join.caller Get join.key gains.0 (Some shared_with) reply ∷ g.after = x.own_is ∙ ap (λ (n : ℕ). all_own_steps n w.noted) mine ∙ g.is in
       let there : slice_get w.front at ≡ Some (Step join.caller Get join.key gains.0 (Some shared_with) reply) = ap (λ (es : List Event). slice_get es at) x.front_is ∙ whole.0 in
-      let grown = grown_phase law session _ v w x in (
-        gained_phase law session _ v w x join.caller join.key (pick_turn join (polled.Answer reply place shared_with)) Get gains.0 (Some shared_with) reply g.before g.after was is early,
+      let moves = gained_phase law session _ v w x join.caller join.key (pick_turn join (polled.Answer reply place shared_with)) Get gains.0 (Some shared_with) reply g.before g.after was is early in (
+        moves,
         λ first older for. (
-            let front = prefix-trans first.front v.front w.front older.front grown.front in
+            let front = prefix-trans first.front v.front w.front older.front moves.grown.front in
             record {
               out = gains.0;
               shared_with = Some shared_with;

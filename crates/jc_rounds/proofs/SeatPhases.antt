@@ -8,7 +8,7 @@
 --     view_set           the views after one seat was replaced
 --     view_there         the view of a seat that is there
 --     moves_all          what a phase leaves of all seats
-use Rattle.jc_rounds.proofs.Common.{◌≡◌, ◌==◌, ◌&&◌, ◌⊎◌, ⊎_elim, inl, inr, ℕ, zero, suc, List, [], ◌∷◌, ◌++◌, Bool, true, false, Option, Some, slice_get, slice_set, refl, sym, ap, subst, ◌∙◌, arith, le_refl, append_assoc, append-nil, and_from, nat_tests, nat_list_eq_equiv, same_Some, AllByRecursion, pointwise, stripe_of, Caller, Bytes, Event, Step, Op, Out, Reply, State, whole_history, OnePhase, IsUniform, own_steps, whole_goes_on, own_stay, View, prefix-refl, prefix-trans, same_itself, same_on, AllLend, Turn, SeatPhase, IsEarly, steps_of, former_steps, are_before, HasFound, HasGrown, MovesAtKey, is_at, view_at}
+use Rattle.jc_rounds.proofs.Common.{◌≡◌, ◌==◌, ◌&&◌, ◌⊎◌, ⊎_elim, inl, inr, ℕ, zero, suc, List, [], ◌∷◌, ◌++◌, Bool, true, false, Option, Some, slice_get, slice_set, refl, sym, ap, subst, ◌∙◌, arith, le_refl, append_assoc, append-nil, and_from, nat_tests, nat_list_eq_equiv, same_Some, AllByRecursion, IsAmong, pointwise, stripe_of, Caller, Bytes, Event, Step, Op, Out, Reply, State, whole_history, OnePhase, IsUniform, own_steps, whole_goes_on, own_stay, View, prefix-refl, prefix-trans, same_itself, same_on, AllLend, Turn, SeatPhase, IsEarly, steps_of, former_steps, are_before, HasFound, HasGrown, MovesAtKey, is_at, view_at}
 use mathlib.Core.List.{IsPrefix}
 use Rattle.atomic_table.specs.Seated.{TableId}
 use Rattle.jc_stripe.specs.Renewal.{RenewsIfFull}
@@ -20,6 +20,11 @@ abbrev pub Seated : Type 0
 Seated = TableId × View
 
 -- 1. One seat.
+
+among_push : {X : Type 0} (xs ys : List X) (x v : X) → IsAmong (xs ++ ys) v → IsAmong (xs ++ x ∷ ys) v
+among_push [] ys x v (i, (lt, is)) = (suc i, (omega (arith, lt), is))
+among_push (y ∷ xs) ys x v (zero, (lt, is)) = (zero, (omega arith, is))
+among_push (y ∷ xs) ys x v (suc i, (lt, is)) = let rest = among_push xs ys x v (i, (omega (arith, lt), is)) in (suc rest.0, (omega (arith, rest.1.0), rest.1.1))
 
 pub record MovesSeat (caller : Caller) (key : Bytes) (v w : View) : Type 0 where
   pub grown : HasGrown v w
@@ -59,10 +64,10 @@ phases_among caller at at' v w among p = record {
 }
 
 pub grown_itself : (v : View) → HasGrown v v
-grown_itself v = record { front = prefix-refl v.front; same = same_itself v.noted; next = le_refl v.noted.next; all = λ a. a; row = []; lendings = sym (append-nil v.lendings) }
+grown_itself v = record { front = prefix-refl v.front; same = same_itself v.noted; next = le_refl v.noted.next; all = λ a. a; own = λ event among. among; row = []; lendings = sym (append-nil v.lendings) }
 
 pub grown_on : (u v w : View) → HasGrown u v → HasGrown v w → HasGrown u w
-grown_on u v w p q = record { front = prefix-trans u.front v.front w.front p.front q.front; same = same_on u.noted v.noted w.noted p.same q.same; next = (let one = p.next in let two = q.next in omega arith); all = λ a. q.all (p.all a); row = p.row ++ q.row; lendings = q.lendings ∙ ap (λ (ls : List (State × State)). ls ++ q.row) p.lendings ∙ append_assoc u.lendings p.row q.row }
+grown_on u v w p q = record { front = prefix-trans u.front v.front w.front p.front q.front; same = same_on u.noted v.noted w.noted p.same q.same; next = (let one = p.next in let two = q.next in omega arith); all = λ a. q.all (p.all a); own = λ event among. q.own event (p.own event among); row = p.row ++ q.row; lendings = q.lendings ∙ ap (λ (ls : List (State × State)). ls ++ q.row) p.lendings ∙ append_assoc u.lendings p.row q.row }
 
 -- a lending, up to a later view, and from an earlier one on
 pub found_later : (u v w : View) (seen left : State) → HasGrown v w → HasFound u seen left v → HasFound u seen left w
@@ -95,12 +100,13 @@ module _ (law : OnePhase) (session : ℕ) (turn : Turn) (v w : View) (x : SeatPh
   pub all_now : HasAllSeen w
   all_now = record { reached = uniform.reached; front = x.front_is }
 
-  pub grown_phase : HasGrown v w
-  grown_phase = record {
+  pub grown_phase : ((event : Event) → IsAmong v.own event → IsAmong w.own event) → HasGrown v w
+  grown_phase keeps = record {
     front = prefix-trans v.front (whole_history x.found) w.front x.front front_found;
     same = x.seat.same;
     next = x.seat.next;
     all = λ a. all_now;
+    own = keeps;
     row = x.waits ++ (x.found, w.noted) ∷ [];
     lendings = x.lent.lendings;
   }
@@ -123,7 +129,7 @@ module _ (law : OnePhase) (session : ℕ) (turn : Turn) (v w : View) (x : SeatPh
 
   pub seen_phase : (caller : Caller) (key : Bytes) → IsTurnOfCall turn caller key → own_steps session w.noted ≡ own_steps session x.found → MovesSeat caller key v w
   seen_phase caller key part same = record {
-    grown = grown_phase;
+    grown = grown_phase (λ event among. subst (λ xs. IsAmong xs event) (sym (seen_own same)) among);
     others = λ q apart. ap (steps_of caller q) (seen_own same);
     former = ap (former_steps caller) (seen_own same);
     numbers = λ before. ap (are_before caller) (seen_own same) ∙ before;
@@ -133,7 +139,7 @@ module _ (law : OnePhase) (session : ℕ) (turn : Turn) (v w : View) (x : SeatPh
   pub gained_phase : (caller : Caller) (key : Bytes) → IsTurnOfCall turn caller key → (op : Op) (out : Out) (shared : Option ℕ) (reply : Reply) (xs ys : List Event) → v.own ≡ xs ++ ys → w.own ≡ xs ++ Step caller op key out shared reply ∷ ys → IsEarly caller
       → MovesSeat caller key v w
   gained_phase caller key part op out shared reply xs ys was is early = record {
-    grown = grown_phase;
+    grown = grown_phase (λ event among. subst (λ zs. IsAmong zs event) (sym is) (among_push xs ys (Step caller op key out shared reply) event (subst (λ zs. IsAmong zs event) was among)));
     others = others-gained caller key op out shared reply v.own w.own xs ys was is;
     former = former-gained caller key op out shared reply v.own w.own xs ys was is;
     numbers = before-gained caller key op out shared reply v.own w.own xs ys was is early;

@@ -3,7 +3,7 @@
 --     none_run               before the first round
 --     run_more               one round more
 --     some_more    rounds after which one has asked have asked
-use Rattle.jc_rounds.proofs.Common.{◌≡◌, ◌⊎◌, inl, inr, ◌≤◌, ◌++◌, ℕ, List, [], ◌∷◌, append-nil, length, slice_get, false, true, true≢false, Bool, ◌||◌, Ok, Err, Some, refl, sym, ap, ◌∙◌, subst, flat_map-append, list_any-append, IsAmong, pointwise, Caller, is_among, Bytes, Op, KeyProgress, Waiting, Reserved, Joined, Ended, IsAt, IsHeldBack, steps_of, view_of, CacheState, Session, BulkCall, Round, asked_in, keys_asked, IsFirst, KeepsCause, holds_reservation, is_held_back, HasRun, HeldInEach, IsRound, with_rounds, AreHeldBack, HaveNoStep, KeysAdvance, EachStartsAll, IsFull, RoundEnd, rounds_asked, seats_after, ops_of, CallPast, IsBetween, HasGrown, view_at, ◌==◌}
+use Rattle.jc_rounds.proofs.Common.{◌≡◌, ◌⊎◌, inl, inr, ◌≤◌, ◌++◌, ℕ, List, [], ◌∷◌, append-nil, length, slice_get, false, true, true≢false, Bool, ◌||◌, Ok, Err, Some, refl, sym, ap, ◌∙◌, subst, flat_map-append, list_any-append, IsAmong, pointwise, Caller, is_among, Bytes, Op, KeyProgress, Waiting, Reserved, Joined, Ended, IsAt, IsHeldBack, steps_of, view_of, CacheState, Session, BulkCall, Round, asked_in, keys_asked, IsFirst, KeepsCause, holds_reservation, is_held_back, HasRun, HeldInEach, IsRound, with_rounds, AreHeldBack, HaveNoStep, KeysAdvance, EachStartsAll, IsFull, RoundEnd, rounds_asked, seats_after, ops_of, CallPast, IsBetween, HasGrown, view_at, ◌==◌, Event, View}
 use Rattle.jc_rounds.proofs.SeatPhases.{Seated}
 use Rattle.jc_rounds.proofs.Causes.{first_more}
 use Rattle.jc_rounds.proofs.Asked.{or_other, place_among}
@@ -30,6 +30,9 @@ seats_more : (old : List Seated) (es : List RoundEnd) (e : RoundEnd) → seats_a
 seats_more old [] e = refl
 seats_more old (f ∷ es) e = seats_more f.seats es e
 
+abbrev HasStep : Caller → View → Bytes → Type 0
+HasStep caller view key = (step : Event) × (steps_of caller key view.own ≡ step ∷ [])
+
 module _ (caller : Caller) (stripes : ℕ) (targets : List (Bytes × Op)) where
   held_less : (old : List Seated) (es : List RoundEnd) (a b : List Seated) (ps qs : List KeyProgress) → KeysAdvance a b ps qs → HeldInEach caller stripes targets old es ps → HeldInEach caller stripes targets old es qs
   held_less old [] a b ps qs goes held = tt
@@ -45,7 +48,7 @@ module _ (caller : Caller) (stripes : ℕ) (targets : List (Bytes × Op)) where
   held_more old (f ∷ es) e ps here none held = (held.0, held.1, held_more f.seats es e ps here none held.2)
 
   abbrev AreOver : RoundEnd → Type 0
-  AreOver e = (key : Bytes) (op : Op) → IsAmong targets (key, op) → is_among (asked_in e.calls) key ≡ true → steps_of caller key (view_of stripes e.seats key).own ≡ [] → ⊥
+  AreOver e = (key : Bytes) (op : Op) → IsAmong targets (key, op) → is_among (asked_in e.calls) key ≡ true → HasStep caller (view_of stripes e.seats key) key
 
   starts_more : (old : List Seated) (es : List RoundEnd) (e : RoundEnd) (ps : List KeyProgress) → length e.calls ≤ 1 → ((i : ℕ) → HasGrown (view_at (seats_after old es) i) (view_at e.seats i))
       → ((place : ℕ) (key : Bytes) (op : Op) → slice_get targets place ≡ Some (key, op) → is_among (asked_in e.calls) key ≡ true → slice_get ps place ≡ Some Waiting)
@@ -78,14 +81,14 @@ module _ (caller : Caller) (stripes : ℕ) (targets : List (Bytes × Op)) where
 module _ {I J : Type 0} {D : I → Type 0} {E : J → Type 0} (cache : CacheState) (past : CallPast) (session : Session I J D E) (call : BulkCall) (between : IsBetween cache past session call) where
   ended : (key : Bytes) (op : Op) (p : KeyProgress) → is_held_back p ≡ false → holds_reservation p ≡ false → is_among (asked_in past.rounds) key ≡ true
       → IsAt cache.config past.caller past.rounds (view_of cache.config.stripes past.first key) (view_of cache.config.stripes session.seats.items key) key op p
-      → steps_of past.caller key (view_of cache.config.stripes session.seats.items key).own ≡ [] → ⊥
-  ended key op Waiting held free asked at none = let bad : true ≡ false = held in cc
-  ended key op Reserved held free asked at none = let bad : true ≡ false = free in cc
-  ended key op Joined held free asked at none = let bad : true ≡ false = held in cc
-  ended key op (Ended (Ok reply)) held free asked at none = let bad = sym at.one ∙ none in cc
-  ended key op (Ended (Err refusal)) held free asked at none = absurd (true≢false (sym asked ∙ at.1))
+      → HasStep past.caller (view_of cache.config.stripes session.seats.items key) key
+  ended key op Waiting held free asked at = absurd (true≢false held)
+  ended key op Reserved held free asked at = absurd (true≢false free)
+  ended key op Joined held free asked at = absurd (true≢false held)
+  ended key op (Ended (Ok reply)) held free asked at = (_, at.one)
+  ended key op (Ended (Err refusal)) held free asked at = absurd (true≢false (sym asked ∙ at.1))
 
-  are_over : (key : Bytes) (op : Op) → IsAmong (ops_of call.targets.now) (key, op) → is_among (asked_in past.rounds) key ≡ true → steps_of past.caller key (view_of cache.config.stripes session.seats.items key).own ≡ [] → ⊥
+  are_over : (key : Bytes) (op : Op) → IsAmong (ops_of call.targets.now) (key, op) → is_among (asked_in past.rounds) key ≡ true → HasStep past.caller (view_of cache.config.stripes session.seats.items key) key
   are_over key op among asked =
       let ops = ops_of call.targets.now in
       let u = between.on.under in

@@ -3,7 +3,8 @@
 --                  seat
 --     view_of      the view at the key's stripe, in a cache of this number of stripes
 --     HasGrown     the front begins with the former one, the stripe is the same, its next reservation's number hasn't fallen, and
---                  a front that is the whole history of the noted state is still so; there are these lendings more
+--                  a front that is the whole history of the noted state is still so; each own step is still there, and there
+--                  are these lendings more
 --     HasFound     the seat has found the stripe in the first state and left it in the second one, in one lending between these
 --                  views
 --     is_at        this is the key, and it is of the stripe with this number
@@ -11,12 +12,14 @@
 --                  and so do the steps of former calls; the stripes have changed only by phases at this key
 --     AreBefore    each step that the session has made is of this call or of a former one
 use Rattle.std.specs.Prelude.{◌≡◌, ◌≤◌, ◌==◌, ◌&&◌, ℕ, zero, suc, List, [], ◌∷◌, ◌++◌, Bool, true, false}
+use Rattle.std.specs.List.{IsAmong}
 use Rattle.std.specs.Cmp.Lexicographic.{pointwise}
 use mathlib.Core.List.{IsPrefix}
 use Rattle.atomic_table.specs.Seated.{TableId}
 use Rattle.jc_types.specs.declared.caller.Caller.{Caller}
 use Rattle.jc_types.specs.Stripes.{stripe_of}
 use Rattle.jc_model.specs.Cache.{Bytes}
+use Rattle.jc_model.specs.declared.event.Event.{Event}
 use Rattle.jc_stripe.specs.State.{State}
 use Rattle.jc_stripe.specs.Generations.{IsOfSameStripe}
 use Rattle.jc_lock.specs.declared.view.View.{View}
@@ -38,6 +41,7 @@ pub record HasGrown (before after : View) : Type 0 where
   pub same : IsOfSameStripe before.noted after.noted
   pub next : before.noted.next ≤ after.noted.next
   pub all : HasAllSeen before → HasAllSeen after
+  pub own : (event : Event) → IsAmong before.own event → IsAmong after.own event
   pub row : List (State × State)
   pub lendings : after.lendings ≡ before.lendings ++ row
 

@@ -8,8 +8,8 @@
 --     RoundEnd         the call outside of a round, if it made one, and what the session has seen of each stripe after the round
 --     rounds_asked     the calls outside of these rounds
 --     seats_after      what the session has seen after these rounds
---     StartsAll        a round starts all it can: it has put off each key for which these later rounds ask. After it there is a
---                      step of the call at each key for which it has asked, and none at the later rounds' keys
+--     StartsAll        a round starts all it can: it has put off each key for which these later rounds ask. After it there is
+--                      one step of the call at each key for which it has asked, and none at the later rounds' keys
 --     EachStartsAll    each of these rounds starts all it can
 --     HasStartedAll    the calls outside of a call were made in such rounds
 --     IsLeftAlone      none of the keys met another call's reservation or load, or a stripe with as many calls under way as it
@@ -24,6 +24,7 @@ use Rattle.jc_types.specs.declared.caller.Caller.{Caller}
 use Rattle.jc_types.specs.declared.limits.TheConstants.{JOINERS_MAX, RESERVATIONS_MAX}
 use Rattle.jc_model.specs.Batches.{is_among}
 use Rattle.jc_model.specs.Cache.{Bytes}
+use Rattle.jc_model.specs.declared.event.Event.{Event}
 use Rattle.jc_model.specs.declared.event.Op.{Op}
 use Rattle.jc_model.specs.declared.event.Op.TheVariants.{Get}
 use Rattle.jc_lock.specs.declared.view.View.{View}
@@ -71,7 +72,7 @@ module _ (caller : Caller) (stripes : ℕ) (targets : List (Bytes × Op)) where
   pub record StartsAll (old : List (TableId × View)) (e : RoundEnd) (later : List Round) : Type 0 where
     pub few : length e.calls ≤ 1
     pub grown : (i : ℕ) → HasGrown (view_at old i) (view_at e.seats i)
-    pub ended : (key : Bytes) (op : Op) → IsAmong targets (key, op) → is_among (asked_in e.calls) key ≡ true → steps_of caller key (view_of stripes e.seats key).own ≡ [] → ⊥
+    pub ended : (key : Bytes) (op : Op) → IsAmong targets (key, op) → is_among (asked_in e.calls) key ≡ true → (step : Event) × (steps_of caller key (view_of stripes e.seats key).own ≡ step ∷ [])
     pub no_step : (key : Bytes) (op : Op) → IsAmong targets (key, op) → is_among (asked_in later) key ≡ true → steps_of caller key (view_of stripes e.seats key).own ≡ []
     pub put_off : (key : Bytes) (op : Op) → IsAmong targets (key, op) → is_among (asked_in later) key ≡ true → IsPutOff (length (asked_in e.calls)) old e.seats key op
 
