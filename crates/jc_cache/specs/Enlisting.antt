@@ -2,9 +2,9 @@
 --     HaveNumbers     sessions have these numbers, one after another, and have begun no call
 --     AreGivenOut     sessions that an owner has given out one after another, each with its loader and writer: they have made no
 --                     step, and may call the cache
---     IsNotEnlisted   why an owner gave out only the first ones of these sessions: an allocation failed, or the next one is
+--     IsNotEnlisted   an owner gave out only the first ones of these sessions, since an allocation failed, or the next one is
 --                     refused
-use Rattle.std.specs.Prelude.{◌≡◌, ◌+◌, ◌⊎◌, ℕ, List, [], ◌∷◌, length, map, is_some, Some, slice_get}
+use Rattle.std.specs.Prelude.{◌≡◌, ◌+◌, ◌++◌, ◌⊎◌, ℕ, List, [], ◌∷◌, length, map, is_some, Some}
 use Rattle.std.specs.List.{All}
 use Rattle.jc_types.specs.declared.refusal.Refusal.{Refusal}
 use Rattle.jc_types.specs.declared.refusal.Refusal.TheVariants.{OutOfMemory}
@@ -24,9 +24,12 @@ pub record AreGivenOut {I J : Type 0} {D : I → Type 0} {E : J → Type 0} (fro
   pub numbers : HaveNumbers from.given sessions
   pub may : All (λ (session : Session I J D E). MayCall left.cache session) sessions
 
--- `made` is how many were given out
+-- `made` are the sessions that were given out
 pub record IsNotEnlisted {I J : Type 0} {D : I → Type 0} {E : J → Type 0} (from left : CacheOwnerState) (outside : List (Outside I J D E)) (refusal : Refusal) : Type 0 where
-  pub made : ℕ
-  pub owner : left ≡ record from { given = from.given + made }
+  pub before : List (Outside I J D E)
+  pub rest : List (Outside I J D E)
+  pub made : List (Session I J D E)
+  pub outside_is : outside ≡ before ++ rest
+  pub given : AreGivenOut from left before made
   pub why : (refusal ≡ OutOfMemory)
-      ⊎ ((one : Outside I J D E) × (slice_get outside made ≡ Some one) × (session_refusal left (is_some one.loader) (is_some one.writer) ≡ Some refusal))
+      ⊎ ((one : Outside I J D E) × (others : List (Outside I J D E)) × (rest ≡ one ∷ others) × (session_refusal left (is_some one.loader) (is_some one.writer) ≡ Some refusal))

@@ -11,7 +11,9 @@
 //! - until a key that another call has reserved is free (`Busy`);
 //! - until fewer than `RESERVATIONS_MAX` keys of the stripe are reserved (`TooManyInFlight`), or fewer than `JOINERS_MAX` calls
 //!   have joined a load there (`TooManyJoiners`);
-//! - for the answer of a load that it has joined.
+//! - for the answer of a load that it has joined;
+//! - in a cache that lives on, until a full history can end its generation (`Busy`): it can't while an answer of a load is there
+//!   that nobody has picked up, nor while it has no event, and its places are promised to calls under way.
 //!
 //! Neither progress nor fairness is promised.
 //!
@@ -59,8 +61,8 @@ impl Cache {
 
     /// Whether the key has an entry (`containsKey`). It never loads.
     ///
-    /// An `Err` is `HistoryFull`. It may wait, but not for a loader, a writer or a load. Condition: the session may call the
-    /// cache.
+    /// An `Err` is `HistoryFull`. It may wait, but for a loader, a writer or a load only if the stripe's history is full and the
+    /// cache lives on. Condition: the session may call the cache.
     pub fn contains_key<R: Wait>(
         &self,
         rt: &R,

@@ -185,8 +185,8 @@ impl CacheOwner {
     /// through and there is no loader (`NoLoader`), if it writes through and there is no writer (`NoWriter`), or if an allocation
     /// failed (`OutOfMemory`), tested in this order. Sessions that were given out before stay as they are.
     ///
-    /// The session has made no step, and has seen of each stripe what its owner has: nothing, if no [`CacheOwner::close`] was
-    /// refused.
+    /// The session has made no step, and has seen of each stripe what its owner has: nothing, if neither [`CacheOwner::close`] nor
+    /// [`CacheOwner::end`] was refused.
     pub fn session(
         &mut self,
         alloc: Global,

@@ -1,8 +1,9 @@
 //! The calls that never wait, never join a load, and never ask the loader or the writer.
 //!
 //! Each is the session's next call. It is refused as `Busy` if another phase is being made on the key's stripe, if the call would
-//! have to ask the loader or the writer or to join a load, or if another call has reserved a key that the call needs free; and as
-//! `HistoryFull` as any call is. A refused call changes nothing.
+//! have to ask the loader or the writer or to join a load, if another call has reserved a key that the call needs free, or if a
+//! full generation can't end yet; and as `HistoryFull` as any call is. A refused call makes no step and changes no entry. It has
+//! used its number, and in a cache that lives on it may have ended a full generation.
 //!
 //! Condition of each call: the session may call the cache.
 ghost use Rattle.std.specs.Prelude.{◌≡◌};

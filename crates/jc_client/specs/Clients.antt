@@ -16,10 +16,9 @@ use Rattle.jc_types.specs.declared.refusal.Refusal.{Refusal}
 use Rattle.jc_types.specs.declared.refusal.Refusal.TheVariants.{OutOfMemory}
 use Rattle.jc_types.specs.Limits.{check}
 use Rattle.jc_outside.specs.declared.hands.Outside.{Outside}
-use Rattle.jc_stripe.specs.State.{State}
 use Rattle.jc_session.specs.declared.session.Session.{Session}
 use Rattle.jc_cache.specs.Caches.{CacheOwnerState, OpensWith}
-use Rattle.jc_cache.specs.Closing.{AreClosed, IsEndRefusal}
+use Rattle.jc_cache.specs.Closing.{IsEndRefusal}
 use Rattle.jc_cache.specs.Enlisting.{IsNotEnlisted}
 
 pub record OnSameCache {X : Type 0} (before after : X) (Done : Type 0) : Type 0 where
@@ -46,11 +45,11 @@ module _ {X : Type 0} (works : ClientState → X → ClientState → Type 0) whe
   WorksEach (before ∷ others) (one ∷ rest) = HasWorked before one × WorksEach others rest
   WorksEach before returned = ⊥
 
-  -- `brought` is how many have brought a loader or a writer, or nothing
-  pub record HasServed (config : Config) (brought : ℕ) (stripes : List State) (returned : List X) : Type 0 where
+  -- `brought` is how many have brought a loader or a writer, or nothing; `Ended` is how its owner ended it
+  pub record HasServed (config : Config) (brought : ℕ) (Ended : CacheOwnerState → Type 0) (returned : List X) : Type 0 where
     pub opened : CacheOwnerState
     pub opens : OpensWith true config [] opened
-    pub closed : AreClosed (record opened { given = brought }) stripes
+    pub ended : Ended (record opened { given = brought })
     pub each : WorksEach (new_clients 0 brought) returned
 
 pub record IsServeRefusal {I J : Type 0} {D : I → Type 0} {E : J → Type 0} (config : Config) (outside : List (Outside I J D E)) (refusal : Refusal) : Type 0 where

@@ -1,5 +1,6 @@
 //! A whole service: a cache is opened, its clients work on threads of their own, and it is ended.
 ghost use Rattle.std.specs.Prelude.{◌≡◌, length, map, IfOk, IfErr};
+ghost use Rattle.jc_cache.specs.Closing.{HasEnded};
 ghost use Rattle.jc_client.specs.Clients.{HasServed, HasWorked, IsServeRefusal, WorksEach, client_state};
 
 use crate::client::Client;
@@ -66,7 +67,8 @@ pub fn serve<R: Threads + Wait + Sync, X: Send + Drop, S: Service<R, X> + Sync>(
     service: &S,
 ) -> Result<(Closed, Vec<X>), Refusal>
     requires { Unit {0} }
-    ensures served { IfOk result (λ r. HasServed (S.works service.now) config.now (length outside.items) r.0.stripes.items r.1.items) }
+    ensures served { IfOk result (λ r. HasServed (S.works service.now) config.now (length outside.items)
+        (λ owner. HasEnded owner r.0.stripes.items r.0.outside.items r.0.seats.items r.0.legal) r.1.items) }
     ensures refused { IfErr result (λ r. IsServeRefusal config.now outside.items r) }
 {
     let mut owner = CacheOwner::living(alloc, config)?;

@@ -46,7 +46,8 @@ impl<'a> Client<'a> {
 
     /// Whether the key has an entry, as by [`Cache::contains_key`](jc_cache::Cache::contains_key). It never loads.
     ///
-    /// An `Err` is `HistoryFull`. It may wait, but not for a loader, a writer or a load.
+    /// An `Err` is `HistoryFull`. It may wait, but for a loader, a writer or a load only if the stripe's history is full and the
+    /// cache lives on.
     pub fn contains_key<R: Wait>(&mut self, rt: &R, key: &Key) -> Result<bool, Refusal>
         ensures { OnSameCache self.old.cache self.new.cache
             (Returns loads load_state writes write_state

@@ -1,7 +1,7 @@
 //! The calls of a client that never wait, never join a load, and never ask the loader or the writer.
 //!
-//! Each is the session's next call, and none has a condition. If it can't be done like this, it is refused as `Busy` and changes
-//! nothing; or it is refused as `HistoryFull`.
+//! Each is the session's next call, and none has a condition. If it can't be done like this, it is refused as `Busy`, or as
+//! `HistoryFull`. It then makes no step and changes no entry, but in a cache that lives on it may have ended a full generation.
 ghost use Rattle.std.specs.Prelude.{◌≡◌};
 ghost use Rattle.jc_model.specs.declared.event.Op.TheVariants as op;
 ghost use Rattle.jc_cache.specs.Calls.{Tries, value_in, flag_in, unit_in};
