@@ -1,5 +1,6 @@
--- The relations of a loader and a writer whose store is behind a lock. They don't name the store: contracts can't know its
--- contents at the moment of a call.
+-- What is read of a store behind a lock, and the relations of its loader and its writer. They don't name the store: contracts
+-- can't know its contents at the moment of a call.
+--     AreOfAStore           these are the entries of one store, each once, in the byte order of the keys
 --     LoadsFromAStore       the answer is what some store has at the key; it isn't a failure
 --     LoadsAllFromAStore    the answers are what one store has at all the keys; it isn't a failure
 --     NO_MEMORY             the code of a writer whose store fails to allocate
@@ -8,11 +9,15 @@
 --     WritesAllToAStore     a prefix of the entries is taken out: all of them, or an allocation of the store failed
 --     DeletesAll            it succeeds, and all keys are taken out
 use Rattle.std.specs.Prelude.{◌≡◌, ◌++◌, ◌<◌, ◌⊎◌, ℕ, List, [], length, Option, Result, Ok, Err}
+use Rattle.std.specs.FinMap as map
 use Rattle.jc_model.specs.Cache.{Bytes, Cache, entry_at}
 use Rattle.jc_model.specs.declared.event.Change.{Change}
 use Rattle.jc_model.specs.declared.event.Change.TheVariants.{Write, Delete}
 use Rattle.jc_outside.specs.Answers.{AnswersByKey}
 use Rattle.jc_store.specs.Store.{answers_from}
+
+abbrev pub AreOfAStore : List (Bytes × Bytes) → Type 0
+AreOfAStore entries = (store : Cache) × (entries ≡ map.entries store)
 
 -- 1. Loaders.
 

@@ -1,4 +1,7 @@
 //! One store for many sessions.
+ghost use Rattle.std.specs.Prelude.{IfOk};
+ghost use Rattle.jc_store.specs.Shared.{AreOfAStore};
+
 use crate::loader::StoreLoader;
 use crate::store::Store;
 use crate::writer::StoreWriter;
@@ -40,7 +43,9 @@ impl SharedStore {
 
     /// The store's entries at one moment, in the byte order of the keys. It waits for the lock, and holds it while it copies.
     /// An `Err` says that an allocation failed.
-    pub fn entries<R: Wait>(&self, rt: &R, alloc: Global) -> Result<Vec<(Key, Value)>, AllocError> {
+    pub fn entries<R: Wait>(&self, rt: &R, alloc: Global) -> Result<Vec<(Key, Value)>, AllocError>
+        ensures { IfOk result (λ entries. AreOfAStore entries.items) }
+    {
         self.store.lock(rt).entries(alloc)
     }
 }
