@@ -36,7 +36,7 @@ pub use Rattle.jc_rounds.specs.Rounds.{IsShown, KeyRun, LoadAll, LoadRound, Proc
 pub use Rattle.jc_rounds.specs.Running.{EachTakesMemory, HasRun, with_rounds}
 pub use Rattle.jc_rounds.specs.Seats.{HasGrown, view_at}
 pub use Rattle.jc_rounds.specs.Targets.{ops_of, ops_with, put_ops}
-pub use Rattle.jc_rounds.specs.Underway.{CallPast, HasStarted, IsNew, IsOver, are_fresh, reserved_by, with_round}
+pub use Rattle.jc_rounds.specs.Underway.{CallPast, HasStarted, IsNew, IsOver, AreFresh, reserved_by, with_round}
 pub use Rattle.jc_rounds.specs.declared.answers.RoundAnswers.{RoundAnswers}
 pub use Rattle.jc_rounds.specs.declared.answers.RoundAnswers.TheVariants.{Loads, Writes}
 pub use Rattle.jc_rounds.specs.declared.bulk_call.BulkCall.{BulkCall}

@@ -5,7 +5,7 @@
 --     may_write        the kind of a round that asks is out only in a cache in which it may be
 --     may_fill         the tickets of a round may be asked for in one call
 --     asks_for         a round asks for keys of the call alone, and only for what their operations ask for
-use Rattle.jc_bulk.proofs.Common.{MayAskFor, holds_none, AsksAs, HasOneToAsk, IsAskedOf, IsWrittenOf, OutsideState, fits_first, wanted_changes, IsOutsideReady, KeysAskAs, OutsideKind, Load, Write, Delete, CacheState, IsOf, Session, Bytes, Change, Op, Put, IsOutAt, all_map, all_mapped, all_out, among_there, distinct_reserved, is_change_of, AsksFor, reserved_keys, holds_reservation, ProcessAll, Round, WriteAll, keys_asked, ops_of, ops_with, put_ops, HasStarted, CallPast, are_fresh, reserved_by, BulkCall, KeyProgress, first_asked, first_by, reserves, TicketClaim, asks_loader, change_asked, First, Writer, Reservation, Config, ◌≡◌, ◌&&◌, ◌||◌, inl, inr, ℕ, zero, suc, List, [], ◌∷◌, map, slice_get, Bool, true, false, true≢false, cond, Option, None, Some, is_none, refl, sym, ap, ◌∙◌, subst, arith, same_Some, AllByRecursion, IsAmong}
+use Rattle.jc_bulk.proofs.Common.{MayAskFor, holds_none, AsksAs, HasOneToAsk, IsAskedOf, IsWrittenOf, OutsideState, fits_first, wanted_changes, IsOutsideReady, KeysAskAs, OutsideKind, Load, Write, Delete, CacheState, IsOf, Session, Bytes, Change, Op, Put, IsOutAt, all_map, all_mapped, all_out, among_there, distinct_reserved, is_change_of, AsksFor, reserved_keys, holds_reservation, ProcessAll, Round, WriteAll, keys_asked, ops_of, ops_with, put_ops, HasStarted, CallPast, AreFresh, reserved_by, BulkCall, KeyProgress, first_asked, first_by, reserves, TicketClaim, asks_loader, change_asked, First, Writer, Reservation, Config, ◌≡◌, ◌&&◌, ◌||◌, inl, inr, ℕ, zero, suc, List, [], ◌∷◌, map, slice_get, Bool, true, false, true≢false, cond, Option, None, Some, is_none, refl, sym, ap, ◌∙◌, subst, arith, same_Some, AllByRecursion, IsAmong}
 use Rattle.std.specs.List.{All}
 use Rattle.jc_types.specs.declared.caller.Caller.{Caller}
 use Rattle.jc_model.specs.Table.{always_if}
@@ -128,7 +128,7 @@ keys_are Load rs (ProcessAll r) asked = absurd asked
 keys_are Write rs round asked = written_keys false rs round asked
 keys_are Delete rs round asked = written_keys true rs round asked
 
-unasked : (rounds : List Round) (ts : List TicketClaim) → are_fresh rounds ts → AllByRecursion (λ (t : TicketClaim). t.asked ≡ false) ts
+unasked : (rounds : List Round) (ts : List TicketClaim) → AreFresh rounds ts → AllByRecursion (λ (t : TicketClaim). t.asked ≡ false) ts
 unasked rounds [] all = tt
 unasked rounds (t ∷ ts) all = (all.0.0, unasked rounds ts all.1)
 

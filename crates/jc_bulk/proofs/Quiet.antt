@@ -1,7 +1,7 @@
 -- A call that clears asks nobody.
 --     none_outside          it has no call outside
 --     quiet_sweep           so its session's loader and writer are as they were
-use Rattle.jc_bulk.proofs.Common.{changes_of, Batch, DoesAll, IsBulkCall, OnlyLooks, SweepsAll, BulkBehavior, CallsInRounds, clear_ops, BulkFault, CacheState, Session, Bytes, Change, Op, Clear, AsksEachOnce, AsksFor, KeyEnd, IsShown, KeyRun, LoadAll, ProcessAll, Round, WriteAll, keys_asked, first_asked, writer_for, asks_loader, asks_processor, change_asked, Nobody, Config, Refusal, ◌≡◌, inl, inr, ℕ, zero, suc, List, [], ◌∷◌, All, map, Bool, true, false, cond, Option, None, Some, Result, refl, sym, ap, subst, ◌∙◌, arith, true≢false, AllByRecursion, IsAmong}
+use Rattle.jc_bulk.proofs.Common.{changes_of, Batch, DoesAll, IsBulkCall, OnlyLooks, SweepsAll, BulkBehavior, CallsInRounds, clear_ops, BulkFault, CacheState, Session, Bytes, Change, Op, Clear, AsksEachOnce, AsksFor, KeyEnd, IsShown, KeyRun, LoadAll, ProcessAll, Round, WriteAll, keys_asked, first_asked, writer_for, asks_loader, asks_processor, change_asked, Nobody, Config, Refusal, ◌≡◌, inl, inr, zero, suc, List, [], ◌∷◌, All, map, Bool, true, false, cond, Option, None, Some, Result, refl, sym, ap, subst, ◌∙◌, arith, true≢false, AllByRecursion, IsAmong}
 use Rattle.std.proofs.lemmas.List.Elements.{All-head}
 use Rattle.jc_model.specs.declared.event.Change.TheVariants.{Write, Delete}
 use Rattle.jc_batch.specs.declared.batch.Batch.TheVariants.{Writes, Deletes}

@@ -7,7 +7,7 @@
 --     whole_tickets    once all have asked
 --     writes_rest, loads_rest    of a call of the writer nothing is left, of a call of the loader its memory
 --     answered_loads, answered_writes    what the loader or the writer has answered
-use Rattle.jc_bulk.proofs.Common.{changes_of, Batch, Answered, BulkBehavior, IsAskedOf, IsRest, fits_first, write_kind, wanted_changes, OutsideKind, Load, Write, Delete, Session, is_among, Bytes, Change, IsToBeAnswered, done_room, asked_key, reserved_keys, AreSpent, LoadCallAsked, WriteCallAsked, WritesBatch, asked_keys, is_delete, wanted, LoadAll, Round, WriteAll, WriteRound, writer_failure, keys_asked, reserved_by, RoundAnswers, Loads, Writes, SpentLoads, Claim, TicketClaim, asks_loader, asks_writer, change_asked, claim_of, First, Nobody, Loader, Writer, Processor, Reservation, Refusal, ◌≡◌, ◌==◌, ◌||◌, ◌<◌, ◌≤◌, ◌+◌, ◌++◌, ℕ, zero, suc, List, [], ◌∷◌, length, map, set, take, drop, get_or, slice_get, Bool, true, false, Option, None, Some, option_map, Result, refl, sym, ap, ◌∙◌, subst, arith, map-append, take_all, take_more, pointwise, Vec, AllByRecursion, IsDistinct}
+use Rattle.jc_bulk.proofs.Common.{changes_of, Batch, Answered, BulkBehavior, IsAskedOf, IsRest, fits_first, write_kind, wanted_changes, OutsideKind, Load, Session, is_among, Bytes, Change, IsToBeAnswered, done_room, asked_key, reserved_keys, AreSpent, LoadCallAsked, WriteCallAsked, WritesBatch, asked_keys, is_delete, wanted, LoadAll, Round, WriteAll, WriteRound, writer_failure, keys_asked, reserved_by, RoundAnswers, Loads, Writes, SpentLoads, Claim, TicketClaim, asks_loader, asks_writer, change_asked, claim_of, First, Nobody, Loader, Writer, Processor, Reservation, Refusal, ◌≡◌, ◌==◌, ◌||◌, ◌<◌, ◌≤◌, ◌+◌, ◌++◌, ℕ, zero, suc, List, [], ◌∷◌, length, map, set, take, drop, get_or, slice_get, Bool, true, false, Option, None, Some, option_map, Result, refl, sym, ap, ◌∙◌, subst, arith, map-append, take_all, take_more, pointwise, Vec, AllByRecursion, IsDistinct}
 use Rattle.std.proofs.lemmas.Cmp.{nat_list_eq_equiv}
 use Rattle.jc_model.specs.declared.event.WriteAnswer.{WriteAnswer}
 use Rattle.jc_batch.proofs.CallerLemmas.{not_before}

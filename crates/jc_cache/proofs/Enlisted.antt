@@ -1,8 +1,13 @@
 -- Sessions that are given out one after another.
---     given_next    one more was
-use Rattle.jc_cache.proofs.Common.{◌≡◌, ◌∙◌, ◌+◌, ◌++◌, ℕ, List, [], ◌∷◌, length, sym, ap, subst, length-append, arith, map-append, All-push, All, Session, CacheOwnerState, BeginsAt, IsGivenOut, MayCall}
+--     given_none, given_next     none was, and one more was
+--     none_enlisted, not_enlisted    nobody was, since there was no memory; and only the first ones
+use Rattle.jc_cache.proofs.Common.{◌≡◌, ⊎_elim, inl, inr, ◌∙◌, ◌+◌, ◌++◌, ℕ, Some, List, [], ◌∷◌, length, refl, sym, ap, subst, length-append, arith, map-append, All-nil, All-push, All, Session, CacheOwnerState, BeginsAt, IsGivenOut, MayCall, session_refusal}
+use Rattle.std.specs.Prelude.{is_some}
+use Rattle.jc_types.specs.declared.refusal.Refusal.TheVariants.{OutOfMemory}
 use Rattle.jc_outside.specs.declared.hands.Outside.{Outside}
-use Rattle.jc_cache.specs.Enlisting.{AreGivenOut, HaveNumbers}
+use Rattle.jc_session.specs.declared.fault.SessionFault.{SessionFault}
+use Rattle.jc_cache.specs.Enlisting.{AreGivenOut, HaveNumbers, IsNotEnlisted}
+use Rattle.jc_cache.specs.Sessions.{IsNotGivenOut}
 
 numbered_next : {I J : Type 0} {D : I → Type 0} {E : J → Type 0} (number last : ℕ) (sessions : List (Session I J D E)) (session : Session I J D E) → HaveNumbers number sessions
     → last ≡ number + length sessions → session.agent.caller ≡ record { session = last; call = 0 } → HaveNumbers number (sessions ++ session ∷ [])
@@ -30,4 +35,27 @@ given_next {I} {J} {D} {E} from mid left outside sessions one session are is = r
   );
   numbers = numbered_next from.given mid.given sessions session are.numbers (ap (λ (o : CacheOwnerState). o.given) are.owner) is.caller;
   may = All-push (λ (s : Session I J D E). MayCall left.cache s) sessions session (subst (λ cache. All (λ (s : Session I J D E). MayCall cache s) sessions) (sym (ap (λ (o : CacheOwnerState). o.cache) is.owner)) are.may) is.may;
+}
+
+given_none : {I J : Type 0} {D : I → Type 0} {E : J → Type 0} (from : CacheOwnerState) → AreGivenOut {I = I} {J = J} {D = D} {E = E} from from [] []
+given_none {I} {J} {D} {E} from = record {
+  owner = let e : from.given ≡ from.given + 0 = omega arith in ap (λ (n : ℕ). record from { given = n }) e;
+  boxes = refl;
+  fresh = All-nil (λ (s : Session I J D E). (s.agent.counts.own ≡ 0) × BeginsAt from s);
+  numbers = tt;
+  may = All-nil (λ (s : Session I J D E). MayCall from.cache s);
+}
+
+pub none_enlisted : {I J : Type 0} {D : I → Type 0} {E : J → Type 0} (from : CacheOwnerState) (outside : List (Outside I J D E)) → IsNotEnlisted from from outside OutOfMemory
+none_enlisted from outside = record { before = []; rest = outside; made = []; outside_is = refl; given = given_none from; why = inl refl }
+
+pub not_enlisted : {I J : Type 0} {D : I → Type 0} {E : J → Type 0} (from mid left : CacheOwnerState) (outside before others : List (Outside I J D E)) (made : List (Session I J D E)) (one : Outside I J D E) (fault : SessionFault I J D E)
+    → outside ≡ before ++ one ∷ others → AreGivenOut from mid before made → IsNotGivenOut mid left one fault → IsNotEnlisted from left outside fault.refusal
+not_enlisted from mid left outside before others made one fault is are isnt = record {
+  before = before;
+  rest = one ∷ others;
+  made = made;
+  outside_is = is;
+  given = subst (λ (o : CacheOwnerState). AreGivenOut from o before made) (sym isnt.same) are;
+  why = ⊎_elim (λ refused. inr (one, others, refl, subst (λ (o : CacheOwnerState). session_refusal o (is_some one.loader) (is_some one.writer) ≡ Some fault.refusal) (sym isnt.same) refused)) (λ full. inl full.1) isnt.why;
 }

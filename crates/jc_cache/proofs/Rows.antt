@@ -2,7 +2,7 @@
 --     Seated                   a seat: its lock, and its view
 --     locks_of                 the locks of a row of seats
 --     seat_is                  a seat at a lock, by the lock and its view
---     seat_there, read_there   there is a seat at each place within a row; what was read there is it
+--     seat_there               there is a seat at each place within a row
 --     lock_there               a seat is at the lock in its place
 --     push_get                 a seat of a row with one more is the last one, or was there
 --     map_get                  a seat of a mapped row is what a seat there is mapped to

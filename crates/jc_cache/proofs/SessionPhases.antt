@@ -2,15 +2,13 @@
 --     picked_late              a pick-up that waits isn't too early
 --     holds_nothing            a session of a cache holds nothing between two calls
 --     of_asked                 a session that has asked its loader or its writer is of the cache as before
---     of_same                  so is one that has the same seats and the same agent
---     set_itself               a row of seats in which a seat is replaced by itself
 --     start_needs, commit_needs    what a first phase and a commit ask of the stripe that they find
 --     phase_left               a phase: what is said of the session, which is of the cache as before
 --     phase_map                a phase that says less
 --     look_lent                a look is a phase in which nothing was done
 --     number_at, shape_found, agent_same   the seat at a stripe with a number, the shape of the stripe, and the agent after a look
 --     holds_one                the agent that has taken a stripe, and its seat
-use Rattle.jc_cache.proofs.Common.{◌≡◌, ⊎_elim, inl, ◌+◌, ◌<◌, ℕ, true, false, Some, IsSome, List, [], ◌++◌, filter, length, get_or, zero, suc, ◌∷◌, slice_get, slice_set, refl, sym, ap, subst, ◌∙◌, arith, true≢false, slice_get_read, same_Some, length-append, stripe_of, Caller, Config, Bytes, Event, Reply, State, IsReached, past_events, whole_history, all_own_steps, IsPhaseOf, is_own_step, own_steps, may_come_all, polled_with, Finds, View, IsCounted, one_more, counts_after, Agent, LentPhase, PhaseLaws, Turn, BeginsIfClear, CommitsHere, IsReported, PicksUpBy, PicksUpLate, Keeps, all_map, counted_longer, once, steps_in, CacheState, IsSameSeat, GoesOn, IsSeatAt, IsOf, HoldsNothing, own_total, capped, Session, HasLent}
+use Rattle.jc_cache.proofs.Common.{◌≡◌, ⊎_elim, inl, ◌+◌, ◌<◌, ℕ, true, false, Some, IsSome, List, [], ◌++◌, filter, length, get_or, ◌∷◌, slice_get, slice_set, refl, sym, ap, subst, ◌∙◌, arith, true≢false, slice_get_read, length-append, stripe_of, Caller, Config, Bytes, Event, Reply, State, IsReached, past_events, whole_history, all_own_steps, IsPhaseOf, is_own_step, own_steps, may_come_all, polled_with, Finds, View, IsCounted, one_more, counts_after, Agent, LentPhase, PhaseLaws, Turn, BeginsIfClear, CommitsHere, IsReported, PicksUpBy, PicksUpLate, Keeps, all_map, counted_longer, once, steps_in, CacheState, IsSameSeat, GoesOn, IsSeatAt, IsOf, HoldsNothing, own_total, capped, Session, HasLent}
 use Rattle.jc_stripe.specs.Tickets.{TicketClaim, JoinClaim}
 use Rattle.jc_stripe.specs.declared.begun.Picked.{Picked}
 use Rattle.jc_stripe.specs.declared.begun.Picked.TheVariants as picked
@@ -229,19 +227,3 @@ module _ {I J : Type 0} {D : I → Type 0} {E : J → Type 0} where
         writes = λ on. writes (of.writes on);
         own = ap (λ (s : Session I J D E). s.agent.counts.own) left ∙ of.own ∙ ap (λ (xs : List Seated). capped (own_total xs)) (sym seats);
       }
-
-  pub of_same : (cache : CacheState) (old new : Session I J D E) → new.seats.items ≡ old.seats.items → new.agent ≡ old.agent → IsOf cache old → IsOf cache new
-  of_same cache old new seats agent of = record {
-    locks = ap locks_of seats ∙ of.locks;
-    count = of.count;
-    seats = λ i s there. subst (λ (a : Agent I J D E). IsSeatAt cache.config i a.caller.session s.1) (sym agent) (of.seats i s (ap (λ (xs : List Seated). slice_get xs i) (sym seats) ∙ there));
-    held = ap (λ (a : Agent I J D E). a.hands.held) agent ∙ of.held;
-    loads = λ on. subst (λ (a : Agent I J D E). IsSome a.hands.outside.loader) (sym agent) (of.loads on);
-    writes = λ on. subst (λ (a : Agent I J D E). IsSome a.hands.outside.writer) (sym agent) (of.writes on);
-    own = ap (λ (a : Agent I J D E). a.counts.own) agent ∙ of.own ∙ ap (λ (xs : List Seated). capped (own_total xs)) (sym seats);
-  }
-
-pub set_itself : (xs : List Seated) (i : ℕ) (x : Seated) → slice_get xs i ≡ Some x → slice_set xs i x ≡ xs
-set_itself [] i x at = refl
-set_itself (y ∷ xs) zero x at = ap (λ (z : Seated). z ∷ xs) (sym (same_Some y x at))
-set_itself (y ∷ xs) (suc i) x at = ap (λ (zs : List Seated). y ∷ zs) (set_itself xs i x at)

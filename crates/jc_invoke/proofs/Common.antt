@@ -36,7 +36,7 @@ pub use Rattle.jc_rounds.specs.AskingRounds.{HasReserved, IsRoundTold, KeepsTick
 pub use Rattle.jc_rounds.specs.Rounds.{IsShown, KeyRun, ProcessAll, ProcessRound, Round, change_of, keys_asked}
 pub use Rattle.jc_rounds.specs.Running.{EachTakesMemory, HasRun, IsCarriedOut, with_rounds}
 pub use Rattle.jc_rounds.specs.Targets.{ops_of, ops_with}
-pub use Rattle.jc_rounds.specs.Underway.{AreRooms, CallPast, IsBetween, IsNew, IsOver, are_fresh, reserved_by, with_round}
+pub use Rattle.jc_rounds.specs.Underway.{AreRooms, CallPast, IsBetween, IsNew, IsOver, AreFresh, reserved_by, with_round}
 pub use Rattle.jc_rounds.specs.declared.answers.RoundAnswers.{RoundAnswers}
 pub use Rattle.jc_rounds.specs.declared.bulk_call.BulkCall.{BulkCall}
 pub use Rattle.jc_rounds.specs.declared.progress.KeyProgress.{KeyProgress}

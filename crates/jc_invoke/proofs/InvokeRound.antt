@@ -10,7 +10,7 @@
 --     told_of          what was answered for the keys that a round has reserved
 --     calls_then       the calls of rounds, and of those after them
 --     have_none, have_same, have_more    what the rounds have asked
-use Rattle.jc_invoke.proofs.Common.{CacheState, HasAsked, Session, HaveAsked, IsInvoked, IsInvokeReady, IsRoundAsked, IsToBeRun, MayRunEach, LeavesBatches, IsRoundRoomFor, IsNextRoom, CallsEach, CallsRound, RunBehavior, in_boxes, Batches, RoundRoom, Bytes, Op, Clear, Get, Invoke, LoadAll, KeepsType, IsOutAt, all_map, all_mapped, all_out, among_there, distinct_reserved, types_on, RunState, done_room, key_run, reservations_of, AsksFor, reserved_keys, HasReserved, IsRoundTold, KeepsTickets, IsShown, KeyRun, ProcessAll, ProcessRound, Round, EachTakesMemory, ops_of, ops_with, CallPast, are_fresh, reserved_by, RoundAnswers, BulkCall, KeyProgress, TicketClaim, asks_processor, entry_seen, is_loadable, Reservation, ◌≡◌, ◌≤◌, ◌++◌, ℕ, zero, suc, List, [], ◌∷◌, map, slice_get, Bool, true, Option, None, Some, IfNone, IfSome, refl, sym, ap, subst, ◌∙◌, map-append, same_Some, Vec, All, AllByRecursion, IsAmong, DynBox}
+use Rattle.jc_invoke.proofs.Common.{CacheState, HasAsked, Session, HaveAsked, IsInvoked, IsInvokeReady, IsRoundAsked, IsToBeRun, MayRunEach, LeavesBatches, IsRoundRoomFor, IsNextRoom, CallsEach, CallsRound, RunBehavior, in_boxes, Batches, RoundRoom, Bytes, Op, Clear, Get, Invoke, LoadAll, KeepsType, IsOutAt, all_map, all_mapped, all_out, among_there, distinct_reserved, types_on, RunState, done_room, key_run, reservations_of, AsksFor, reserved_keys, HasReserved, IsRoundTold, KeepsTickets, IsShown, KeyRun, ProcessAll, ProcessRound, Round, EachTakesMemory, ops_of, ops_with, CallPast, AreFresh, reserved_by, RoundAnswers, BulkCall, KeyProgress, TicketClaim, asks_processor, entry_seen, is_loadable, Reservation, ◌≡◌, ◌≤◌, ◌++◌, ℕ, zero, suc, List, [], ◌∷◌, map, slice_get, Bool, true, Option, None, Some, IfNone, IfSome, refl, sym, ap, subst, ◌∙◌, map-append, same_Some, Vec, All, AllByRecursion, IsAmong, DynBox}
 use Rattle.jc_types.specs.declared.caller.Caller.{Caller}
 use Rattle.jc_types.specs.declared.config.Config.{Config}
 use Rattle.jc_stripe.specs.Refusals.{first_asked}
@@ -51,7 +51,7 @@ asks_for config targets round runs calls are same all =
     (λ run is. (is.0, is.1, is.2, is.3, (ap entry_seen is.4, ap is_loadable is.4)))
     (on_runs (IsCalled config targets) runs (subst (AllByRecursion (IsCalled config targets)) (sym same) all))))
 
-to_be_run : (config : Config) (targets : List (Bytes × Op)) (rounds : List Round) (ts : List TicketClaim) → are_fresh rounds ts → AllByRecursion (IsCalled config targets) (map reserved_by ts) → AllByRecursion IsToBeRun ts
+to_be_run : (config : Config) (targets : List (Bytes × Op)) (rounds : List Round) (ts : List TicketClaim) → AreFresh rounds ts → AllByRecursion (IsCalled config targets) (map reserved_by ts) → AllByRecursion IsToBeRun ts
 to_be_run config targets rounds [] fresh all = tt
 to_be_run config targets rounds (t ∷ ts) fresh all = ((fresh.0.0, fresh.0.1, ap asks_processor all.0.4 ∙ all.0.3), to_be_run config targets rounds ts fresh.1 all.1)
 

@@ -4,7 +4,7 @@
 --     over           after the last round nothing is out, and each key has an end
 --     invoked        then the call is carried out
 --     left_as        the processor that is left, under whichever name
-use Rattle.jc_invoke.proofs.Common.{CacheState, MayCall, Session, IsInvokedAll, RunsOn, RunBehavior, Bytes, Invoke, carried_out, may_again, none_run, opens_call, KeyEnd, key_ends, ProcessAll, ProcessRound, HasRun, IsCarriedOut, with_rounds, ops_of, ops_with, IsBetween, IsNew, IsOver, CallPast, BulkCall, ◌≡◌, ◌==◌, ℕ, List, [], length, map, refl, sym, ap, subst, ◌∙◌, pointwise, IsDistinct, keys_of, DynBox}
+use Rattle.jc_invoke.proofs.Common.{CacheState, MayCall, Session, IsInvokedAll, RunsOn, RunBehavior, Bytes, Invoke, carried_out, may_again, none_run, opens_call, KeyEnd, key_ends, ProcessAll, ProcessRound, HasRun, IsCarriedOut, with_rounds, ops_of, ops_with, IsBetween, IsNew, IsOver, CallPast, BulkCall, ◌≡◌, ◌==◌, List, [], length, map, refl, sym, ap, subst, ◌∙◌, pointwise, IsDistinct, keys_of, DynBox}
 use Rattle.jc_session.specs.Sessions.{next_call}
 use Rattle.jc_invoke.proofs.KeyResults.{as_many, keys_distinct}
 

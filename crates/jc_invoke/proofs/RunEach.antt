@@ -1,7 +1,6 @@
 -- Runs of a processor at the tickets of a round, in their order.
 --     RoomLeft        there is room for the tickets from this place on
 --     keeps_itself, keeps_both    the room is kept
---     keeps_noted   and so it is in a cache that doesn't write through, whose writer is never asked
 --     room_of         the room of the next round
 --     takes_same      the first tickets stand for the same reservations
 --     split_at        the tickets before a place, the one there and those after it
@@ -31,9 +30,6 @@ keeps_both a b c one two = record {
   runs_room = two.runs_room ∙ one.runs_room;
   quiet = λ off. let first = one.quiet off in let second = two.quiet (one.through_is ∙ off) in (second.0 ∙ first.0, second.1 ∙ first.1);
 }
-
-pub keeps_noted : (room room' : RoundRoom) → room'.through ≡ room.through → vec_capacity room'.runs ≡ vec_capacity room.runs → (room.through ≡ false → ⊥) → KeepsRunsRoom room room'
-keeps_noted room room' through runs never = record { through_is = through; runs_room = runs; quiet = λ off. absurd (never off) }
 
 pub room_of : (rest : Option Batches) (batches : Batches) (answers : RoundAnswers) (room : RoundRoom) → rest ≡ Some batches
     → ((keys : ℕ) → keys ≤ done_room answers → batches.writes ≡ no_writes false keys → batches.deletes ≡ no_writes true keys → IsRoundRoomFor keys false room) → IsNextRoom rest answers (Some room)

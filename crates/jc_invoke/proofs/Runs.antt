@@ -7,7 +7,7 @@
 --     changes_are              what is asked for, as changes of keys
 --     has_writer               there is a writer if anything is asked for
 --     rest_on                  two calls outside leave all of a session but its hands
-use Rattle.jc_invoke.proofs.Common.{Session, RunBehavior, RunsEach, RunsOne, batch_changes, is_among, Bytes, Change, ProcessResult, RunState, claim_after, claims_after, done_of, is_change_of, key_run, reservations_of, reserved_keys, asked_keys, wanted, KeyRun, change_of, Claim, claim_of, change_asked, entry_seen, is_loadable, report_claim, writer_for, Reservation, ◌≡◌, ◌==◌, ◌||◌, ◌++◌, ℕ, List, [], ◌∷◌, map, Bool, true, false, Option, None, Some, IsSome, if◌then◌else◌, refl, sym, ap, subst, ◌∙◌, nat_list_eq_equiv, map-append, pointwise, AllByRecursion, IsDistinct, cons_option}
+use Rattle.jc_invoke.proofs.Common.{Session, RunBehavior, RunsEach, RunsOne, batch_changes, is_among, Bytes, Change, ProcessResult, RunState, claim_after, claims_after, done_of, is_change_of, key_run, reservations_of, reserved_keys, asked_keys, wanted, KeyRun, change_of, Claim, claim_of, change_asked, entry_seen, is_loadable, report_claim, writer_for, Reservation, ◌≡◌, ◌==◌, ◌||◌, ◌++◌, List, [], ◌∷◌, map, Bool, true, false, Option, None, Some, IsSome, if◌then◌else◌, refl, sym, ap, subst, ◌∙◌, nat_list_eq_equiv, map-append, pointwise, AllByRecursion, IsDistinct, cons_option}
 use Rattle.std.proofs.lemmas.Map.Keys.{IsDistinct-head, IsDistinct-tail}
 use Rattle.jc_outside.specs.declared.done.Origin.TheVariants.{Live}
 use Rattle.jc_mutentry.specs.Running.{LoadsIfGiven, RunsOnce}

@@ -5,7 +5,7 @@
 --     within_more               one key more
 --     entries_more              what is noted of one key more
 --     none_told                 without a cause nothing failed
---     nothing_noted, or_none    of a piece that was loaded nothing is noted to have failed, and it has no cause
+--     nothing_noted             of a piece that was loaded nothing is noted to have failed, and it has no cause
 use Rattle.jc_loadall.proofs.Common.{◌≡◌, ◌==◌, ◌<◌, ◌≤◌, ◌+◌, ◌||◌, ◌++◌, ℕ, zero, suc, List, [], ◌∷◌, Bool, true, false, cond, length, take, drop, get_or, Option, None, Some, IfNone, option_map, refl, sym, ap, subst, ◌∙◌, nat_eq, arith, nat_list_eq_equiv, flat_map-cons, filter_map-append, drop-cons, option_or, IsDistinct, cons_option, flat_map, list_any, keys_of, pointwise, texts_ties, keys_ordered, new_at, is_among, Bytes, key_cmp, Refusal, Note, PieceResult, Loaded, Failed, Refused, AreWithin, all_noted, cause_noted, entries_noted, find_note, first_noted, refusal_noted, piece_at}
 use Rattle.std.specs.Cmp.{Equal-is}
 
@@ -84,10 +84,6 @@ entries_more result keys key = filter_map-append (λ (k : Bytes). option_map (λ
 pub nothing_noted : (keys : List Bytes) → entries_noted Loaded keys ≡ []
 nothing_noted [] = refl
 nothing_noted (k ∷ keys) = nothing_noted keys
-
-pub or_none : (o : Option Refusal) → option_or o None ≡ o
-or_none None = refl
-or_none (Some r) = refl
 
 no_cause : (result : PieceResult) (keys : List Bytes) → cause_noted result ≡ None → entries_noted result keys ≡ []
 no_cause Loaded keys is = nothing_noted keys

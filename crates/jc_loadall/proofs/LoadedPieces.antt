@@ -3,7 +3,7 @@
 --     ended       what is known of the results tells how the call ended
 --     on_return   of a call of clients, by what it returns
 --     ended_kept, ended_same    what each call keeps of its tool, all calls keep of all tools
-use Rattle.jc_loadall.proofs.Common.{◌≡◌, ◌<◌, ◌≤◌, ◌⊎◌, inl, inr, ⊎_elim, ℕ, suc, List, [], ◌∷◌, Bool, Option, length, map, get_or, All, Result, Ok, Err, refl, sym, ap, subst, ◌∙◌, arith, Bor, MutBor, Shared, IndexSet, Refusal, Bytes, Op, BulkFault, OrRefused, TellsDone, LeadsTo, PieceResult, EndsInPieces, OnReturn, PieceEnd, of_clients, LoadsAndNotes, piece_at, piece_count, AreLoadedBy, EndsByTeam, LoadsBy}
+use Rattle.jc_loadall.proofs.Common.{◌≡◌, ◌<◌, ◌⊎◌, inl, inr, ⊎_elim, ℕ, suc, List, [], ◌∷◌, Bool, Option, length, map, get_or, All, Result, Ok, Err, refl, sym, ap, subst, ◌∙◌, arith, Bor, MutBor, Shared, IndexSet, Refusal, Bytes, Op, BulkFault, OrRefused, TellsDone, LeadsTo, PieceResult, EndsInPieces, OnReturn, PieceEnd, of_clients, LoadsAndNotes, piece_at, piece_count, AreLoadedBy, EndsByTeam, LoadsBy}
 use Rattle.jc_loadall.specs.declared.fault.LoadAllFault.{LoadAllFault}
 use Rattle.jc_loadall.proofs.ToolWork.{Told, causes_are, failed_are, tools_loaded}
 

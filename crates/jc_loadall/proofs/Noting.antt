@@ -1,6 +1,6 @@
 -- What is noted of a piece, and how its keys ended.
 --     piece_end    a call that loads the keys of a piece tells how it ended, and what is noted of it tells the same
-use Rattle.jc_loadall.proofs.Common.{◌≡◌, ◌==◌, ◌<◌, ◌≤◌, ◌++◌, ◌⊎◌, inl, inr, ⊎_elim, ℕ, zero, suc, List, [], ◌∷◌, Bool, false, cond, length, map, Option, None, Some, Result, Ok, Err, option_map, refl, sym, ap, subst, ◌∙◌, arith, nat_list_eq_equiv, IsDistinct-head, IsDistinct-tail, AllByRecursion, IsAmong, IsDistinct, cons_option, filter_map, pointwise, lookup, Refusal, Bytes, Op, BulkFault, DoesAll, IsBulkCall, NamesNoKey, OrRefused, KeyEnd, failed_entries, key_ops, load_ops, PIECE_KEYS, PieceResult, Loaded, Refused, LoadsPiece, PieceEnd, out_of_memory, IsResultOf, LoadsAndNotes, cause_noted, entries_noted}
+use Rattle.jc_loadall.proofs.Common.{◌≡◌, ◌==◌, ◌<◌, ◌≤◌, ◌++◌, ◌⊎◌, inl, inr, ⊎_elim, ℕ, zero, suc, List, [], ◌∷◌, Bool, false, cond, length, map, Option, None, Some, Result, Ok, Err, option_map, refl, sym, ap, subst, ◌∙◌, arith, nat_list_eq_equiv, IsDistinct-head, IsDistinct-tail, AllByRecursion, IsAmong, IsDistinct, cons_option, filter_map, pointwise, lookup, Refusal, Bytes, Op, BulkFault, DoesAll, IsBulkCall, NamesNoKey, OrRefused, KeyEnd, failed_entries, key_ops, load_ops, PIECE_KEYS, PieceResult, Loaded, Refused, LoadsPiece, out_of_memory, IsResultOf, LoadsAndNotes, cause_noted, entries_noted}
 use Rattle.jc_types.specs.declared.limits.TheConstants.{BULK_KEYS_MAX}
 use Rattle.jc_types.specs.declared.refusal.Refusal.TheVariants.{OutOfMemory, WriterFailed}
 use Rattle.jc_cache.specs.Caches.{CacheState}

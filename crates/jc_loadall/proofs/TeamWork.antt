@@ -2,7 +2,7 @@
 --     front          a prefix, taken from its list
 --     able_all       workers who have loaded nothing can load each piece
 --     team_loaded    what the pool says of them, said of the tools, and of what they noted
-use Rattle.jc_loadall.proofs.Common.{◌≡◌, ◌<◌, ◌≤◌, ◌+◌, ◌++◌, ℕ, zero, suc, List, [], ◌∷◌, true, false, cond, eqb, length, take, map, get_or, zip, All, vec_len, vec_capacity, Some, unwrap_or, refl, sym, ap, subst, ◌∙◌, arith, nat_lt, flat_map-cons, AllByRecursion, IsDistinct, concat, flat_map, pointwise, Bor, MutBor, Shared, IndexSet, spare, Bytes, CanDoAll, DoesEachOnce, LeadsTo, once_below, times, Note, PieceResult, Loaded, Worker, find_note, result_in, piece_at, piece_count, AreLoadedBy, CanLoad, CanLoadBy, DoesPiece, IsIdleWorker, Keeps, LoadsBy}
+use Rattle.jc_loadall.proofs.Common.{◌≡◌, ◌<◌, ◌≤◌, ◌+◌, ◌++◌, ℕ, zero, suc, List, [], ◌∷◌, true, false, cond, eqb, length, take, map, get_or, zip, All, vec_len, vec_capacity, Some, unwrap_or, refl, sym, ap, subst, ◌∙◌, arith, flat_map-cons, AllByRecursion, IsDistinct, flat_map, pointwise, Bor, MutBor, Shared, IndexSet, spare, Bytes, CanDoAll, DoesEachOnce, LeadsTo, once_below, Note, PieceResult, Loaded, Worker, find_note, result_in, piece_at, piece_count, AreLoadedBy, CanLoad, CanLoadBy, DoesPiece, IsIdleWorker, Keeps, LoadsBy}
 use Rattle.std.specs.Prelude.{◌==◌}
 use Rattle.jc_pool.proofs.CallerLemmas.{length-zip, zip_at}
 use Rattle.jc_loadall.proofs.Gathered.{Gathering, SomeStep, fact_at, gathered, joined, kept_all, led_each}

@@ -1,7 +1,7 @@
 -- Tools with which pieces are loaded, by what is known of each call.
 --     tools_loaded       what is known of the pieces and of their results tells how each ended
 --     causes_are, failed_are    the first cause, and what failed, by the results and by the ends
-use Rattle.jc_loadall.proofs.Common.{◌≡◌, ◌<◌, ◌≤◌, ◌++◌, ℕ, zero, suc, List, [], ◌∷◌, Bool, length, get_or, None, refl, sym, ap, subst, ◌∙◌, arith, cond, nat_lt, true, false, lt-ltb, filter_map-append, option_or, concat, Bor, MutBor, Shared, IndexSet, Bytes, Op, failed_entries, load_ops, LeadsTo, once_below, times, PieceResult, LoadsInPieces, PieceEnd, all_ends, first_cause, IsNoteOf, all_noted, first_noted, piece_at, piece_count, AreLoadedBy, LoadsBy}
+use Rattle.jc_loadall.proofs.Common.{◌≡◌, ◌<◌, ◌++◌, ℕ, zero, suc, List, [], ◌∷◌, Bool, length, get_or, None, refl, sym, ◌∙◌, arith, nat_lt, true, lt-ltb, filter_map-append, option_or, Bor, MutBor, Shared, IndexSet, Bytes, Op, failed_entries, load_ops, LeadsTo, once_below, PieceResult, LoadsInPieces, PieceEnd, all_ends, first_cause, IsNoteOf, all_noted, first_noted, piece_at, piece_count, AreLoadedBy, LoadsBy}
 use Rattle.jc_loadall.proofs.Gathered.{Gathering, SomeStep, counted, every, fact_at, fits_at, gathered, joined, led_each, often, seen}
 
 -- 1. What the results say.

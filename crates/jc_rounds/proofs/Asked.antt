@@ -1,6 +1,6 @@
 -- Which keys a call has asked for.
 --     distinct_more                     keys that differ from one another and from earlier ones
---     in_head, all_out                  each of what is out is of a key that is so far
+--     all_out                           each of what is out is of a key that is so far
 --     new_key                           a key that isn't reserved isn't among those that are
 --     distinct_reserved                 the keys that are reserved differ
 --     none_asked                        no key was asked for
@@ -78,17 +78,6 @@ apart_all key [] none = tt
 apart_all key (y ∷ ys) none = let parts = or_parts (pointwise ◌==◌ key y) (is_among ys key) none in (parts.0, apart_all key ys parts.1)
 
 -- 3. The keys that are reserved.
-
-pub in_head : {X : Type 0} (has : KeyProgress → Bool) (fits : Bytes → Op → X → Type 0) (ts : List (Bytes × Op)) (ps : List KeyProgress) (x : X) (xs : List X) → AreIn has fits ts ps (x ∷ xs)
-    → (place : ℕ) × (key : Bytes) × (op : Op) × (slice_get ts place ≡ Some (key, op)) × fits key op x
-in_head has fits [] ps x xs are = cc
-in_head has fits (t ∷ ts) [] x xs are = cc
-in_head {X} has fits (t ∷ ts) (p ∷ ps) x xs are = by (has p) are (λ later. in_head has fits ts ps x xs later)
-  where
-    by : (b : Bool) → MatchBool b (fits t.0 t.1 x × AreIn has fits ts ps xs) (AreIn has fits ts ps (x ∷ xs)) → (AreIn has fits ts ps (x ∷ xs) → (place : ℕ) × (key : Bytes) × (op : Op) × (slice_get ts place ≡ Some (key, op)) × fits key op x)
-        → (place : ℕ) × (key : Bytes) × (op : Op) × (slice_get (t ∷ ts) place ≡ Some (key, op)) × fits key op x
-    by true here rest = (zero, t.0, t.1, refl, here.0)
-    by false later rest = let found = rest later in (suc found.0, found.1, found.2, found.3, found.4)
 
 pub none_of : (caller : Caller) (config : Config) (key : Bytes) (ts : List (Bytes × Op)) (ps : List KeyProgress) (xs : List Reservation) → AllByRecursion (λ k. pointwise ◌==◌ key k ≡ false) (keys_of ts) → AreIn holds_reservation (IsTicketFor caller config) ts ps xs
     → is_among (reserved_keys xs) key ≡ false

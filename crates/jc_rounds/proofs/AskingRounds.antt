@@ -7,11 +7,10 @@
 --     ran_none               before the first round
 --     ran_quiet, ran_more    after rounds more
 --     ran_refused            each key that waits is refused
-use Rattle.jc_rounds.proofs.Common.{◌≡◌, ◌++◌, append-nil, append_assoc, ℕ, List, [], ◌∷◌, map, length, slice_get, Option, Some, refl, sym, ap, ◌∙◌, subst, arith, option_or, Caller, Refusal, Agent, CacheState, HoldsNothing, IsOf, Session, RoundAnswers, BulkCall, AreAnswers, reserved_keys, IsNoted, KeepsCause, failures, refused_if_waiting, Round, asked_in, keys_asked, round_fault, EachTakesMemory, HasRun, with_rounds, KeysAdvance, ops_of, Advances, CallPast, HasStarted, IsAnswered, IsBetween, reserved_by, with_round}
+use Rattle.jc_rounds.proofs.Common.{◌≡◌, ◌++◌, append-nil, append_assoc, List, [], ◌∷◌, map, length, slice_get, Option, Some, refl, sym, ap, ◌∙◌, subst, arith, option_or, Caller, Refusal, Agent, CacheState, HoldsNothing, IsOf, Session, RoundAnswers, BulkCall, AreAnswers, reserved_keys, IsNoted, KeepsCause, failures, refused_if_waiting, Round, keys_asked, round_fault, EachTakesMemory, HasRun, with_rounds, KeysAdvance, ops_of, Advances, CallPast, HasStarted, IsAnswered, IsBetween, reserved_by, with_round}
 use Rattle.jc_rounds.specs.AskingRounds.{HasReserved, IsRoundTold, RunsRounds}
 use Rattle.jc_rounds.proofs.Asked.{among_there}
 use Rattle.jc_rounds.proofs.Failures.{keeps_both, keeps_noted, keeps_or}
-use Rattle.jc_rounds.proofs.Held.{goes_both}
 use Rattle.jc_rounds.proofs.OnCall.{advances_both}
 use Rattle.jc_rounds.proofs.Started.{run_more, some_more}
 use Rattle.jc_rounds.proofs.Whole.{asked_call, refused_call, refused_round, round_of}

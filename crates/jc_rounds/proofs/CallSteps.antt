@@ -61,9 +61,9 @@ no-step caller key q op out shared reply apart =
 not-both : (s c : Bool) → s ≡ true → c ≡ true → not (s && c) ≡ false
 not-both s c e f = cc
 
-or-right : (a b : Bool) → b ≡ true → (a || b) ≡ true
-or-right true b e = refl
-or-right false b e = e
+pub or_true : (a b : Bool) → b ≡ true → (a || b) ≡ true
+or_true true b e = refl
+or_true false b e = e
 
 module _ (caller : Caller) (key : Bytes) (op : Op) (out : Out) (shared : Option ℕ) (reply : Reply) (own own' xs ys : List Event) (was : own ≡ xs ++ ys) (is : own' ≡ xs ++ Step caller op key out shared reply ∷ ys) where
   pub steps-gained : steps_of caller key own ≡ [] → steps_of caller key own' ≡ Step caller op key out shared reply ∷ []
@@ -85,7 +85,7 @@ module _ (caller : Caller) (key : Bytes) (op : Op) (out : Out) (shared : Option 
   before-gained early before =
       ap (are_before caller) is
       ∙ all-in (is_before_call caller.session (one_more caller.call)) (Step caller op key out shared reply) xs ys
-      (or-right (not (caller.session == caller.session)) (nat_lt caller.call (one_more caller.call)) (one-later caller.call early)) (ap (are_before caller) (sym was) ∙ before)
+      (or_true (not (caller.session == caller.session)) (nat_lt caller.call (one_more caller.call)) (one-later caller.call early)) (ap (are_before caller) (sym was) ∙ before)
 
 -- 3. Who may begin, by the own steps.
 

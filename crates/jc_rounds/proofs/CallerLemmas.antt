@@ -4,7 +4,7 @@ pub use Rattle.jc_rounds.proofs.KeyEnds.{failures_are}
 pub use Rattle.jc_rounds.proofs.OutsideCalls.{no_batch}
 pub use Rattle.jc_rounds.proofs.AskingRounds.{holds_none, ran_more, ran_none, ran_quiet, ran_refused}
 pub use Rattle.jc_rounds.proofs.SeatPhases.{Seated, front_found, grown_itself, grown_on, grown_phase, seen_own, view_set, view_there}
-pub use Rattle.jc_rounds.proofs.SoFar.{or_true}
+pub use Rattle.jc_rounds.proofs.CallSteps.{or_true}
 pub use Rattle.jc_rounds.proofs.Started.{none_run}
 pub use Rattle.jc_rounds.proofs.TargetOps.{same_keys}
 pub use Rattle.jc_rounds.proofs.Underway.{as_many}

@@ -45,7 +45,7 @@ pub use Rattle.jc_rounds.specs.Seats.{AreBefore, HasFound, HasGrown, MovesAtKey,
 pub use Rattle.jc_rounds.specs.SoFar.{AreHeldBack, AreIn, AreSettledFrom, AreUnder, HaveNoStep, IsHeldAt, IsKept, IsPicked, IsSoFar, IsUnderway, KeysAdvance, is_target_of}
 pub use Rattle.jc_rounds.specs.Starting.{AreManyJoined, AsksAtMostOnce, EachStartsAll, HasStartedAll, HaveJoined, IsFull, IsLeftAlone, IsRoomFor, RoundEnd, rounds_asked, seats_after}
 pub use Rattle.jc_rounds.specs.Targets.{ops_of, ops_with, put_ops}
-pub use Rattle.jc_rounds.specs.Underway.{Advances, AdvancesUnnoted, CallPast, HasCommitted, HasNoRoom, HasRoom, HasStarted, IsAnswered, IsBetween, IsCommitting, IsFresh, IsNew, IsOn, IsOver, IsPicking, IsStarting, KeepsJoined, KeepsRoom, are_fresh, reserved_by, with_round}
+pub use Rattle.jc_rounds.specs.Underway.{Advances, AdvancesUnnoted, CallPast, HasCommitted, HasNoRoom, HasRoom, HasStarted, IsAnswered, IsBetween, IsCommitting, IsFresh, IsNew, IsOn, IsOver, IsPicking, IsStarting, KeepsJoined, KeepsRoom, AreFresh, reserved_by, with_round}
 pub use Rattle.jc_rounds.specs.declared.answers.RoundAnswers.{RoundAnswers}
 pub use Rattle.jc_rounds.specs.declared.bulk_call.BulkCall.{BulkCall}
 pub use Rattle.jc_rounds.specs.declared.progress.KeyProgress.{KeyProgress}

@@ -1,7 +1,6 @@
 -- The first failure that a bulk call meets.
 --     failures_stay    what has failed stays among the failures
 --     first_there      the first key that failed, at its place
---     failures_more    the failures, by one key more
 --     none_failed      and if it hasn't failed
 --     noted_all        all that has failed is noted
 --     cause_met        so is a cause that was noted

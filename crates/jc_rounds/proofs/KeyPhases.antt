@@ -3,8 +3,7 @@
 --     key_begun          a first phase
 --     key_committed      a commit
 --     key_picked         a pick-up that isn't too early
---     start_may          the session's own steps let the call begin at a key at which it has none
-use Rattle.jc_rounds.proofs.Common.{◌≡◌, ◌&&◌, inl, inr, ◌≤◌, ℕ, List, [], ◌∷◌, ◌++◌, length, Bool, true, false, cond, Option, None, Some, slice_get, refl, sym, ap, subst, ◌∙◌, arith, and_parts, length-append, list_all-append, list_all, Caller, Config, Bytes, entry_at, nothing_said, may_come, Event, Step, Op, Get, Out, Reply, State, is_key, whole_history, whole_place, OnePhase, own_steps, AddsOwn, OwnSteps, StepsBehind, may_come_all, after_commit, with_joiner, first_asked, first_refusal, may_join, TicketClaim, JoinClaim, Begun, StepDone, Polled, Reservation, View, prefix-trans, Turn, ask_found, adds_whole, call_below, gains_whole, may_in_all, of_same, put_off_or_full, SeatPhase, HasBegun, HasPicked, IsCommitted, IsEarly, IsJoinFor, steps_of, HasFound, HasGrown}
+use Rattle.jc_rounds.proofs.Common.{◌≡◌, ◌&&◌, inl, inr, ◌≤◌, ℕ, List, [], ◌∷◌, ◌++◌, length, Bool, true, false, cond, Option, None, Some, slice_get, refl, sym, ap, subst, ◌∙◌, arith, and_parts, list_all-append, list_all, Caller, Config, Bytes, entry_at, nothing_said, may_come, Event, Step, Op, Get, Out, Reply, State, is_key, whole_history, whole_place, OnePhase, own_steps, AddsOwn, OwnSteps, StepsBehind, may_come_all, after_commit, with_joiner, first_asked, first_refusal, may_join, TicketClaim, JoinClaim, Begun, StepDone, Polled, Reservation, View, prefix-trans, Turn, ask_found, adds_whole, call_below, gains_whole, may_in_all, of_same, put_off_or_full, SeatPhase, HasBegun, HasPicked, IsCommitted, IsEarly, IsJoinFor, steps_of, HasFound, HasGrown}
 use mathlib.Core.List.{IsPrefix}
 use Rattle.jc_stripe.specs.Renewal.{all_own_steps}
 use Rattle.jc_stripe.specs.Outcomes as begun
@@ -14,7 +13,7 @@ use Rattle.jc_engine.specs.Turns.{committing}
 use Rattle.jc_cache.specs.Turns.{picking_late, starting_now}
 use Rattle.jc_engine.proofs.CallerLemmas.{next_place}
 use Rattle.jc_rounds.proofs.CallSteps.{steps-gained}
-use Rattle.jc_rounds.proofs.SeatPhases.{IsTurnOfCall, MovesSeat, all_now, front_found, found_phase, gained_phase, grown_phase, seen_own, seen_phase, uniform}
+use Rattle.jc_rounds.proofs.SeatPhases.{IsTurnOfCall, MovesSeat, all_now, front_found, found_phase, gained_phase, seen_own, seen_phase, uniform, longer}
 
 -- 1. Refusals.
 
@@ -22,9 +21,6 @@ pub early_none : (state : State) (caller : Caller) (key : Bytes) (op : Op) → f
 early_none state caller key op none = call_below state caller key op none
 
 -- 2. What is behind a front.
-
-longer : (xs ys : List Event) → IsPrefix xs ys → length xs ≤ length ys
-longer xs ys p = let n = length-append xs p.0 in let e = ap length p.1 in omega arith
 
 pub all_before : (p : Event → Bool) (xs ys : List Event) → IsPrefix xs ys → list_all p ys ≡ true → list_all p xs ≡ true
 all_before p xs ys more all = (and_parts (list_all p xs) (list_all p more.0) (sym (list_all-append p xs more.0) ∙ ap (list_all p) more.1 ∙ all)).0

@@ -18,7 +18,6 @@ pub mod Loops
 pub mod Causes
 pub mod Started
 pub mod Once
-pub mod NoneHeld
 pub mod Whole
 pub mod AskingRounds
 pub mod OutsideCalls

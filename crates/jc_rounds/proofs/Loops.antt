@@ -4,7 +4,7 @@
 --     start_else, start_past                   a key for which there is no room, and one that doesn't wait
 --     commit_noted, commit_from, next_commit, commit_none, commit_past, commit_over    the last phases
 --     pick_noted, pick_from, next_pick, pick_none, pick_past, pick_over              the pick-ups
-use Rattle.jc_rounds.proofs.Common.{◌≡◌, ⊎_elim, inl, inr, ◌≤◌, ◌+◌, ◌++◌, ℕ, List, [], ◌∷◌, length, map, reverse, slice_get, false, true≢false, Some, vec_capacity, vec_len, refl, sym, ap, subst, ◌∙◌, arith, reverse-reverse, Vec, Bytes, Op, JoinClaim, TicketClaim, CacheState, Session, RoundAnswers, BulkCall, KeyProgress, Waiting, Reserved, Joined, AreAnswers, IsCauseIn, IsNoted, StillWaits, failures, holds_reservation, waits_for_joined_load, waits_for_round, IsJoinFor, IsTicketFor, Round, faults_in, view_of, AreHeldBack, AreIn, IsHeldAt, HaveJoined, IsFull, ops_of, Advances, CallPast, HasCommitted, HasNoRoom, HasStarted, IsAnswered, IsBetween, IsCommitting, IsOn, IsPicking, IsStarting, KeepsJoined, are_fresh, reserved_by}
+use Rattle.jc_rounds.proofs.Common.{◌≡◌, ⊎_elim, inl, inr, ◌≤◌, ◌+◌, ◌++◌, ℕ, List, [], ◌∷◌, length, map, reverse, slice_get, false, true≢false, Some, vec_capacity, vec_len, refl, sym, ap, subst, ◌∙◌, arith, reverse-reverse, Vec, Bytes, Op, JoinClaim, TicketClaim, CacheState, Session, RoundAnswers, BulkCall, KeyProgress, Waiting, Reserved, Joined, AreAnswers, IsCauseIn, IsNoted, StillWaits, failures, holds_reservation, waits_for_joined_load, waits_for_round, IsJoinFor, IsTicketFor, Round, faults_in, view_of, AreHeldBack, AreIn, IsHeldAt, HaveJoined, IsFull, ops_of, Advances, CallPast, HasCommitted, HasNoRoom, HasStarted, IsAnswered, IsBetween, IsCommitting, IsOn, IsPicking, IsStarting, KeepsJoined, AreFresh, reserved_by}
 use Rattle.jc_rounds.proofs.Failures.{cause_met, keeps_both, keeps_noted, noted_all}
 use Rattle.jc_rounds.proofs.Held.{full_by, full_later, held_next, not_held}
 use Rattle.jc_rounds.proofs.OnCall.{on_by}
@@ -18,7 +18,7 @@ no_items v none = none_long v.items (sym v.ok.0 ∙ none)
     none_long [] is = refl
     none_long (x ∷ xs) is = absurd (omega arith)
 
-none_mapped : (ts : List TicketClaim) → map reserved_by ts ≡ [] → ts ≡ []
+pub none_mapped : (ts : List TicketClaim) → map reserved_by ts ≡ [] → ts ≡ []
 none_mapped [] is = refl
 none_mapped (t ∷ ts) is = cc
 
@@ -71,7 +71,7 @@ module _ {I J : Type 0} {D : I → Type 0} {E : J → Type 0} where
       let ops = ops_of call.targets.now in
       record {
         on = subst (λ ts. IsOn cache past session call ts call.joins.items) (sym between.no_tickets) (subst (IsOn cache past session call []) (sym between.no_joins) between.on);
-        fresh = subst (are_fresh past.rounds) (sym between.no_tickets) tt;
+        fresh = subst (AreFresh past.rounds) (sym between.no_tickets) tt;
         few = omega (arith, ap length between.no_tickets);
         settled = λ i p le at. settled_by p (none_in holds_reservation _ ops call.progress.items u.so_far.many u.calls_are i p at) (none_in waits_for_joined_load _ ops call.progress.items u.so_far.many u.joins_are i p at);
       }

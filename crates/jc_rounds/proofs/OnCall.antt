@@ -1,6 +1,6 @@
 -- A call with many keys, between its phases.
 --     SameCall          another state of the same call, with as much room
---     met_stay, met_all    what a cause that was noted is among, once keys have ended, and once all failures are noted
+--     met_stay          what a cause that was noted is among, once keys have ended
 --     may_start, may_commit, may_pick    the session may make its next phase at a key
 --     advances_itself, advances_both, advances_by    no phase, two, and one
 --     unnoted_itself, unnoted_both, unnoted_by       the same, of what hasn't been noted
@@ -8,7 +8,7 @@
 --     starting_on, held_by, kept_joined       a first phase
 --     committing_on     a commit
 --     picking_on        a pick-up
-use Rattle.jc_rounds.proofs.Common.{◌≡◌, ◌==◌, ◌⊎◌, inl, inr, ◌<◌, ◌≤◌, ◌+◌, ◌++◌, ℕ, List, [], ◌∷◌, length, map, set, slice_get, true, false, Option, None, Some, Result, Ok, vec_capacity, vec_len, refl, sym, ap, subst, ◌∙◌, arith, length-append, Vec, IsAmong, IsDistinct, keys_of, pointwise, JOINERS_MAX, RESERVATIONS_MAX, HaveJoined, IsRoomFor, Config, Refusal, is_among, Bytes, Op, Get, Out, Reply, Begun, Polled, Reservation, JoinClaim, TicketClaim, View, counted_begun, counted_polled, Agent, CacheState, Session, RoundAnswers, BulkCall, KeyProgress, Waiting, Reserved, Joined, Ended, AreAnswers, HasAskedSoFar, IsMet, StayEnded, failures, holds_reservation, is_held_back, waits_for_joined_load, HasBegun, HasPicked, IsCommitted, IsEarly, IsJoinFor, IsAnswer, LoadAll, ProcessAll, Round, WriteAll, asked_in, faults_in, keys_asked, AreBefore, HasGrown, view_of, steps_of, Caller, AreSettledFrom, AreUnder, IsHeldAt, IsKept, IsPicked, IsUnderway, KeysAdvance, ops_of, Advances, AdvancesUnnoted, CallPast, HasRoom, IsCommitting, IsFresh, IsOn, IsPicking, IsStarting, KeepsJoined, KeepsRoom, are_fresh, reserved_by}
+use Rattle.jc_rounds.proofs.Common.{◌≡◌, ◌==◌, ◌⊎◌, inl, inr, ◌<◌, ◌≤◌, ◌+◌, ◌++◌, ℕ, List, [], ◌∷◌, length, map, set, slice_get, true, false, Option, None, Some, Result, Ok, vec_capacity, vec_len, refl, sym, ap, subst, ◌∙◌, arith, length-append, Vec, IsAmong, IsDistinct, keys_of, pointwise, JOINERS_MAX, RESERVATIONS_MAX, HaveJoined, IsRoomFor, Config, Refusal, is_among, Bytes, Op, Get, Out, Reply, Begun, Polled, Reservation, JoinClaim, TicketClaim, View, counted_begun, counted_polled, Agent, CacheState, Session, RoundAnswers, BulkCall, KeyProgress, Waiting, Reserved, Joined, Ended, AreAnswers, HasAskedSoFar, IsMet, StayEnded, failures, holds_reservation, is_held_back, waits_for_joined_load, HasBegun, HasPicked, IsCommitted, IsEarly, IsJoinFor, IsAnswer, LoadAll, ProcessAll, Round, WriteAll, asked_in, faults_in, keys_asked, AreBefore, HasGrown, view_of, steps_of, Caller, AreSettledFrom, AreUnder, IsHeldAt, IsKept, IsPicked, IsUnderway, KeysAdvance, ops_of, Advances, AdvancesUnnoted, CallPast, HasRoom, IsCommitting, IsFresh, IsOn, IsPicking, IsStarting, KeepsJoined, KeepsRoom, AreFresh, reserved_by}
 use Rattle.jc_stripe.specs.Outcomes as begun
 use Rattle.jc_session.specs.declared.counts.Counted.{Counted}
 use Rattle.jc_session.specs.declared.counts.Counted.TheVariants.{Committed}
@@ -103,17 +103,17 @@ unnoted_itself session call = record { advances = advances_itself session call; 
 pub unnoted_both : {I J : Type 0} {D : I → Type 0} {E : J → Type 0} (a b c : Session I J D E) (x y z : BulkCall) → AdvancesUnnoted a b x y → AdvancesUnnoted b c y z → AdvancesUnnoted a c x z
 unnoted_both a b c x y z one two = record { advances = advances_both a b c x y z one.advances two.advances; cause = two.cause ∙ one.cause }
 
-all_then : (rounds : List Round) (ts : List TicketClaim) (t : TicketClaim) → are_fresh rounds ts → IsFresh rounds t → are_fresh rounds (ts ++ t ∷ [])
+all_then : (rounds : List Round) (ts : List TicketClaim) (t : TicketClaim) → AreFresh rounds ts → IsFresh rounds t → AreFresh rounds (ts ++ t ∷ [])
 all_then rounds [] t all one = (one, tt)
 all_then rounds (x ∷ ts) t all one = (all.0, all_then rounds ts t all.1 one)
 
 fresh_more : (rounds : List Round) (caller : Caller) (config : Config) (v w : View) (key : Bytes) (op : Op) (b : Begun) (p : KeyProgress) (ts ts' : List TicketClaim) (js js' : List JoinClaim) → HasBegun caller config v w key op b → IsKept b p ts ts' js js'
-    → is_among (asked_in rounds) key ≡ false → are_fresh rounds ts → are_fresh rounds ts'
+    → is_among (asked_in rounds) key ≡ false → AreFresh rounds ts → AreFresh rounds ts'
 fresh_more rounds caller config v w key op (begun.Asks ticket) p ts ts' js js' has kept unasked all =
-    subst (are_fresh rounds) (sym kept.1) (all_then rounds ts ticket all (has.1, has.2, ap (is_among (asked_in rounds)) has.3.key_is ∙ unasked))
-fresh_more rounds caller config v w key op (begun.Done done) p ts ts' js js' has kept unasked all = subst (are_fresh rounds) (sym kept.1) all
-fresh_more rounds caller config v w key op (begun.Refused refusal) p ts ts' js js' has kept unasked all = subst (are_fresh rounds) (sym kept.1) all
-fresh_more rounds caller config v w key op (begun.Joined join) p ts ts' js js' has kept unasked all = subst (are_fresh rounds) (sym kept.1) all
+    subst (AreFresh rounds) (sym kept.1) (all_then rounds ts ticket all (has.1, has.2, ap (is_among (asked_in rounds)) has.3.key_is ∙ unasked))
+fresh_more rounds caller config v w key op (begun.Done done) p ts ts' js js' has kept unasked all = subst (AreFresh rounds) (sym kept.1) all
+fresh_more rounds caller config v w key op (begun.Refused refusal) p ts ts' js js' has kept unasked all = subst (AreFresh rounds) (sym kept.1) all
+fresh_more rounds caller config v w key op (begun.Joined join) p ts ts' js js' has kept unasked all = subst (AreFresh rounds) (sym kept.1) all
 
 pub kept_more : (b : Begun) (p : KeyProgress) (ts ts' : List TicketClaim) (js js' : List JoinClaim) → IsKept b p ts ts' js js' → (length ts ≤ length ts') × (length ts' ≤ length ts + 1)
 kept_more (begun.Asks ticket) p ts ts' js js' kept = let n = ap length kept.1 ∙ length-append ts (ticket ∷ []) in (omega (arith, n), omega (arith, n))

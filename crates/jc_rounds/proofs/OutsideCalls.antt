@@ -2,7 +2,6 @@
 --     write_keys, delete_keys     the keys of writes and of deletes
 --     keys_wanted                 the keys of what is asked for
 --     no_batch, full_batch        the writer isn't called for nothing, and once for something
---     loads_back                  the done values of a loader's call, the last one first
 use Rattle.jc_rounds.proofs.Common.{◌≡◌, ◌++◌, ℕ, List, [], ◌∷◌, length, map, reverse, Bool, Option, Some, Result, Ok, refl, sym, ap, subst, ◌∙◌, arith, reverse-reverse, keys_of, Bytes, changes_of, DeleteAllRelation, WriteAllRelation, WritesAllOnce, Claim, WritesBatch, asked_keys, is_delete, wanted}
 use Rattle.jc_model.specs.declared.event.Change.{Change}
 use Rattle.jc_model.specs.declared.event.Change.TheVariants.{Write, Delete}

@@ -8,7 +8,7 @@
 --     view_set           the views after one seat was replaced
 --     view_there         the view of a seat that is there
 --     moves_all          what a phase leaves of all seats
-use Rattle.jc_rounds.proofs.Common.{◌≡◌, ◌==◌, ◌&&◌, ◌⊎◌, ⊎_elim, inl, inr, ℕ, zero, suc, List, [], ◌∷◌, ◌++◌, Bool, true, false, Option, Some, slice_get, slice_set, refl, sym, ap, subst, ◌∙◌, arith, le_refl, append_assoc, append-nil, and_from, nat_tests, nat_list_eq_equiv, same_Some, AllByRecursion, IsAmong, pointwise, stripe_of, Caller, Bytes, Event, Step, Op, Out, Reply, State, whole_history, OnePhase, IsUniform, own_steps, whole_goes_on, own_stay, View, prefix-refl, prefix-trans, same_itself, same_on, AllLend, Turn, SeatPhase, IsEarly, steps_of, former_steps, are_before, HasFound, HasGrown, MovesAtKey, is_at, view_at}
+use Rattle.jc_rounds.proofs.Common.{◌≡◌, ◌==◌, ◌&&◌, ◌⊎◌, ⊎_elim, inl, inr, ℕ, zero, suc, List, [], ◌∷◌, ◌++◌, Bool, true, false, Option, Some, slice_get, slice_set, refl, sym, ap, subst, ◌∙◌, arith, le_refl, append_assoc, append-nil, and_from, nat_tests, nat_list_eq_equiv, same_Some, AllByRecursion, IsAmong, pointwise, stripe_of, Caller, Bytes, Event, Step, Op, Out, Reply, State, whole_history, OnePhase, IsUniform, own_steps, whole_goes_on, own_stay, View, prefix-refl, prefix-trans, same_itself, same_on, AllLend, Turn, SeatPhase, IsEarly, steps_of, former_steps, are_before, HasFound, HasGrown, MovesAtKey, is_at, view_at, ◌≤◌, length, length-append}
 use mathlib.Core.List.{IsPrefix}
 use Rattle.atomic_table.specs.Seated.{TableId}
 use Rattle.jc_stripe.specs.Renewal.{RenewsIfFull}
@@ -20,6 +20,9 @@ abbrev pub Seated : Type 0
 Seated = TableId × View
 
 -- 1. One seat.
+
+pub longer : (xs ys : List Event) → IsPrefix xs ys → length xs ≤ length ys
+longer xs ys p = let n = length-append xs p.0 in let e = ap length p.1 in omega arith
 
 among_push : {X : Type 0} (xs ys : List X) (x v : X) → IsAmong (xs ++ ys) v → IsAmong (xs ++ x ∷ ys) v
 among_push [] ys x v (i, (lt, is)) = (suc i, (omega (arith, lt), is))

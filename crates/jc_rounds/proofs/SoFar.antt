@@ -1,5 +1,5 @@
 -- A call so far, as one of its keys goes on by one phase, and as a round has called outside.
---     among_more, among_last    what is among some is among more; the last one is among all
+--     among_more       what is among some is among more
 --     at_later         a phase at another key leaves what is said of this one
 --     at_since         what is so since a later view is so since an earlier one
 --     at_more          what is so stays so when a later round has called outside
@@ -7,13 +7,13 @@
 --     goes_on          the key at this place goes on by one phase
 --     more_rounds      the call so far, when a round has called outside
 --     opens            before the first round
---     at_place_of      what the call so far says of the key at a place
-use Rattle.jc_rounds.proofs.Common.{◌≡◌, ◌==◌, ◌&&◌, ◌||◌, ◌⊎◌, ⊎_elim, inl, inr, ◌≤◌, ℕ, zero, suc, List, [], ◌∷◌, ◌++◌, length, length-set, set, Bool, true, false, None, Some, Ok, Err, Result, Option, slice_get, refl, sym, ap, subst, ◌∙◌, arith, and_from, and_parts, nat_list_eq_equiv, length-append, IsDistinct-head, IsDistinct-tail, same_Some, IsAmong, IsDistinct, list_all, keys_of, pointwise, same_text, stripe_of, Caller, Refusal, is_among, Bytes, Event, Op, Out, is_before_call, whole_history, View, prefix-trans, same_on, KeyProgress, Waiting, Reserved, Joined, Ended, all_waiting, State, Config, Reply, flat_map-append, list_any-append, IsAt, IsStepTold, MadeOn, WasRefused, steps_of, Round, asked_in, keys_asked, HasGrown, MovesAtKey, is_at, view_at, view_of, IsSoFar, is_target_of}
+use Rattle.jc_rounds.proofs.Common.{◌≡◌, ◌==◌, ◌&&◌, ◌||◌, ◌⊎◌, ⊎_elim, inl, inr, ℕ, zero, suc, List, [], ◌∷◌, ◌++◌, length, length-set, set, Bool, true, false, None, Some, Ok, Err, Result, Option, slice_get, refl, sym, ap, subst, ◌∙◌, arith, and_from, and_parts, nat_list_eq_equiv, IsDistinct-head, IsDistinct-tail, same_Some, IsAmong, IsDistinct, list_all, keys_of, pointwise, same_text, stripe_of, Caller, Refusal, is_among, Bytes, Event, Op, Out, is_before_call, whole_history, View, prefix-trans, same_on, KeyProgress, Waiting, Reserved, Joined, Ended, all_waiting, State, Config, Reply, flat_map-append, list_any-append, IsAt, IsStepTold, MadeOn, WasRefused, steps_of, Round, asked_in, keys_asked, HasGrown, MovesAtKey, is_at, view_at, view_of, IsSoFar, is_target_of}
+use Rattle.jc_rounds.proofs.Places.{many_waiting}
 use mathlib.Core.List.{IsPrefix}
 use Rattle.jc_outside.proofs.CallerLemmas.{at_place}
 use Rattle.jc_engine.specs.MadeIn.{IsNext}
-use Rattle.jc_rounds.proofs.CallSteps.{no-steps, still-before}
-use Rattle.jc_rounds.proofs.SeatPhases.{Seated, found_later, found_since, grown_itself, grown_on, phases_among, phases_none, phases_on}
+use Rattle.jc_rounds.proofs.CallSteps.{no-steps, still-before, or_true}
+use Rattle.jc_rounds.proofs.SeatPhases.{Seated, found_later, found_since, grown_itself, grown_on, phases_among, phases_none, phases_on, longer}
 
 -- 1. Rounds.
 
@@ -22,14 +22,7 @@ among_more [] ys v is = absurd (let near = is.1.0 in omega arith)
 among_more (x ∷ xs) ys v (zero, (lt, is)) = (zero, (omega arith, is))
 among_more (x ∷ xs) ys v (suc i, (lt, is)) = let rest = among_more xs ys v (i, (omega (arith, lt), is)) in (suc rest.0, (omega (arith, rest.1.0), rest.1.1))
 
-pub among_last : {X : Type 0} (xs : List X) (v : X) → IsAmong (xs ++ v ∷ []) v
-among_last [] v = (zero, (omega arith, refl))
-among_last (x ∷ xs) v = let rest = among_last xs v in (suc rest.0, (let near = rest.1.0 in omega arith, rest.1.1))
-
 -- 2. One key.
-
-pub longer : (xs ys : List Event) → IsPrefix xs ys → length xs ≤ length ys
-longer xs ys p = let n = length-append xs p.0 in let e = ap length p.1 in omega arith
 
 slice_on : (xs zs : List Event) (place : ℕ) (e : Event) → slice_get xs place ≡ Some e → slice_get (xs ++ zs) place ≡ Some e
 slice_on [] zs place e at = cc
@@ -186,10 +179,6 @@ place_or (t ∷ targets) (suc i) zero key q op o d at there (x ∷ ps) p r is =
 place_or (t ∷ targets) (suc i) (suc j) key q op o d at there (x ∷ ps) p r is =
     place_or targets i j key q op o (IsDistinct-tail (pointwise ◌==◌) t.0 (keys_of targets) d) at there ps p r is
 
-pub or_true : (a b : Bool) → b ≡ true → (a || b) ≡ true
-or_true true b is = refl
-or_true false b is = is
-
 pub among_at : (targets : List (Bytes × Op)) (i : ℕ) (key : Bytes) (op : Op) → slice_get targets i ≡ Some (key, op) → is_among (keys_of targets) key ≡ true
 among_at [] i key op at = cc
 among_at (t ∷ targets) zero key op at =
@@ -261,10 +250,6 @@ more_rounds config caller stripes targets rounds more old new ps none so = recor
 
 -- 5. Before the first round.
 
-pub waiting_many : (n : ℕ) → length (all_waiting n) ≡ n
-waiting_many zero = refl
-waiting_many (suc n) = ap suc (waiting_many n)
-
 pub waiting_there : (n place : ℕ) (p : KeyProgress) → slice_get (all_waiting n) place ≡ Some p → p ≡ Waiting
 waiting_there zero place p at = cc
 waiting_there (suc n) zero p at = sym (same_Some Waiting p at)
@@ -277,7 +262,7 @@ opens config caller stripes targets seats ps before is = record {
   phases = λ i. phases_none caller (λ q. is_target_of stripes targets q i ≡ true) (view_at seats i);
   numbers = λ i. still-before caller (view_at seats i).own (before i);
   former = λ i. refl;
-  many = ap length is ∙ waiting_many (length targets);
+  many = ap length is ∙ many_waiting (length targets);
   each = λ place key op p at there.
       subst (IsAt config caller [] (view_of stripes seats key) (view_of stripes seats key) key op) (sym (waiting_there (length targets) place p (subst (λ (qs : List KeyProgress). slice_get qs place ≡ Some p) is there)))
       (no-steps caller key (view_of stripes seats key).own (before (stripe_of key stripes)));

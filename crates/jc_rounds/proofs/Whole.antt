@@ -8,7 +8,8 @@
 --     round_of        a round, from its phases
 --     refused_call, refused_round    each key that waits is refused
 --     carried_out     after the last round the call is carried out
-use Rattle.jc_rounds.proofs.Common.{◌≡◌, ◌&&◌, ◌⊎◌, ⊎_elim, inl, inr, ◌<◌, ◌≤◌, ◌+◌, ◌*◌, ◌++◌, ℕ, zero, suc, List, [], ◌∷◌, All, length, Bool, true, false, nat_le, nat_lt, Some, Result, Ok, Err, slice_get, refl, sym, ap, subst, ◌∙◌, arith, nat_tests, All-nil, All-cons, list_all, Caller, STEP_PLACES, RESERVATIONS_MAX, JOINERS_MAX, Refusal, Bytes, Op, Reply, lacks_room, is_before_call, has_room, last_number, needs_free_key, places_needed, State, promised, waits, View, one_more, CacheState, MayCall, Session, KeyProgress, Waiting, Reserved, Joined, Ended, are_before, view_at, view_of, map, true≢false, vec_capacity, same_Some, keys_of, pointwise, AllByRecursion, IsDistinct, is_among, Reservation, IsOf, IsMet, former_steps, steps_of, HasGrown, AreHeldBack, is_target_of, AsksAtMostOnce, HasStartedAll, IsRoomFor, filter_map-append, Vec, option_or, Config, TicketClaim, BulkCall, AsksFor, HasAskedSoFar, reserved_keys, IsCauseIn, IsNoted, StayEnded, all_waiting, failures, holds_reservation, is_held_back, is_settled, refused_if_waiting, waits_for_joined_load, EndsKey, IsAt, IsJoinFor, IsTicketFor, WasRefused, Round, asked_in, faults_in, keys_asked, round_fault, IsFirst, EachTakesMemory, HasRun, IsCarriedOut, IsNearFull, IsRound, WasNearFull, IsUnderway, KeysAdvance, IsFull, ops_of, CallPast, HasCommitted, HasStarted, IsBetween, IsNew, IsOn, IsOver, are_fresh, reserved_by, with_round, ◌==◌}
+use Rattle.jc_rounds.proofs.Common.{◌≡◌, ◌&&◌, ◌⊎◌, ⊎_elim, inl, inr, ◌<◌, ◌≤◌, ◌+◌, ◌*◌, ◌++◌, ℕ, zero, suc, List, [], ◌∷◌, All, length, Bool, true, false, nat_le, nat_lt, Some, Result, Ok, Err, slice_get, refl, sym, ap, subst, ◌∙◌, arith, nat_tests, All-nil, All-cons, list_all, Caller, STEP_PLACES, RESERVATIONS_MAX, JOINERS_MAX, Refusal, Bytes, Op, Reply, lacks_room, is_before_call, has_room, last_number, needs_free_key, places_needed, State, promised, waits, View, one_more, CacheState, MayCall, Session, KeyProgress, Waiting, Reserved, Joined, Ended, are_before, view_at, view_of, map, true≢false, vec_capacity, same_Some, keys_of, pointwise, AllByRecursion, IsDistinct, is_among, Reservation, IsOf, IsMet, former_steps, steps_of, HasGrown, AreHeldBack, is_target_of, AsksAtMostOnce, HasStartedAll, IsRoomFor, filter_map-append, Vec, option_or, Config, TicketClaim, BulkCall, AsksFor, HasAskedSoFar, reserved_keys, IsCauseIn, IsNoted, StayEnded, all_waiting, failures, holds_reservation, is_held_back, is_settled, refused_if_waiting, waits_for_joined_load, EndsKey, IsAt, IsJoinFor, IsTicketFor, WasRefused, Round, asked_in, faults_in, keys_asked, round_fault, IsFirst, EachTakesMemory, HasRun, IsCarriedOut, IsNearFull, IsRound, WasNearFull, IsUnderway, KeysAdvance, IsFull, ops_of, CallPast, HasCommitted, HasStarted, IsBetween, IsNew, IsOn, IsOver, AreFresh, reserved_by, with_round, ◌==◌}
+use Rattle.jc_rounds.proofs.Loops.{none_mapped}
 use Rattle.std.proofs.lemmas.List.Sums.{count_by-le-length}
 use Rattle.jc_types.specs.declared.refusal.Refusal.TheVariants.{HistoryFull, OutOfMemory}
 use Rattle.jc_stripe.specs.Reached.{IsReached}
@@ -113,11 +114,7 @@ none_failed (suc n) = none_failed n
 none_such : (has : KeyProgress → Bool) (n : ℕ) (ps : List KeyProgress) → has Waiting ≡ false → ps ≡ all_waiting n → (i : ℕ) (p : KeyProgress) → slice_get ps i ≡ Some p → has p ≡ false
 none_such has n ps isnt is i p there = ap has (waiting_there n i p (subst (λ (qs : List KeyProgress). slice_get qs i ≡ Some p) is there)) ∙ isnt
 
-none_mapped : (ts : List TicketClaim) → map reserved_by ts ≡ [] → ts ≡ []
-none_mapped [] is = refl
-none_mapped (t ∷ ts) is = cc
-
-fresh_keys : (rounds : List Round) (ts : List TicketClaim) → are_fresh rounds ts → AllByRecursion (λ (r : Reservation). is_among (asked_in rounds) r.key ≡ false) (map reserved_by ts)
+fresh_keys : (rounds : List Round) (ts : List TicketClaim) → AreFresh rounds ts → AllByRecursion (λ (r : Reservation). is_among (asked_in rounds) r.key ≡ false) (map reserved_by ts)
 fresh_keys rounds [] all = tt
 fresh_keys rounds (t ∷ ts) all = (all.0.2, fresh_keys rounds ts all.1)
 

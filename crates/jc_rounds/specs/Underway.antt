@@ -4,7 +4,7 @@
 --     with_round         the past with one round more
 --     reserved_by        a ticket's reservation
 --     IsFresh            a ticket for which nobody was asked, of a key for which none of these rounds asked
---     are_fresh          each of these tickets is fresh
+--     AreFresh          each of these tickets is fresh
 --     AreRooms           the memory of the rounds of a call with this number of keys, none of which was started
 --     IsNew              a call for these keys before its first round, with room for its rounds
 --     IsOn               the session's current call, with this past, which has these tickets and joins out
@@ -65,8 +65,8 @@ reserved_by ticket = ticket.reservation
 abbrev pub IsFresh : List Round → TicketClaim → Type 0
 IsFresh rounds ticket = (ticket.asked ≡ false) × (ticket.writer_asked ≡ false) × (is_among (asked_in rounds) ticket.reservation.key ≡ false)
 
-abbrev pub are_fresh : List Round → List TicketClaim → Type 0
-are_fresh rounds tickets = AllByRecursion (IsFresh rounds) tickets
+abbrev pub AreFresh : List Round → List TicketClaim → Type 0
+AreFresh rounds tickets = AllByRecursion (IsFresh rounds) tickets
 
 pub record AreRooms (keys stripes : ℕ) (rooms : Rooms) : Type 0 where
   pub waiting : rooms.progress.items ≡ all_waiting keys
@@ -106,13 +106,13 @@ module _ {I J : Type 0} {D : I → Type 0} {E : J → Type 0} (cache : CacheStat
 
   pub record IsStarting (session : Session I J D E) (call : BulkCall) (place : ℕ) : Type 0 where
     pub on : IsOn session call call.tickets.items call.joins.items
-    pub fresh : are_fresh past.rounds call.tickets.items
+    pub fresh : AreFresh past.rounds call.tickets.items
     pub few : length call.tickets.items ≤ call.most
     pub settled : AreSettledFrom place call.progress.items
 
   pub record HasStarted (old new : Session I J D E) (call : BulkCall) : Type 0 where
     pub on : IsOn new call call.tickets.items call.joins.items
-    pub fresh : are_fresh past.rounds call.tickets.items
+    pub fresh : AreFresh past.rounds call.tickets.items
     pub few : length call.tickets.items ≤ call.most
     pub held : AreHeldBack (IsFull past.caller cache.config.stripes (ops_of call.targets.now) old.seats.items new.seats.items (length call.tickets.items)) (length (ops_of call.targets.now)) past.caller cache.config.stripes (ops_of call.targets.now) old.seats.items new.seats.items call.progress.items
 

@@ -1,4 +1,4 @@
-use Rattle.jc_rounds.proofs.Common.{◌≡◌, ◌+◌, ◌∙◌, length, vec_len, ap, subst, sym, arith, length-map, LoadsAllOnce, loads_done, asked_key, asked_keys}
+use Rattle.jc_rounds.proofs.Common.{◌≡◌, ◌∙◌, length, vec_len, ap, subst, sym, arith, length-map, LoadsAllOnce, loads_done, asked_key, asked_keys}
 use Rattle.jc_session.specs.Boxed.{boxed}
 use Rattle.jc_cache.proofs.CallerLemmas.{after_asking, same_type}
 use Rattle.jc_rounds.proofs.OutsideCalls.{done_back}
