@@ -51,12 +51,12 @@ module _ {F S T : Type 0} (g : Shared F (Bor (IndexSet Bytes S) × (MutBor T × 
   module _ (olds news : List T) where
     again_all : (P : T → Type 0) → Keeps (λ old new. P old → P new) → (results : ℕ → PieceResult) → AreLoadedBy g load keys results olds news → All P olds → All P news
     again_all P keeps results loaded all k d lt =
-        let many : length news ≡ length olds = loaded.tools in
+        let many : length news ≡ length olds = loaded.count in
         let l : k < length olds = omega arith in
         again P keeps results (get_or olds k d) (get_or news k d) (get_or loaded.shares k []) (loaded.each k d l) (all k d l)
 
     same_all : {X : Type 0} (f : T → X) → Keeps (λ old new. f new ≡ f old) → (results : ℕ → PieceResult) → AreLoadedBy g load keys results olds news → map f news ≡ map f olds
-    same_all f same results loaded = pointwise_same f olds news loaded.tools
+    same_all f same results loaded = pointwise_same f olds news loaded.count
         (λ k d lt. again (λ t. f t ≡ f (get_or olds k d)) (λ shown lent back result post before. same shown lent back result post ∙ before) results (get_or olds k d) (get_or news k d) (get_or loaded.shares k [])
         (loaded.each k d lt) refl)
 

@@ -128,7 +128,7 @@ module _ {F S T : Type 0} (g : Shared F (Bor (IndexSet Bytes S) × (MutBor T × 
       loaded = record {
         shares = done.shares;
         share_each = done.each_worker.share_each ∙ len ∙ sym each;
-        tools = many_tools;
+        count = many_tools;
         each = tools_led (fact_at (joined team.dss) Loaded) ws ws' ts ts' done.shares each many many_tools (done.each_worker.share_each ∙ len)
             (led_each Step (zip ws ts) (zip ws' ts') done.shares team Loaded pieces done.each_piece);
         once = λ p. done.each_piece p ∙ ap (once_below p) is;

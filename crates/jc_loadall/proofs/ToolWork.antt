@@ -51,7 +51,7 @@ module _ {F S T : Type 0} (Loads : List (Bytes × Op) → PieceEnd → T → T �
     record {
       shares = loaded.shares;
       share_each = loaded.share_each;
-      count = loaded.tools;
+      count = loaded.count;
       each = λ k d lt. only (get_or olds k d) (get_or news k d) (get_or loaded.shares k []) (fact_at (joined team.dss) nothing)
           (led_each Step olds news loaded.shares team nothing (piece_count (length keys)) loaded.once k d lt);
       once = loaded.once;
@@ -64,7 +64,7 @@ module _ {F S T : Type 0} (Loads : List (Bytes × Op) → PieceEnd → T → T �
       nothing = record { ends = []; cause = None }
 
       team : Gathering Step olds news loaded.shares
-      team = gathered Step olds news loaded.shares loaded.tools loaded.share_each (λ k d lt. told (get_or olds k d) (get_or news k d) (get_or loaded.shares k []) (loaded.each k d lt))
+      team = gathered Step olds news loaded.shares loaded.count loaded.share_each (λ k d lt. told (get_or olds k d) (get_or news k d) (get_or loaded.shares k []) (loaded.each k d lt))
 
       there : (p : ℕ) → p < piece_count (length keys) → 0 < seen p (joined team.dss)
       there p lt = let a = often Step olds news loaded.shares team nothing (piece_count (length keys)) loaded.once p in let b = once_is p (piece_count (length keys)) lt in omega arith

@@ -7,17 +7,15 @@
 --     ClientLoadsPiece  as `LoadsPiece`, for a client: its session does so on the client's cache, which stays the same
 --     all_ends        the ends of the keys of the first `n` pieces, in the order of the keys
 --     first_cause     the first cause among those of the first `n` pieces
---     LoadsInPieces   each piece of these keys was loaded once, by one of these sessions or clients, with this end: each has a
---                     share of the pieces, loaded them one after another, and did nothing else
+--     LoadsInPieces   each piece of these keys was loaded once, by one of these sessions or clients, with this end
 --     EndsInPieces    as `LoadsInPieces`, with the result: that it is done, or the cause of the first piece that has one, with
 --                     each key that ended in a fault or a refusal
 --     completion_of   what a listener hears of a call with this result
 --     of_clients      the result of a call of clients that has ended like this
 --     OnReturn        one condition if a call of clients returns that there is no client, and another one on what it returns
 --                     otherwise
-use Rattle.std.specs.Prelude.{◌≡◌, ◌<◌, ◌⊎◌, ◌++◌, ℕ, zero, suc, List, [], length, map, Bool, Option, None, Some, Result, Ok, Err, slice_index_or}
+use Rattle.std.specs.Prelude.{◌≡◌, ◌⊎◌, ◌++◌, ℕ, zero, suc, List, [], length, map, Bool, Option, None, Some, Result, Ok, Err}
 use Rattle.std.specs.Option.{option_or}
-use Rattle.std.specs.List.{concat}
 use Rattle.jc_types.specs.declared.refusal.Refusal.{Refusal}
 use Rattle.jc_types.specs.declared.refusal.Refusal.TheVariants.{OutOfMemory}
 use Rattle.jc_model.specs.Cache.{Bytes}
@@ -31,10 +29,9 @@ use Rattle.jc_bulk.specs.Bulk.{IsBulkCall, TellsDone}
 use Rattle.jc_bulk.specs.Outside.{BulkBehavior}
 use Rattle.jc_rounds.specs.Ends.{KeyEnd, failed_entries}
 use Rattle.jc_bulk.specs.Targets.{load_ops}
-use Rattle.jc_pool.specs.Shares.{LeadsTo, once_below, times}
 use Rattle.jc_loadall.specs.declared.fault.LoadAllFault.{LoadAllFault}
 use Rattle.jc_loadall.specs.declared.fault.LoadAllFault.TheVariants.{NoClient, Failed}
-use Rattle.jc_loadall.specs.Pieces.{piece_at, piece_count}
+use Rattle.jc_loadall.specs.Pieces.{LoadsEachOnce, piece_at, piece_count}
 
 pub record PieceEnd : Type 0 where
   pub ends : List KeyEnd
@@ -68,15 +65,9 @@ first_cause ends (suc n) = option_or (first_cause ends n) (ends n).cause
 
 -- `Loads` is what one of them did to load a piece
 module _ {T : Type 0} (Loads : List (Bytes × Op) → PieceEnd → T → T → Type 0) where
-  -- `old` and `new` are they before and after
-  pub record LoadsInPieces (keys : List Bytes) (replace : Bool) (ends : ℕ → PieceEnd) (old new : List T) : Type 0 where
-    pub shares : List (List ℕ)
-    pub share_each : length shares ≡ length old
-    pub count : length new ≡ length old
-    pub each : (k : ℕ) (d : T) → k < length old
-        → LeadsTo (λ before piece after. Loads (load_ops replace (piece_at keys piece)) (ends piece) before after)
-        (slice_index_or old k d) (slice_index_or shares k []) (slice_index_or new k d)
-    pub once : (piece : ℕ) → times piece (concat shares) ≡ once_below piece (piece_count (length keys))
+  abbrev pub LoadsInPieces : List Bytes → Bool → (ℕ → PieceEnd) → List T → List T → Type 0
+  LoadsInPieces keys replace ends old new =
+      LoadsEachOnce (λ before piece after. Loads (load_ops replace (piece_at keys piece)) (ends piece) before after) (piece_count (length keys)) old new
 
   abbrev pub EndsInPieces : List Bytes → Bool → List T → Result (Unit {0}) BulkFault → List T → Type 0
   EndsInPieces keys replace old result new =

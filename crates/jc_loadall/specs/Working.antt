@@ -6,13 +6,12 @@
 --     CanLoad        a worker can load the piece with this number: there is such a piece; there is room for its keys, and for the
 --                    note of its end; and the function may be called with the tool
 --     DoesPiece      a piece was loaded with the tool, and the worker noted its end
---     AreLoadedBy    each piece of these keys was loaded once, with this result: each tool has a share of the pieces, which were
---                    loaded with it one after another
+--     AreLoadedBy    each piece of these keys was loaded once, with one of these tools and this result
 --     EndsByTeam     as `AreLoadedBy`, with the result of the call: that it is done, or the first cause that is noted, with each
 --                    key of which a fault or a refusal is noted
 --     IsIdleWorker   a worker has loaded nothing, and has room for this number of notes
-use Rattle.std.specs.Prelude.{◌≡◌, ◌==◌, ◌<◌, ◌≤◌, ◌+◌, ◌++◌, ℕ, List, [], ◌∷◌, length, slice_index_or, vec_capacity, Result}
-use Rattle.std.specs.List.{All, IsDistinct, concat}
+use Rattle.std.specs.Prelude.{◌≡◌, ◌==◌, ◌<◌, ◌≤◌, ◌+◌, ◌++◌, ℕ, List, [], ◌∷◌, length, vec_capacity, Result}
+use Rattle.std.specs.List.{All, IsDistinct}
 use Rattle.std.specs.Cmp.Lexicographic.{pointwise}
 use denote.Ref.{Bor, MutBor}
 use denote.Param.Members.{Shared}
@@ -20,13 +19,12 @@ use Rattle.indexmap.specs.IndexSet.{IndexSet, spare}
 use Rattle.jc_model.specs.Cache.{Bytes}
 use Rattle.jc_bulk.specs.declared.fault.BulkFault.{BulkFault}
 use Rattle.jc_bulk.specs.Bulk.{TellsDone}
-use Rattle.jc_pool.specs.Shares.{LeadsTo, once_below, times}
 use Rattle.jc_loadall.specs.declared.limits.TheConstants.{PIECE_KEYS}
 use Rattle.jc_loadall.specs.declared.notes.Note.{Note}
 use Rattle.jc_loadall.specs.declared.notes.PieceResult.{PieceResult}
 use Rattle.jc_loadall.specs.declared.worker.Worker.{Worker}
 use Rattle.jc_loadall.specs.Notes.{all_noted, first_noted}
-use Rattle.jc_loadall.specs.Pieces.{piece_at, piece_count}
+use Rattle.jc_loadall.specs.Pieces.{LoadsEachOnce, piece_at, piece_count}
 
 module _ {F S T : Type 0} (g : Shared F (Bor (IndexSet Bytes S) × (MutBor T × Unit {0})) (PieceResult × (MutBor T × Unit {0}))) (f : F) where
   abbrev pub CanLoadBy : T → Type 0
@@ -67,13 +65,8 @@ module _ {F S T : Type 0} (g : Shared F (Bor (IndexSet Bytes S) × (MutBor T × 
     pub loads : LoadsBy (piece_at keys piece) old result new
 
   -- `old` and `new` are the tools before and after
-  pub record AreLoadedBy (keys : List Bytes) (results : ℕ → PieceResult) (old new : List T) : Type 0 where
-    pub shares : List (List ℕ)
-    pub share_each : length shares ≡ length old
-    pub tools : length new ≡ length old
-    pub each : (k : ℕ) (d : T) → k < length old
-        → LeadsTo (λ before piece after. LoadsBy (piece_at keys piece) before (results piece) after) (slice_index_or old k d) (slice_index_or shares k []) (slice_index_or new k d)
-    pub once : (piece : ℕ) → times piece (concat shares) ≡ once_below piece (piece_count (length keys))
+  abbrev pub AreLoadedBy : List Bytes → (ℕ → PieceResult) → List T → List T → Type 0
+  AreLoadedBy keys results old new = LoadsEachOnce (λ before piece after. LoadsBy (piece_at keys piece) before (results piece) after) (piece_count (length keys)) old new
 
   abbrev pub EndsByTeam : List Bytes → List T → Result (Unit {0}) BulkFault → List T → Type 0
   EndsByTeam keys old result new =
