@@ -18,7 +18,7 @@ delete_keys (k ∷ ks) = ap (λ rest. k ∷ rest) (delete_keys ks)
 
 pub keys_wanted : (asks : List Claim) → map (λ (c : Bytes × Option Change). c.0) (wanted asks) ≡ asked_keys asks
 keys_wanted [] = refl
-keys_wanted (a ∷ asks) = ap (λ ks. a.reservation.key ∷ ks) (keys_wanted asks)
+keys_wanted (a ∷ asks) = ap (λ ks. a.key ∷ ks) (keys_wanted asks)
 
 pub none_long : {X : Type 0} (xs : List X) → length xs ≡ 0 → xs ≡ []
 none_long [] is = refl

@@ -41,7 +41,7 @@ returns-in-Some-clause-committed g c past round is =
     let next = next_commit c.args.cache.now past round c.args.session.now c.args.self.now c.pop.new.self c.in-Some.ticket c.args.answers.now c.args.place c.in-Some.ensures.items c.in-Some.ensures.capacity is in
     let told = c.commit_next.ensures.told round _ next.answered in
     committing_on c.args.cache.now past c.args.session.now c.commit_next.new.session (record c.args.self.now { tickets = c.pop.new.self }) _ (record { targets = refl; most = refl; cause = refl; tickets_room = refl; joins_room = refl })
-    round c.args.place c.in-Some.ticket (reverse c.pop.new.self.items) c.commit_next.new.reply c.args.answers.now c.commit_next.new.answers refl refl (reserved_there _ _ _ c.requires.place c.index.ensures (sym c.holds_reservation.ensures ∙ c.if-holds_reservation.true)) told.0 told.1 next
+    round c.args.place c.in-Some.ticket (reverse c.pop.new.self.items) c.commit_next.new.reply c.args.answers.now c.commit_next.new.self refl refl (reserved_there _ _ _ c.requires.place c.index.ensures (sym c.holds_reservation.ensures ∙ c.if-holds_reservation.true)) told.0 told.1 next
 
 pub returns-else-holds_reservation-clause-committed : goal.returns-else-holds_reservation-clause-committed
 returns-else-holds_reservation-clause-committed g c past round next =
