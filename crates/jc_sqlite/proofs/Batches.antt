@@ -15,7 +15,7 @@ use Rattle.sqlite.proofs.StateLemmas.{survives_then}
 use Rattle.sqlite.proofs.Callers.{survives_begin}
 use Rattle.jc_sqlite.specs.Batch.{in_transaction, RanEach, RanAll, RunsAsOne}
 
-stays : (s : State) (P : Trees → Type 0) → Survives s s P
+pub stays : (s : State) (P : Trees → Type 0) → Survives s s P
 stays s P = record { clean = omega arith; shield = λ h. h; counts = omega arith; limit = refl; closes = λ _ h. inl h; crash = λ _ db h. inl h }
 
 pub record UnderWay {S X : Type 0} (g : Ghosts S) (sql : List ℕ) (row_of : X → Row) (items rest : List X) (begun now : Held S) : Type 0 where
@@ -122,15 +122,16 @@ refused g sql rows old open_before = record {
   all = λ _. tt;
   none = λ _ _. (refl, refl);
   cause = λ _. inl (refl, open_before);
+  mode = refl;
   crash = stays (state g old) _;
 }
 
-module _ {S X : Type 0} (g : Ghosts S) (sql : List ℕ) (row_of : X → Row) (items : List X) (old : Held S) (settled : IsTrue (state g old).is_open → (state g old).now ≡ (state g old).committed) where
+module _ {S X : Type 0} (g : Ghosts S) (sql : List ℕ) (row_of : X → Row) (items : List X) (old : Held S) (autocommit : old.in_transaction ≡ false) (settled : IsTrue (state g old).is_open → (state g old).now ≡ (state g old).committed) where
   -- the statement failed at an item, and the transaction was rolled back
   pub stopped : (rest tail : List X) (item : X) (now mid end : Held S) (e : Error) → UnderWay g sql row_of items rest (in_transaction old) now → rest ≡ item ∷ tail
       → (HasCleanDisk (state g mid) → IsTrue (state g now).in_transaction → ExecutesInside 0 sql (row_of item) (state g now) (state g mid) (Err e)) → Survives (state g now) (state g mid) (λ _. ⊥)
-      → (HasCleanDisk (state g end) → IsRolledBack (state g mid) (state g end)) → Survives (state g mid) (state g end) (λ _. ⊥) → RunsAsOne g sql (map row_of items) old end (Err e)
-  stopped rest tail item now mid end e u takes runs one back two =
+      → end.in_transaction ≡ false → (HasCleanDisk (state g end) → IsRolledBack (state g mid) (state g end)) → Survives (state g mid) (state g end) (λ _. ⊥) → RunsAsOne g sql (map row_of items) old end (Err e)
+  stopped rest tail item now mid end e u takes runs one over back two =
       let mid_clean : HasCleanDisk (state g end) → HasCleanDisk (state g mid) = λ clean. omega (arith, two.clean) in
       let now_clean : HasCleanDisk (state g end) → HasCleanDisk (state g now) = λ clean. let h = mid_clean clean in omega (arith, one.clean) in
       let failed = λ (clean : HasCleanDisk (state g end)). runs (mid_clean clean) (u.inside (now_clean clean)) in record {
@@ -147,15 +148,16 @@ module _ {S X : Type 0} (g : Ghosts S) (sql : List ℕ) (row_of : X → Row) (it
           ran = u.ran (now_clean clean);
           fails = failed clean;
         }));
+        mode = over ∙ sym autocommit;
         crash = crash_none g sql row_of items rest old now mid end _ u one two;
       }
 
   -- the statement ran for each item, and the transaction was committed, or the commit failed
-  pub ended : (rest : List X) (last end : Held S) (result : Result (Unit {0}) Error) → UnderWay g sql row_of items rest (in_transaction old) last → rest ≡ []
+  pub ended : (rest : List X) (last end : Held S) (result : Result (Unit {0}) Error) → UnderWay g sql row_of items rest (in_transaction old) last → rest ≡ [] → end.in_transaction ≡ false
       → (HasCleanDisk (state g end) → OnOk result (IsTrue (state g last).in_transaction × Shows (state g last) (state g end) (state g last).now (state g last).now false × KeepsCounts (state g last) (state g end) × ((state g end).marks ≡ [])))
       → (HasCleanDisk (state g end) → IfErr result (FailsToCommit (state g last) (state g end))) → Survives (state g last) (state g end) (λ db. db ≡ (state g last).now.trees)
       → RunsAsOne g sql (map row_of items) old end result
-  ended rest last end result u none ok err survives =
+  ended rest last end result u none over ok err survives =
       let last_clean : HasCleanDisk (state g end) → HasCleanDisk (state g last) = λ clean. omega (arith, survives.clean) in
       let Fails = FailsToCommit (state g last) (state g end) in record {
         all = λ clean. on_ok result (λ it. commits_all g sql row_of items rest old last end u none _ survives clean it.1) (ok clean);
@@ -163,5 +165,6 @@ module _ {S X : Type 0} (g : Ghosts S) (sql : List ℕ) (row_of : X → Row) (it
             on_err result Fails (λ e failed. fails_to_commit (state g old) (state g last) (state g end) e settled (u.kept before) (u.inside before) failed is_open) (err clean);
         cause = λ clean.
             if_err result Fails _ (λ e failed. inr (inr (record { last = last; ran = finished g sql row_of items rest (in_transaction old) last u none (last_clean clean); fails = failed }))) (err clean);
+        mode = over ∙ sym autocommit;
         crash = crash_all g sql row_of items rest old last end u none survives;
       }

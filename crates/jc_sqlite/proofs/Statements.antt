@@ -1,5 +1,6 @@
 -- What the parameters of a statement are, and what columns and rows are read as.
-use Rattle.std.proofs.Common.{◌≡◌, ℕ, suc, ◌+◌, add-one, pos, List, [], ◌∷◌, length, drop, drop-cons, get_or, ◌<◌, Result, Ok, Err, IfOk, IfErr, IsErrAnd, inl, inr, refl, ap, sym, subst, ◌∙◌, arith}
+use Rattle.std.proofs.Common.{◌≡◌, ℕ, suc, ◌+◌, add-one, pos, List, [], ◌∷◌, length, Contains, drop, drop-cons, get_or, ◌<◌, Result, Ok, Err, IfOk, IfErr, IsErrAnd, inl, inr, refl, ap, sym, subst, ◌∙◌, arith}
+use Rattle.std.proofs.lemmas.List.Elements.{Contains-get_or}
 use Rattle.jc_outside.specs.Answers.{AnswersByKey}
 use Rattle.sqlite.specs.declared.types.Value.TheVariants.{Int, Blob}
 use Rattle.sqlite.specs.declared.types.ValueRef.{ValueRef}
@@ -8,12 +9,13 @@ use Rattle.sqlite.specs.Order.{Row, column}
 use Rattle.sqlite.specs.Reading.{IsReadError}
 use Rattle.sqlite.specs.Tree.{Trees}
 use Rattle.sqlite.specs.Store.{Ghosts}
-use Rattle.sqlite.specs.State.{HasCleanDisk, Survives}
+use Rattle.sqlite.specs.State.{HasCleanDisk, Survives, CommitsShowing}
 use Rattle.sqlite.specs.Held.{Held, state}
 use Rattle.sqlite.specs.Value.{owned}
 use Rattle.sqlite.specs.Values.{bound, bound_value}
+use Rattle.sqlite.proofs.StateLemmas.{survives_then}
 use Rattle.jc_sqlite.specs.declared.failure.Failure.{Failure}
-use Rattle.jc_sqlite.specs.Statements.{IsCount, entry_row, key_row, LoadsInto, LoadsAll}
+use Rattle.jc_sqlite.specs.Statements.{IsCount, load_sql, entry_row, key_row, LoadsInto, LoadsAll, CommitsLoading}
 
 pub bound_key : (given : ValueRef) (bytes key : List ℕ) → owned given ≡ Blob bytes → bytes ≡ key → bound (given ∷ []) ≡ key_row key
 bound_key given bytes key is same = ap (λ it. bound_value it ∷ []) is ∙ ap key_row same
@@ -51,3 +53,10 @@ pub loads_none : {S : Type 0} (g : Ghosts S) (keys : List (List ℕ)) (i : ℕ) 
     → (HasCleanDisk (state g next) → LoadsInto key (state g now) (state g next) between after (Err failure)) → HasCleanDisk (state g next) → LoadsAll g keys old next before after (Err failure)
 loads_none g keys i key old now next before between after P failure within is so_far survives failed clean =
     so_far (omega (arith, survives.clean)) next after (Err failure) (subst (λ it. LoadsAll g it now next between after (Err failure)) (sym (next_key keys i key within is)) (inl (failure, refl, failed clean)))
+
+pub survives_load : {S : Type 0} (g : Ghosts S) (keys : List (List ℕ)) (i : ℕ) (key : List ℕ) (old now next : Held S) → i < length keys → key ≡ get_or keys i key
+    → Survives (state g old) (state g now) (CommitsLoading g keys) → Survives (state g now) (state g next) (CommitsShowing load_sql (key_row key) (state g now))
+    → Survives (state g old) (state g next) (CommitsLoading g keys)
+survives_load g keys i key old now next within is so_far one =
+    let among : Contains keys key = subst (Contains keys) (sym is) (Contains-get_or keys i key within) in
+    survives_then (state g old) (state g now) (state g next) _ _ _ (λ _ db may. may) (λ _ db may. (key, now, among, may)) so_far one

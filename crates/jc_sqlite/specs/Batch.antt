@@ -5,8 +5,9 @@
 --     FailsAtRow        the statement failed at one of the rows, after it had run for those before it
 --     FailsAtEnd        the statement ran for all rows, and the commit failed
 --     FailsInBatch      the cause of a failed batch: one of these two, or a transaction was open before it
---     RunsAsOne         a batch ran in one transaction: all of it or none. If a failure of the disk shut the connection, or if
---                       the machine stopped at any moment, all or none of it is found when the file is opened again
+--     RunsAsOne         a batch ran in one transaction: all of it or none, and no transaction is left open by it. If a failure of
+--                       the disk shut the connection, or if the machine stopped at any moment, all or none of it is found when the
+--                       file is opened again
 use Rattle.std.specs.Prelude.{◌≡◌, ◌⊎◌, ℕ, true, List, [], ◌∷◌, ◌++◌, Result, Ok, Err, IsTrue, OnOk, OnErr, IfErr}
 use Rattle.sqlite.specs.declared.error.Error.{Error}
 use Rattle.sqlite.specs.declared.error.Error.TheVariants.{SqliteFailure}
@@ -54,4 +55,6 @@ pub record RunsAsOne {S : Type 0} (g : Ghosts S) (sql : List ℕ) (rows : List R
   -- after a failure, if the connection is still open, neither the table nor its last commit has changed
   pub none : HasCleanDisk (state g new) → IsTrue (state g new).is_open → OnErr result (((state g new).now ≡ (state g old).now) × ((state g new).committed ≡ (state g old).committed))
   pub cause : HasCleanDisk (state g new) → IfErr result (FailsInBatch g sql rows old new)
+  -- the batch's own transaction has ended, and one that was open before still is
+  pub mode : new.in_transaction ≡ old.in_transaction
   pub crash : Survives (state g old) (state g new) (λ trees. (db : Database) × RanAll g sql rows old db × (trees ≡ db.trees))

@@ -21,7 +21,8 @@
 --                           key
 --     LoadsAll              each key was loaded in this way, in their order; an error is that of the first load that failed,
 --                           after which nothing was loaded
-use Rattle.std.specs.Prelude.{◌≡◌, ◌≤◌, ◌⊎◌, ℕ, pos, Bool, false, IsTrue, List, [], ◌∷◌, length, Result, Ok, Err, Option, None, Some, codes}
+--     CommitsLoading        what the load of one of these keys commits
+use Rattle.std.specs.Prelude.{◌≡◌, ◌≤◌, ◌⊎◌, ℕ, pos, Bool, false, IsTrue, List, [], ◌∷◌, length, Contains, Result, Ok, Err, Option, None, Some, codes}
 use Rattle.jc_outside.specs.Answers.{AnswersByKey, answers_with_found}
 use Rattle.jc_types.specs.declared.limits.TheConstants.{VALUE_MAX}
 use Rattle.sqlite.specs.declared.types.Value.{Value}
@@ -31,8 +32,9 @@ use Rattle.sqlite.specs.declared.error.Error.TheVariants.{SqliteFailure, Invalid
 use Rattle.sqlite.specs.declared.error.ErrorCode.TheVariants.{TooBig}
 use Rattle.sqlite.specs.Order.{Row, column}
 use Rattle.sqlite.specs.Reading.{IsReadError}
-use Rattle.sqlite.specs.State.{State, Executes, FailsToQuery, QueriesRow, Shown}
+use Rattle.sqlite.specs.State.{State, Executes, FailsToQuery, QueriesRow, Shown, CommitsShowing}
 use Rattle.sqlite.specs.Store.{Ghosts}
+use Rattle.sqlite.specs.Tree.{Trees}
 use Rattle.sqlite.specs.Held.{Held, state}
 use Rattle.sqlite.specs.Values.{type_of}
 use Rattle.jc_sqlite.specs.declared.failure.Failure.{Failure}
@@ -117,3 +119,6 @@ LoadsAll {S = S} g [] old new before after result = (result ≡ Ok tt) × (new �
 LoadsAll {S = S} g (key ∷ keys) old new before after result =
     ((failure : Failure) × (result ≡ Err failure) × LoadsInto key (state g old) (state g new) before after (Err failure))
     ⊎ ((mid : Held S) × (between : AnswersByKey) × LoadsInto key (state g old) (state g mid) before between (Ok tt) × LoadsAll g keys mid new between after result)
+
+abbrev pub CommitsLoading : {S : Type 0} → Ghosts S → List (List ℕ) → Trees → Type 0
+CommitsLoading {S = S} g keys db = (key : List ℕ) × (before : Held S) × Contains keys key × CommitsShowing load_sql (key_row key) (state g before) db

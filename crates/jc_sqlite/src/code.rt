@@ -36,7 +36,8 @@ pub const CONSTRAINT: u32 = 19;
 /// A column has another type (`SQLITE_MISMATCH`).
 pub const MISMATCH: u32 = 20;
 
-/// An earlier failure of the disk closed the database (`SQLITE_MISUSE`).
+/// The file isn't open (`SQLITE_MISUSE`): an earlier failure of the disk closed the database, or the last
+/// [`reopen`](crate::Database::reopen) failed, for example because another program has the file open.
 pub const CLOSED: u32 = 21;
 
 /// The file is no database, or one that this library can't read (`SQLITE_NOTADB`).

@@ -1,4 +1,5 @@
 //! The database, which all its loaders and writers share.
+ghost use Rattle.std.specs.Prelude.{◌<◌, IfErr};
 ghost use Rattle.jc_sqlite.specs.Opening.{HasOwnTable};
 
 use crate::failure::{Failure, OpenCause, OpenError};
@@ -92,8 +93,10 @@ impl Database {
         }
     }
 
-    /// The number of entries in the table. It waits for the lock. An `Err` has the failure's code.
-    pub fn entry_count(&self, rt: &impl Wait) -> Result<u64, u32> {
+    /// The number of entries in the table. It waits for the lock. An `Err` has the failure's code, which isn't 0.
+    pub fn entry_count(&self, rt: &impl Wait) -> Result<u64, u32>
+        ensures { IfErr result (λ code. 0 < code) }
+    {
         self.shared.lock(rt).entry_count()
     }
 

@@ -18,7 +18,7 @@ pub struct DatabaseLoader<R: Wait + Drop> {
 }
 
 impl<R: Wait + Drop> DatabaseLoader<R> {
-    /// A loader of this database. An `Err` says that an allocation failed.
+    /// A loader of this database. It takes no memory: an `Err` says that there are too many handles.
     pub fn new(rt: R, database: &Database) -> Result<Self, AllocError> {
         Ok(DatabaseLoader {
             rt,

@@ -8,17 +8,18 @@
 //!
 //! The contracts name each statement and its parameters, and state its effect in the words of `sqlite`. Those about the table's
 //! content hold under `HasCleanDisk`: as long as the disk has returned what was written to it. An `Err` is SQLite's error, which
-//! [`code_of`](crate::code::code_of) maps to the code that a loader or a writer returns.
+//! [`code_of`](crate::code::code_of) maps to the code that a loader or a writer returns. Whatever the outcome, the connection's
+//! limit on steps is as it was.
 ghost use Rattle.std.specs.Prelude.{◌≡◌, ◌≢◌, ℕ, false, IsTrue, List, [], map, IsSome, IfOk, IfErr, OnOk, OnErr};
 ghost use Rattle.sqlite.specs.declared.types.Value.TheVariants.{Blob};
 ghost use Rattle.sqlite.specs.Order.{column};
 ghost use Rattle.sqlite.specs.Values.{bound};
-ghost use Rattle.sqlite.specs.State.{HasCleanDisk, Survives, CommitsShowing, FailsToQuery, Shown};
+ghost use Rattle.sqlite.specs.State.{HasCleanDisk, Survives, CommitsBy, CommitsShowing, FailsToQuery, Shown};
 ghost use Rattle.sqlite.specs.Batch.{ExecutesAll};
 ghost use Rattle.sqlite.specs.Held.{state};
 ghost use Rattle.jc_sqlite.specs.Batch.{RunsAsOne};
-ghost use Rattle.jc_sqlite.specs.Statements.{create_sql, load_sql, write_sql, delete_sql, entry_row, key_row};
-ghost use Rattle.jc_sqlite.specs.Statements.{TellsOwn, IsOwn, IsOwnText, ExecutesOnce, Counts, IsCount, row_error, ReadsValue, IsInFirst, Loads, LoadsInto, LoadsAll};
+ghost use Rattle.jc_sqlite.specs.Statements.{create_sql, schema_sql, count_sql, load_sql, write_sql, delete_sql, entry_row, key_row};
+ghost use Rattle.jc_sqlite.specs.Statements.{TellsOwn, IsOwn, IsOwnText, ExecutesOnce, Counts, IsCount, row_error, ReadsValue, IsInFirst, Loads, LoadsInto, LoadsAll, CommitsLoading};
 
 use crate::batch;
 use crate::failure::Failure;
@@ -54,7 +55,10 @@ const NO_VALUE: Error = Error::SqliteFailure(ErrorCode::TooBig);
 /// A table named `entry` that is there already stays as it is, whatever its columns: [`is_own`] tells whether it is this one. An
 /// `Err` is that of the statement, for example that the file can't be written.
 pub fn create<S: Alter>(conn: &mut Connection<S>) -> Result<(), Error>
-    ensures { HasCleanDisk (state S.Store conn.new) → ExecutesAll S.Store create_sql conn.old conn.new result }
+    ensures runs { HasCleanDisk (state S.Store conn.new) → ExecutesAll S.Store create_sql conn.old conn.new result }
+    ensures clean { HasCleanDisk (state S.Store conn.new) → HasCleanDisk (state S.Store conn.old) }
+    ensures limit { conn.new.step_limit ≡ conn.old.step_limit }
+    ensures shield { (state S.Store conn.old).IsShielded → (state S.Store conn.new).IsShielded }
 {
     conn.execute_batch(CREATE)
 }
@@ -64,7 +68,10 @@ pub fn create<S: Alter>(conn: &mut Connection<S>) -> Result<(), Error>
 ///
 /// The table stays as it is. An `Err` is that of the query.
 pub fn is_own<S: Alter>(conn: &mut Connection<S>) -> Result<bool, Error>
-    ensures { HasCleanDisk (state S.Store conn.new) → TellsOwn (state S.Store conn.old) (state S.Store conn.new) result }
+    ensures own { HasCleanDisk (state S.Store conn.new)
+        → TellsOwn (state S.Store conn.old) (state S.Store conn.new) result }
+    ensures survives { Survives (state S.Store conn.old) (state S.Store conn.new)
+        (CommitsShowing schema_sql [] (state S.Store conn.old)) }
 {
     match conn.query_all(SCHEMA, &[]) {
         Ok(rows) => Ok(is_own_row(rows.as_slice())),
@@ -105,7 +112,10 @@ fn is_text(text: &[u8], wanted: &str) -> bool
 ///
 /// The table stays as it is. An `Err` is that of the query, or says that its row has no number.
 pub fn entry_count<S: Alter>(conn: &mut Connection<S>) -> Result<u64, Error>
-    ensures { HasCleanDisk (state S.Store conn.new) → Counts (state S.Store conn.old) (state S.Store conn.new) result }
+    ensures counts { HasCleanDisk (state S.Store conn.new)
+        → Counts (state S.Store conn.old) (state S.Store conn.new) result }
+    ensures survives { Survives (state S.Store conn.old) (state S.Store conn.new)
+        (CommitsShowing count_sql [] (state S.Store conn.old)) }
 {
     count_in(&conn.query_row(COUNT, &[])?)
 }
@@ -165,6 +175,8 @@ pub fn load_all<S: Alter>(
         → LoadsAll S.Store keys.now conn.old conn.new answers.old.by_key answers.new.by_key result }
     ensures room { answers.new.room ≡ answers.old.room }
     ensures named { IfErr result (λ failure. IsSome failure.key) }
+    ensures survives { Survives (state S.Store conn.old) (state S.Store conn.new)
+        (CommitsLoading S.Store keys.now) }
 {
     for key in keys {
         load_into(conn, key, answers)?;
@@ -221,20 +233,24 @@ fn bytes_in(row: &Row) -> Result<&[u8], Error>
 
 /// Writes an entry by one statement: it inserts the entry, or replaces its value.
 ///
-/// After an `Err` the table is as it was, or the transaction that was open is rolled back.
+/// After an `Err`, if the connection is still open, the table is as it was, or the transaction that was open is rolled back.
 pub fn write<S: Alter>(conn: &mut Connection<S>, key: &Key, value: &Value) -> Result<(), Error>
-    ensures { HasCleanDisk (state S.Store conn.new)
+    ensures runs { HasCleanDisk (state S.Store conn.new)
         → ExecutesOnce write_sql (entry_row (key.now, value.now)) (state S.Store conn.old) (state S.Store conn.new) result }
+    ensures survives { Survives (state S.Store conn.old) (state S.Store conn.new)
+        (CommitsBy write_sql (entry_row (key.now, value.now)) (state S.Store conn.old)) }
 {
     run_once(conn, WRITE, params![key.bytes(), value.bytes()])
 }
 
 /// Deletes the entry of a key by one statement, if there is one.
 ///
-/// After an `Err` the table is as it was, or the transaction that was open is rolled back.
+/// After an `Err`, if the connection is still open, the table is as it was, or the transaction that was open is rolled back.
 pub fn delete<S: Alter>(conn: &mut Connection<S>, key: &Key) -> Result<(), Error>
-    ensures { HasCleanDisk (state S.Store conn.new)
+    ensures runs { HasCleanDisk (state S.Store conn.new)
         → ExecutesOnce delete_sql (key_row key.now) (state S.Store conn.old) (state S.Store conn.new) result }
+    ensures survives { Survives (state S.Store conn.old) (state S.Store conn.new)
+        (CommitsBy delete_sql (key_row key.now) (state S.Store conn.old)) }
 {
     run_once(conn, DELETE, params![key.bytes()])
 }
@@ -245,8 +261,10 @@ fn run_once<S: Alter>(
     sql: &str,
     given: &[ValueRef<'_>],
 ) -> Result<(), Error>
-    ensures { HasCleanDisk (state S.Store conn.new)
+    ensures runs { HasCleanDisk (state S.Store conn.new)
         → ExecutesOnce sql.now (bound given.now) (state S.Store conn.old) (state S.Store conn.new) result }
+    ensures survives { Survives (state S.Store conn.old) (state S.Store conn.new)
+        (CommitsBy sql.now (bound given.now) (state S.Store conn.old)) }
 {
     conn.execute(sql, given)?;
     Ok(())
@@ -259,7 +277,8 @@ fn run_once<S: Alter>(
 /// shut the connection, or the machine stops at any moment, the file has the whole batch or nothing of it when it is opened
 /// again.
 ///
-/// An `Err` is that of a statement or of the commit, or `TransactionState` if a transaction was open before.
+/// An `Err` is that of a statement or of the commit, or `TransactionState` if a transaction was open before. Whatever the outcome,
+/// a transaction is open afterwards only if one was open before.
 pub fn write_all<S: Alter>(
     conn: &mut Connection<S>,
     entries: &mut IndexMap<Key, Value>,

@@ -24,7 +24,7 @@ pub struct DatabaseWriter<R: Wait + Drop> {
 }
 
 impl<R: Wait + Drop> DatabaseWriter<R> {
-    /// A writer of this database. An `Err` says that an allocation failed.
+    /// A writer of this database. It takes no memory: an `Err` says that there are too many handles.
     pub fn new(rt: R, database: &Database) -> Result<Self, AllocError> {
         Ok(DatabaseWriter {
             rt,

@@ -1,4 +1,4 @@
-use Rattle.std.proofs.Common.{rules, ◌≡◌, map, IsTrue, refl, sym, subst, subst₂, ◌∙◌}
+use Rattle.std.proofs.Common.{rules, ◌≡◌, false, map, IsTrue, refl, sym, subst, subst₂, ◌∙◌}
 use Rattle.sqlite.specs.Held.{state}
 use Rattle.jc_sqlite.specs.Batch.{in_transaction, RunsAsOne}
 use Rattle.jc_sqlite.specs.Statements.{key_row}
@@ -27,17 +27,19 @@ returns-in_err-execute_key g c =
     let old = c.args.conn.now in
     let end = c.drop-transaction.new.self.0 in
     let same : end ≡ c.conn-1.given.0 = search rules in
+    let autocommit : old.in_transaction ≡ false = search rules in
     let settled : IsTrue (state g.S.Store old).is_open → (state g.S.Store old).now ≡ (state g.S.Store old).committed = c.is_autocommit.ensures.settled (search rules) in
     subst₂ (λ h r. RunsAsOne g.S.Store c.args.sql.now (map key_row c.args.keys.now.keys) old h r) same (sym (same_error c.from_residual.result c.in_err-execute_key.field-0.0 c.from_residual.ensures.1))
-    (stopped g.S.Store c.args.sql.now key_row c.args.keys.now.keys old settled _ _ c.in-Some.key.now c.loop-key.transaction.conn.now c.execute_key.new.transaction.conn.now end _ c.loop-key.invariant.0 c.in-Some.ensures.steps
-    c.in_err-execute_key.ensures.runs c.execute_key.ensures.survives c.drop-transaction.ensures.undone c.drop-transaction.ensures.survives)
+    (stopped g.S.Store c.args.sql.now key_row c.args.keys.now.keys old autocommit settled _ _ c.in-Some.key.now c.loop-key.transaction.conn.now c.execute_key.new.transaction.conn.now end _ c.loop-key.invariant.0 c.in-Some.ensures.steps
+    c.in_err-execute_key.ensures.runs c.execute_key.ensures.survives c.drop-transaction.ensures.ended c.drop-transaction.ensures.undone c.drop-transaction.ensures.survives)
 
 pub returns : goal.returns
 returns g c =
     let old = c.args.conn.now in
     let end = c.commit.new.self.0 in
     let same : end ≡ c.conn-2-1.given.0 = search rules in
+    let autocommit : old.in_transaction ≡ false = search rules in
     let settled : IsTrue (state g.S.Store old).is_open → (state g.S.Store old).now ≡ (state g.S.Store old).committed = c.is_autocommit.ensures.settled (search rules) in
     subst (λ h. RunsAsOne g.S.Store c.args.sql.now (map key_row c.args.keys.now.keys) old h c.commit.result) same
-    (ended g.S.Store c.args.sql.now key_row c.args.keys.now.keys old settled _ c.loop-key.transaction.conn.now end c.commit.result c.loop-key.invariant.0 c.in-None.ensures.steps.0 (λ clean. c.commit.ensures.ok clean)
+    (ended g.S.Store c.args.sql.now key_row c.args.keys.now.keys old autocommit settled _ c.loop-key.transaction.conn.now end c.commit.result c.loop-key.invariant.0 c.in-None.ensures.steps.0 c.commit.ensures.ended (λ clean. c.commit.ensures.ok clean)
     (λ clean. c.commit.ensures.err clean) c.commit.ensures.survives)
