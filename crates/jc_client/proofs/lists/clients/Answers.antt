@@ -1,6 +1,7 @@
-use Rattle.std.proofs.Common.{◌≡◌, ◌∙◌, ◌∷◌, ◌++◌, [], ap, length, map, append_assoc, arith}
+use Rattle.std.proofs.Common.{◌≡◌, ◌∙◌, ◌∷◌, ◌++◌, [], sym, ap, subst, length, map, append_assoc, arith}
 use Rattle.std.proofs.lemmas.List.{map-append}
-use Rattle.std.proofs.lemmas.List.Elements.{All-push, All-rest, All-same}
+use Rattle.std.specs.List.{All}
+use Rattle.std.proofs.lemmas.List.Elements.{All-head, All-push, All-rest, All-same}
 use Rattle.std.specs.Vec.Iter.{into_iter_items}
 use Rattle.jc_cache.specs.Sessions.{MayCall}
 use Rattle.jc_client.proofs.lists.clients.Goals as goal
@@ -20,3 +21,10 @@ loop-session-preserved g c =
       cache = All-same (λ z. z.cache.now ≡ c.args.owner.now.cache) _ _ pushed.items (All-push (λ z. z.cache.now ≡ c.args.owner.now.cache) at.clients.items c.new.result at.invariant.cache (made.cache ∙ c.cache-cache.ensures));
       room = let short = ap length steps in let was = at.invariant.room in let long = pushed.len in let room = pushed.capacity in omega arith;
     }
+
+pub new-requires : goal.new-requires
+new-requires g c = record {
+  may =
+      subst (λ cache. MayCall cache c.in-Some.session) (sym c.cache-cache.ensures)
+      (All-head (λ s. MayCall c.args.owner.now.cache s) c.in-Some.session _ (subst (All (λ s. MayCall c.args.owner.now.cache s)) c.in-Some.ensures.steps.0 c.loop-session.invariant.may));
+}
