@@ -32,8 +32,8 @@
 --     there_behind                        what is in a list is in a longer one, behind what comes before it
 --     adds_whole, gains_whole             a step that is added or gained is in the whole history, and one own step more
 --     ask_found                           a reservation that is found asks what it asked
---     by_use-append, past-snoc            the order of use after two lists of events, one after the other; the events of generations with
---                                         one more
+--     by_use-append                       the order of use after two lists of events, one after the other
+--     past-snoc                           the events of generations with one more
 --     stands_at                           the place of an event is the number of those before it
 --     may_in_all                          a step that may come after its session's own steps of all generations may come after the whole
 --                                         history

@@ -42,7 +42,7 @@
 --     looked_in         the stripes at which a call with this sweep has looked: none, if it is to look at no more
 --     has_looked_at_each
 --                       so is each, in a cache of this number of stripes
---     next_sweep        a sweep behind a look at one more stripe, in a cache of this number of stripes: none once it has looked at each
+--     next_sweep        a sweep, in a cache of this number of stripes, behind a look at one more: none once it has looked at each
 --     with_swept_keys   a call that has looked at a stripe and taken its keys, in a cache of this number of stripes
 --     look              the calls under way once a call has looked at a stripe and taken these keys: it is over if it has looked at
 --                       each stripe, and no key of it is open
