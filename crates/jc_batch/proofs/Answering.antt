@@ -1,10 +1,14 @@
--- Answers of which none was given yet.
-use Rattle.std.proofs.Common.{◌≡◌, List, [], ◌∷◌, ◌++◌, None, Option, Bool, true, false, cond, Some, is_some, refl, sym, ap, ◌∙◌}
+-- Answers of which none was given yet, and the number of keys of entries that have each once.
+use Rattle.std.proofs.Common.{◌≡◌, ◌==◌, ◌+◌, List, [], ◌∷◌, ◌++◌, length, None, Option, Bool, true, false, cond, Some, is_some, refl, sym, ap, ◌∙◌, arith}
+use Rattle.std.specs.Map.{keys_of}
+use Rattle.std.specs.List.{IsDistinct, AllByRecursion}
+use Rattle.std.specs.Cmp.Lexicographic.{pointwise, texts_ties}
+use Rattle.std.proofs.lemmas.Map.Keys.{IsDistinct-head, IsDistinct-tail}
 use Rattle.std.specs.Ordering.{eq_by_cmp}
 use Rattle.std.proofs.lemmas.Cmp.{nat_list_cmp_total}
 use Rattle.std.proofs.lemmas.Map.Lookups.{exact_bytes}
 use Rattle.std.specs.FinMap as finite
-use Rattle.std.specs.FinMap.{same_map, get-from_entries, get-insert}
+use Rattle.std.specs.FinMap.{same_map, from_entries, get-from_entries, get-insert, len, len-empty, len-insert}
 use Rattle.jc_model.specs.Cache.{Bytes, key_cmp}
 use Rattle.jc_batch.specs.Answers.{AnswersByKey, no_answers}
 use Rattle.jc_batch.proofs.CallerLemmas.{each_put, insert-there, keys_ordered}
@@ -38,3 +42,17 @@ of-option keys k None is there = cc
 
 pub answers-again : (keys : List Bytes) (k : Bytes) → is_some (finite.get (no_answers keys) k) ≡ true → no_answers (keys ++ k ∷ []) ≡ no_answers keys
 answers-again keys k there = answers-push keys k ∙ insert-there keys_ordered (no_answers keys) k None (of-option keys k (finite.get (no_answers keys) k) refl there)
+
+-- a key that differs from those of all entries is found by no look-up
+none_found : {X : Type 0} (q : Bytes) (es : List (Bytes × X)) → AllByRecursion (λ k. pointwise ◌==◌ q k ≡ false) (keys_of es) → finite.find key_cmp q es ≡ None
+none_found q [] apart = refl
+none_found q (e ∷ es) apart = ap (λ b. cond b (Some e.1) (finite.find key_cmp q es)) (sym (texts_ties q e.0) ∙ apart.0) ∙ none_found q es apart.1
+
+-- with each key once there are as many keys as entries
+pub len_once : {X : Type 0} (es : List (Bytes × X)) → IsDistinct (pointwise ◌==◌) (keys_of es) → len (from_entries {R = key_cmp} es) ≡ length es
+len_once {X} [] d = len-empty key_cmp X
+len_once {X} (e ∷ es) d =
+    let missing : finite.get (from_entries {R = key_cmp} es) e.0 ≡ None = get-from_entries nat_list_cmp_total es e.0 ∙ none_found e.0 es (IsDistinct-head (pointwise ◌==◌) e.0 (keys_of es) d) in
+    len-insert nat_list_cmp_total (from_entries es) e.0 e.1
+    ∙ ap (λ (o : Option X). cond (is_some o) (len (from_entries {R = key_cmp} es)) (len (from_entries {R = key_cmp} es) + 1)) missing
+    ∙ (let more = len_once es (IsDistinct-tail (pointwise ◌==◌) e.0 (keys_of es) d) in omega (arith, more))

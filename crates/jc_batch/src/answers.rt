@@ -1,6 +1,6 @@
 //! The answers of a `loadAll`.
 ghost use Rattle.std.specs.Prelude.{◌≡◌, ◌≤◌, ◌+◌, [], IfOk, OnOk};
-ghost use Rattle.std.specs.FinMap.{from_entries};
+ghost use Rattle.std.specs.FinMap.{from_entries, len};
 ghost use Rattle.jc_model.specs.Cache.{key_cmp};
 ghost use Rattle.jc_batch.specs.Answers.{no_answers, is_asked, answers_with, answers_with_found, answer_of};
 ghost use Rattle.indexmap.specs.IndexMap.{index_map_len, spare};
@@ -38,9 +38,12 @@ impl Model for Answers {
 }
 
 impl Answers {
-    /// No answers yet, of these keys. It allocates all memory that the answers take. An `Err` says that an allocation failed.
+    /// No answers yet, of these keys. It allocates all memory that the answers take: the room is the number of keys, each counted
+    /// once. An `Err` says that an allocation failed.
+    #[tactic(auto, using(crate::proofs::Answering::len_once))]
     pub fn new(alloc: Global, keys: &[Key]) -> Result<Self, AllocError>
-        ensures { IfOk result (λ a. a.by_key ≡ no_answers keys.now) }
+        ensures answers { IfOk result (λ a. a.by_key ≡ no_answers keys.now) }
+        ensures room { IfOk result (λ a. a.room ≡ len a.by_key) }
     {
         let mut answers = IndexMap::with_capacity(alloc, keys.len())?;
         ask_all(&mut answers, keys)?;

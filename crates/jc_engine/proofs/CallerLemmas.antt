@@ -6,14 +6,15 @@
 --     row_append .. picks_phase
 --                    rows of lendings (`Rows`)
 --     steps_in, counted_longer
---                    how many own steps of its session what was counted stands for, and that so many more are there after it
+--                    how many own steps of its session what was counted stands for, and that this number more are there after it
+--     one_longer     with one own step more the list is one longer
 --     reached_cache  what is cached is what the whole history leaves of the first opening
 use Rattle.jc_engine.proofs.Common.{◌≡◌, ◌==◌, ◌&&◌, ◌+◌, ◌++◌, ◌∷◌, map, inl, inr, ℕ, Bool, true, false, if◌then◌else◌, Option, None, Some, is_some, is_none, List, length, slice_get, append_assoc, refl, sym, ap, subst, ◌∙◌, arith, length-append, Caller, Bytes, entry_at, Group, victim_events, evicted_events, step_event, shared_event, step_place, entry_after, Event, Evict, Op, Invoke, Out, State, is_key, past_events, whole_history, whole_place, IsReached, TicketClaim, entry_seen, first_asked, Commits, Steps, new_group, StepDone, Reservation, ask_found, stands_at}
 use Rattle.std.specs.FinMap.{len}
 use Rattle.jc_model.specs.declared.event.Cause.TheVariants.{Full}
 use Rattle.jc_stripe.specs.OrderOfUse.{least_used}
 use Rattle.jc_engine.specs.MadeIn.{IsNext}
-pub use Rattle.jc_engine.proofs.Counted.{steps_in, counted_longer}
+pub use Rattle.jc_engine.proofs.Counted.{steps_in, counted_longer, one_longer}
 pub use Rattle.jc_engine.proofs.Increments.{reached_cache}
 pub use Rattle.jc_engine.proofs.Rows.{Keeps, all_append, all_map, all_split, begun_row, call_in, commits_phase, lent_grows, once, picks_phase, row_split, start_keeps, starts_phase, turn_map, waited_keeps}
 pub use Rattle.jc_engine.proofs.Unasked.{no_done, no_join}

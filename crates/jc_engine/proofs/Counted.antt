@@ -1,5 +1,6 @@
 -- What a phase counts says how many own steps it adds.
---     counted_longer    at most one phase of a session, which changes this of its counts, leaves so many own steps more
+--     one_longer        with one own step more the list is one longer
+--     counted_longer    at most one phase of a session, which changes this of its counts, adds this number of own steps
 use Rattle.jc_engine.proofs.Common.{◌≡◌, ◌+◌, ◌∙◌, inl, inr, ℕ, List, ◌∷◌, None, length, ap, sym, subst, arith, length-append, Caller, Bytes, nothing_said, Event, Step, Op, State, IsReached, own_steps, OwnSteps, HasOneMore, MayBegin, Begins, PicksUp, JoinClaim, Begun, adds_one, gains_one, IsCounted, counted_begun, counted_polled, Nothing, Reserved, Committed, Joined, Answered, Retried, Withdrawn}
 use Rattle.jc_stripe.specs.Polled.{Polled}
 use Rattle.jc_stripe.specs.Outcomes as begun
@@ -23,7 +24,7 @@ HasLonger session counted old new = length (own_steps session new) ≡ length (o
 as_long : (session : ℕ) (old new : State) → own_steps session new ≡ own_steps session old → length (own_steps session new) ≡ length (own_steps session old) + 0
 as_long session old new same = let long = ap length same in omega arith
 
-one_longer : (event : Event) (old new : List Event) → HasOneMore event old new → length new ≡ length old + 1
+pub one_longer : (event : Event) (old new : List Event) → HasOneMore event old new → length new ≡ length old + 1
 one_longer event old new more =
     let was = ap length more.was ∙ length-append more.before more.after in
     let is = ap length more.is ∙ length-append more.before (event ∷ more.after) in

@@ -19,13 +19,10 @@ use Rattle.jc_model.specs.declared.event.Cause.TheVariants.{Full}
 use Rattle.jc_model.specs.declared.event.Effect.TheVariants.{Set}
 use Rattle.jc_model.proofs.CallerLemmas.{find-others}
 use Rattle.jc_stripe.specs.OrderOfUse.{by_use, is_use, order_after_event}
+use Rattle.jc_stripe.proofs.CallerLemmas.{by_use-append}
 use Rattle.jc_engine.specs.Increments.{AllSetNext, EventsByTable, IsByTable, LeavesNext, LeavesSum, SetsNext, count_at, next_times, opening_entry}
 
 -- 1. What a whole history leaves.
-
-by_use-append : (entries : List (Bytes × Bytes)) (xs ys : List Event) → by_use entries (xs ++ ys) ≡ by_use (by_use entries xs) ys
-by_use-append entries [] ys = refl
-by_use-append entries (x ∷ xs) ys = by_use-append (order_after_event entries x) xs ys
 
 -- the generations that have ended leave what the next one opens with
 past_left : (config : Config) (gs : List Generation) (entries : List (Bytes × Bytes)) → IsChain config gs entries → by_use (opening_after gs entries) (past_events gs) ≡ entries

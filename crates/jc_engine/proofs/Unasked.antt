@@ -7,10 +7,7 @@
 use Rattle.jc_engine.proofs.Common.{◌≡◌, ◌∙◌, ◌&&◌, ◌||◌, if◌then◌else◌, ℕ, Bool, true, false, Option, None, Some, is_none, refl, sym, ap, Caller, Config, Change, Op, Get, Invoke, Bytes, entry_at, is_invoke, loader_ask, StepDone, First, Nobody, Loader, Writer, Processor, first_asked, first_by, may_join, reserves, TicketClaim, JoinClaim, asks_loader, asks_processor, asks_writer, State, Begins, invokes}
 use Rattle.jc_stripe.specs.Outcomes as begun
 use Rattle.jc_stripe.specs.Tests.{asks_outside}
-
-clash : (b : Bool) → b ≡ true → b ≡ false → ⊥
-clash true is other = cc
-clash false is other = cc
+use Rattle.jc_stripe.proofs.CallerLemmas.{clash}
 
 one_of : (first : First) → reserves first ≡ true → (asks_processor first ≡ true → ⊥) → (asks_loader first || asks_writer first) ≡ true
 one_of Nobody reserved other = cc

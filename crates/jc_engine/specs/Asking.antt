@@ -21,7 +21,6 @@ use Rattle.jc_model.specs.declared.event.Reply.{Reply}
 use Rattle.jc_model.specs.declared.event.Change.{Change}
 use Rattle.jc_model.specs.declared.event.LoadAnswer.{LoadAnswer}
 use Rattle.jc_model.specs.declared.event.ProcessAnswer.{ProcessAnswer}
-use Rattle.jc_model.specs.declared.event.ProcessAnswer.TheVariants.{NotAsked}
 use Rattle.jc_model.specs.declared.event.WriteAnswer.{WriteAnswer}
 use Rattle.jc_model.specs.Cache.{Bytes, entry_at}
 use Rattle.jc_types.specs.declared.config.Config.{Config}
@@ -33,11 +32,11 @@ use Rattle.jc_mutentry.specs.Done.{ProcessResult, effect_change}
 use Rattle.jc_mutentry.specs.Running.{ProcessRelation, RunsOnce}
 use Rattle.jc_stripe.specs.Effects.{HasReport, report_answer}
 use Rattle.jc_stripe.specs.State.{State}
-use Rattle.jc_stripe.specs.Tickets.{Claim, TicketClaim, asks_writer, change_asked, entry_seen, is_loadable}
+use Rattle.jc_stripe.specs.Tickets.{Claim, TicketClaim, entry_seen, is_loadable}
 use Rattle.jc_session.specs.Boxed.{boxed}
 use Rattle.jc_session.specs.Counting.{one_more}
 use Rattle.jc_session.specs.declared.agent.Agent.{Agent}
-use Rattle.jc_engine.specs.Answered.{CallAnswer, Processed, IsAnswered, out_of}
+use Rattle.jc_engine.specs.Answered.{Processed, IsAnswered}
 use Rattle.jc_engine.specs.Needs.{IsReported}
 
 abbrev pub change_wanted : State → Bytes → Op → ProcessAnswer → Option Change

@@ -5,6 +5,7 @@
 --     AllLend      the condition holds of each of these lendings
 --     Turn         the visits of a session up to one phase: a condition on each lending in which it waits, and one on the lending
 --                  in which it makes its phase
+--     turn_of      a turn with these two conditions
 --     IsTurn       these lendings are such a turn: in all but the last one the session had to wait, and in the last one it made
 --                  its phase
 --     LentPhase    a row of lendings that is such a turn; the last one made at most one phase of the session

@@ -1,4 +1,6 @@
 -- The conditions of phases still hold at the next take.
+--     begins-stays     the condition on a first phase
+--     commits-stays    the condition on a commit
 use Rattle.std.proofs.Common.{ap, sym, subst, ◌∙◌, List}
 use Rattle.jc_types.specs.declared.caller.Caller.{Caller}
 use Rattle.jc_types.specs.declared.config.Config.{Config}

@@ -115,7 +115,7 @@ impl<A: Answer> Phase for Commit<A> {
 }
 
 /// The end of a call that has reserved its key and asked nobody: its reservation is withdrawn, and the calls that have joined its
-/// load begin again. It can be made where the ticket's reservation is out.
+/// load are told to retry. It can be made where the ticket's reservation is out.
 pub struct Withdraw {
     /// The ticket of its reservation.
     pub ticket: Ticket,

@@ -1,5 +1,5 @@
 //! A whole call on a stripe that nobody else has.
-ghost use Rattle.std.specs.Prelude.{◌≡◌, true, false, Some, IsSome};
+ghost use Rattle.std.specs.Prelude.{◌≡◌, false, Some, IsSome};
 ghost use Rattle.jc_model.specs.Table.{is_invoke};
 ghost use Rattle.jc_stripe.specs.State.{State, IsIdle};
 ghost use Rattle.jc_engine.specs.Calls.{MayCallHere};

@@ -1,5 +1,4 @@
 //! A call that never waits.
-ghost use Rattle.std.specs.Prelude.{◌≡◌};
 ghost use Rattle.jc_stripe.specs.State.{State};
 ghost use Rattle.jc_engine.specs.Asking.{own_after};
 ghost use Rattle.jc_engine.specs.Needs.{BeginsIfClear};

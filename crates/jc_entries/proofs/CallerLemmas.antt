@@ -53,7 +53,7 @@ others-missing key (e ∷ es) h =
 -- 2. The victim.
 
 -- the keys are the same, whichever way they are read
-any_key : (q : Bytes → Bool) (entries : List (Bytes × Bytes)) → list_any q (keys_of (reverse entries)) ≡ list_any q (keys_of entries)
+pub any_key : (q : Bytes → Bool) (entries : List (Bytes × Bytes)) → list_any q (keys_of (reverse entries)) ≡ list_any q (keys_of entries)
 any_key q entries = sym (list_any-IsPermutation q _ _ (IsPermutation-map (λ e. e.0) entries (reverse entries) (IsPermutation-reverse entries)))
 
 passes : (b : Bool) (q : Bytes → Bool) (k key : Bytes) (o : Option Bytes) (rest : Bool) → cond b (Some k) o ≡ Some key → q key ≡ true → (o ≡ Some key → rest ≡ true) → (q k || rest) ≡ true
@@ -74,17 +74,3 @@ lru_victim-found entries pinned key h =
 -- it isn't pinned
 pub lru_victim-unpinned : (entries : List (Bytes × Bytes)) (pinned : List Bytes) (key : Bytes) → lru_victim entries pinned ≡ Some key → is_pinned pinned key ≡ false
 lru_victim-unpinned entries pinned key h = not-true _ (found_test (λ k. not (is_pinned pinned k)) (keys_of (reverse entries)) key h)
-
-fails : (b t : Bool) (k key : Bytes) (p : Bytes → Bool) (o : Option Bytes) (rest : Bool) → p k ≡ b → cond b (Some k) o ≡ None → (t ≡ true → k ≡ key) → (t || rest) ≡ true
-    → (o ≡ None → rest ≡ true → p key ≡ false) → p key ≡ false
-fails true t k key p o rest is h same any later = cc
-fails false true k key p o rest is h same any later = ap p (sym (same refl)) ∙ is
-fails false false k key p o rest is h same any later = later h any
-
-none_passes : (p q : Bytes → Bool) (key : Bytes) (keys : List Bytes) → ((k : Bytes) → q k ≡ true → k ≡ key) → find p keys ≡ None → list_any q keys ≡ true → p key ≡ false
-none_passes p q key [] same h any = cc
-none_passes p q key (k ∷ ks) same h any = fails (p k) (q k) k key p (find p ks) (list_any q ks) refl h (same k) any (none_passes p q key ks same)
-
--- 3. A touch.
-
--- 4. What an insertion answers.

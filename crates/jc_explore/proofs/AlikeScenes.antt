@@ -1,5 +1,6 @@
 -- Scenes that are alike go on alike.
 use Rattle.jc_explore.proofs.Common.{◌≡◌, List, Option, None, Some, slice_get, sym, refl, ap, ◌∙◌, subst, Event, State, WorldEvent, WorldsGoOnAlike, EssencesTell, Run, WorldState, Move, Program, ThreadReply, Position, ScenesAlike, SceneState, Moves, move_events, move_events_at, positions_at, positions_after, replies_after}
+use Rattle.jc_world.proofs.CallerLemmas.{with_past}
 use Rattle.jc_explore.proofs.Essences.{alike-essence}
 
 pub scenes-refl : (s : SceneState) → ScenesAlike s s
@@ -10,9 +11,6 @@ scenes-sym s t h = record { world = sym h.world; positions = sym h.positions; re
 
 pub scenes-trans : (s t u : SceneState) → ScenesAlike s t → ScenesAlike t u → ScenesAlike s u
 scenes-trans s t u h k = record { world = h.world ∙ k.world; positions = h.positions ∙ k.positions; replies = h.replies ∙ k.replies }
-
-abbrev with_past : WorldState → List State → List Event → WorldState
-with_past w ss o = record w { stripes = ss; order = o }
 
 events-past : (p : Program) (w : WorldState) (ss : List State) (o : List Event) (m : Move) (position : Option Position) → move_events_at p (with_past w ss o) m position ≡ move_events_at p w m position
 events-past p w ss o m None = refl

@@ -1,5 +1,5 @@
 -- The moves of a program's threads are all that it can have.
-use Rattle.jc_explore.proofs.Common.{◌≡◌, ℕ, zero, suc, ◌+◌, ◌<◌, ◌≤◌, List, [], ◌∷◌, ◌++◌, length, replicate, true, Option, None, Some, is_some, slice_get, slice_set, sym, refl, ap, ◌∙◌, arith, true≢false, nat_lt, ◌⊎◌, inl, inr, Move, Program, Position, moves_of_thread, moves_up_to, SceneState, Moves, PlaysSchedule, opening, has_session, have_sessions, positions_at, unbegun, IsAmong, and_parts, lt-ltb, stands_on}
+use Rattle.jc_explore.proofs.Common.{◌≡◌, ℕ, zero, suc, ◌+◌, ◌<◌, ◌≤◌, List, [], ◌∷◌, ◌++◌, length, replicate, true, Option, None, Some, slice_get, slice_set, sym, refl, ap, ◌∙◌, arith, nat_lt, ◌⊎◌, inl, inr, Move, Program, Position, moves_of_thread, moves_up_to, SceneState, Moves, PlaysSchedule, opening, has_session, have_sessions, positions_at, unbegun, IsAmong, and_parts, lt-ltb, stands_on}
 use Rattle.jc_types.specs.declared.limits.TheConstants.{SESSIONS_MAX}
 use Rattle.jc_explore.specs.declared.moves.Act.{Act}
 use Rattle.jc_explore.specs.declared.moves.Act.TheVariants as act

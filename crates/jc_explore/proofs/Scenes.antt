@@ -1,6 +1,5 @@
 -- A move of a schedule is one by what was played, and isn't one by what was played.
-use Rattle.jc_explore.proofs.Common.{◌≡◌, List, [], ◌∷◌, ◌++◌, Bool, true, false, Option, None, Some, slice_get, slice_set, sym, refl, ap, ◌∙◌, subst, true≢false, WorldEvent, Shown, RunsAreDetermined, have_memory, Run, RunAppending, WorldState, Move, Program, Position, SceneState, has_number_for, move_events_at, move_events, is_proper, position_after, positions_at, positions_after, replies_after, Moves, inl, inr, ◌&&◌, nat_lt, length}
-use Rattle.jc_world.specs.Fits.{fits}
+use Rattle.jc_explore.proofs.Common.{◌≡◌, List, [], ◌∷◌, ◌++◌, true, false, Option, None, Some, slice_get, slice_set, sym, refl, ap, ◌∙◌, subst, true≢false, WorldEvent, Shown, RunsAreDetermined, have_memory, Run, RunAppending, WorldState, Move, Program, Position, SceneState, has_number_for, move_events_at, move_events, is_proper, position_after, positions_at, positions_after, replies_after, Moves}
 
 -- what was shown of its events decides whether it is one
 pub stays : RunsAreDetermined → (p : Program) (old : SceneState) (m : Move) (events : List WorldEvent) (seen : List Shown) (n : WorldState)
@@ -46,10 +45,6 @@ no-number-moves p old m position at none =
 -- nor if there is no such thread
 pub nobody-moves : (p : Program) (old : SceneState) (m : Move) → slice_get old.positions m.thread ≡ None → (new : SceneState) → Moves p old m new → ⊥
 nobody-moves p old m at = nothing-moves p old m (ap (λ (o : Option Position). move_events_at p old.world m o) at)
-
-and-false : (b : Bool) → (b && false) ≡ false
-and-false true = refl
-and-false false = refl
 
 -- the events, as they were appended
 pub events-are : (p : Program) (old : SceneState) (m : Move) (position : Position) (before after : List WorldEvent) → slice_get old.positions m.thread ≡ Some position

@@ -38,7 +38,7 @@ IsSorted known = (i j : ℕ) (a b : KnownState) → i ≤ j → slice_get known 
 abbrev IsBounded : List KnownState → ℕ → Type 0
 IsBounded known place = (m k : KnownState) (i : ℕ) → slice_get known place ≡ Some m → slice_get known i ≡ Some k → len k ≤ len m + 1
 
--- a known schedule of at most so many moves leads to a like scene
+-- a known schedule of at most this number of moves leads to a like scene
 abbrev IsNear : Program → List KnownState → ℕ → SceneState → Type 0
 IsNear p known n s = Any (λ k. LeadsLike p k.schedule.items s × (len k ≤ n)) known
 
@@ -121,7 +121,7 @@ goes-now p was now found place d grown added bounded here goes closed i k h at =
 
 -- 5. What is found then has a shortest schedule.
 
--- a known state that is yet to be followed, with at most so many moves
+-- a known state that is yet to be followed, with at most this number of moves
 abbrev IsLeft : List KnownState → ℕ → ℕ → Type 0
 IsLeft known place n = (j : ℕ) × (k : KnownState) × (place ≤ j) × (slice_get known j ≡ Some k) × (len k ≤ n)
 

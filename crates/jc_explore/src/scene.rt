@@ -1,10 +1,9 @@
 //! A world with the threads of a program.
-ghost use Rattle.std.specs.Prelude.{◌≡◌, ◌<◌, [], true, false, length, replicate, IfOk, OnOk, Ok};
+ghost use Rattle.std.specs.Prelude.{◌≡◌, ◌<◌, [], true, false, replicate, IfOk, OnOk, Ok};
 ghost use Rattle.std.specs.Prelude.{slice_get};
 ghost use Rattle.jc_types.specs.Limits.{check};
-ghost use Rattle.jc_types.specs.declared.limits.TheConstants.{SESSIONS_MAX};
 ghost use Rattle.jc_world.specs.Determinism.{has_memory, have_memory};
-ghost use Rattle.jc_explore.specs.Schedule.{SceneState, Moves, are_going_on, move_events, has_session, is_going_on, is_proper};
+ghost use Rattle.jc_explore.specs.Schedule.{SceneState, Moves, are_going_on, has_session, is_going_on, is_proper};
 ghost use Rattle.jc_explore.specs.Schedule.{has_number_for, opening, position_after, scene_state, unbegun, with_all_stored};
 
 use crate::events::{has_number_for, put_events};

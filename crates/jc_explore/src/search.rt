@@ -1,13 +1,13 @@
 //! The search: each state that can be reached is followed once, by one of the schedules that lead to it, the states of short
 //! schedules first.
 ghost use Rattle.jc_explore.specs.declared.search.TheConstants.{OUTCOMES_MAX};
-ghost use Rattle.std.specs.Prelude.{◌≡◌, ◌||◌, ◌≤◌, ◌<◌, ◌++◌, ◌∷◌, [], List, Ok, length, true, false, IfOk, OnOk};
+ghost use Rattle.std.specs.Prelude.{◌≡◌, ◌||◌, ◌≤◌, ◌<◌, Ok, length, true, false, IfOk, OnOk};
 ghost use Rattle.std.specs.List.{All};
 ghost use Rattle.jc_types.specs.Limits.{check};
 ghost use Rattle.jc_explore.specs.Explored.{AreDistinct, AreShortest, AreWitnessed, HasEachOutcome, CountsScenes, IsEnd, IsFound, IsRefusedAs, IsTried, IsAccepted};
-ghost use Rattle.jc_explore.specs.Final.{FinalValue, IsFinal, final_of};
+ghost use Rattle.jc_explore.specs.Final.{final_of};
 ghost use Rattle.jc_explore.specs.Moves.{moves_up_to};
-ghost use Rattle.jc_explore.specs.Schedule.{Moves, PlaysSchedule, has_session, have_sessions, opening, scene_state};
+ghost use Rattle.jc_explore.specs.Schedule.{PlaysSchedule, has_session, have_sessions, opening, scene_state};
 ghost use Rattle.jc_explore.specs.Search.{AreKnown, EndsSearch, Expands, Follows, HasExplored, IsSearchOf, KeepsMoves, NotesEnd, Searches, Visits, kept_if};
 
 use crate::final_state::FinalState;

@@ -1,10 +1,9 @@
--- One lending of a stripe, and lendings one after another.
+-- One lending of a stripe.
 --     ComesAfter    the stripe that a take finds comes after the one that was given back: the same stripe, perhaps in a later
 --                   generation, a whole history that continues the whole history, ended generations that continue the ended ones,
 --                   and the same own steps of a session, in all generations
 --     Lends         one take that finds a state, and one give that leaves a state
---     Lent          lendings one after another: the states that were found and left
-use Rattle.std.specs.Prelude.{◌≡◌, ◌≤◌, ℕ, List, [], ◌∷◌}
+use Rattle.std.specs.Prelude.{◌≡◌, ◌≤◌, ℕ}
 use mathlib.Core.List.{IsPrefix}
 use Rattle.jc_stripe.specs.State.{State}
 use Rattle.jc_stripe.specs.Generations.{whole_history, IsOfSameStripe}
@@ -26,8 +25,3 @@ module _ {G T : Type 0} (takes gives : G → T → State → G → T → Type 0)
     pub took : takes g t found gate token
     pub reached : IsReached found
     pub gave : gives gate token left h u
-
-  abbrev pub Lent : G → T → List (State × State) → G → T → Type 0
-  Lent g t [] h u = (h ≡ g) × (u ≡ t)
-  Lent g t (lending ∷ lendings) h u =
-      (k : G) × (v : T) × Lends g t lending.0 lending.1 k v × Lent k v lendings h u

@@ -1,5 +1,5 @@
 //! Gates.
-ghost use Rattle.std.specs.Prelude.{◌≡◌, ◌⊎◌, ℕ, IfSome, IfNone};
+ghost use Rattle.std.specs.Prelude.{◌⊎◌, ℕ, IfSome, IfNone};
 ghost use Rattle.jc_gate.specs.Lending.{ComesAfter};
 ghost use Rattle.jc_stripe.specs.State.{State};
 ghost use Rattle.jc_stripe.specs.Reached.{IsReached};

@@ -25,7 +25,7 @@ use Rattle.jc_model.specs.Table.{answers_fit, reply_after, reply_by_fault, loade
 use Rattle.jc_model.proofs.CallerLemmas.{is_numbered}
 use Rattle.jc_history.specs.Values.{repeats_outside, values_in_op, values_in_load, values_in_effect, values_in_process, values_in_reply, IsStorable}
 
--- 1. At most so many values.
+-- 1. At most this number of values.
 
 pub few_in_op : (op : Op) → values_in_op op ≤ 2
 few_in_op op = (is_numbered op).few

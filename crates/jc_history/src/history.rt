@@ -3,7 +3,7 @@
 //! A promised place is room that is reserved for a later event. Before a call asks the loader or the writer, it gets the places
 //! promised that its events need. It pushes its events when it has the answer: such a push is never refused. It gives back the
 //! places that it doesn't use.
-ghost use Rattle.std.specs.Prelude.{◌≡◌, ◌+◌, ◌<◌, ◌≤◌, ◌^◌, true, ◌↔◌, [], length, vec_len, vec_capacity, ◌∷◌, ◌++◌, Some, IsTrue};
+ghost use Rattle.std.specs.Prelude.{◌≡◌, ◌+◌, ◌<◌, ◌≤◌, true, ◌↔◌, [], length, vec_len, vec_capacity, ◌∷◌, ◌++◌, Some, IsTrue};
 ghost use Rattle.std.specs.Prelude.{IfOk, OnOk, OnErr, All, if◌then◌else◌, slice_get, slice_range};
 ghost use Rattle.jc_model.specs.Statistics.{statistics_of};
 ghost use Rattle.jc_history.specs.Past.{places_used, IsWithinLimit, promise, unpromise, push, no_events, hit_event, reply_in};

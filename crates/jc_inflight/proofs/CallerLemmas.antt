@@ -1,12 +1,9 @@
 -- Lemmas for the crates above.
-use Rattle.std.proofs.Common.{◌≡◌, ℕ, suc, ◌+◌, ◌==◌, ◌&&◌, List, [], ◌∷◌, Bool, true, false, cond, not, length, get_or, map, filter, find, count_by, Some, None, refl, ap, sym, ◌∙◌, arith}
+use Rattle.std.proofs.Common.{◌≡◌, ℕ, ◌+◌, ◌==◌, ◌&&◌, List, [], ◌∷◌, Bool, true, false, cond, not, length, map, filter, count_by, Some, None, refl, ap, sym, ◌∙◌, arith}
 use Rattle.std.proofs.lemmas.List.{length-map}
 use Rattle.std.proofs.lemmas.List.Sums.{length-filter, sum_by-cons}
-use Rattle.std.specs.List.{AllPairs}
 use Rattle.std.specs.Cmp.Lexicographic.{pointwise, same_text}
 use Rattle.std.proofs.lemmas.Bool.{eqb-true}
-use Rattle.jc_types.proofs.CallerLemmas.{filter_all}
-use Rattle.std.specs.Option.{option_map}
 use Rattle.jc_types.specs.declared.caller.Caller.{Caller}
 use Rattle.jc_model.specs.Cache.{Bytes}
 use Rattle.jc_inflight.specs.declared.joiner.Joiner.{Joiner}
@@ -111,19 +108,3 @@ pub waiting-after_dissolve : (load : ℕ) (joiners : List Joiner) → count_by w
 waiting-after_dissolve load [] = refl
 waiting-after_dissolve load (j ∷ js) =
     omega (arith, waits-told_to_retry load j, waiting-after_dissolve load js, count-cons waits j js, count-cons (waits_for load) j js, count-cons waits (told_to_retry load j) (after_dissolve load js))
-
--- a joiner that is taken out didn't wait
-waiting-without : (caller : Caller) (key : Bytes) (joiners : List Joiner) (state : JoinState) → AllPairs (λ j later. belongs_to j.caller j.key later ≡ false) joiners
-    → join_state_of caller key joiners ≡ Some state → is_waiting state ≡ false → count_by waits (joiners_without caller key joiners) ≡ count_by waits joiners
-waiting-without caller key [] state once h over = cc
-waiting-without caller key (j ∷ js) state once h over =
-    let p = belongs_to caller key in
-    elim (p j) as (λ b. p j ≡ b → option_map (λ x. x.state) (cond b (Some j) (find p js)) ≡ Some state → count_by waits (cond (not b) (j ∷ joiners_without caller key js) (joiners_without caller key js)) ≡ count_by waits (j ∷ js)) [
-      | true ↦ λ is h.
-          let none : cond {A = ℕ} (waits j) 1 0 ≡ 0 = let same : j.state ≡ state = cc in ap (λ t. cond {A = ℕ} (is_waiting t) 1 0) same ∙ ap (λ b. cond {A = ℕ} b 1 0) over in
-          let rest = filter_all (λ x. not (p x)) js (λ k d within. ap not (belongs_to_one caller key j (get_or js k d) (once 0 (suc k) d (omega arith) (omega arith)) is)) in
-          ap (count_by waits) rest ∙ omega (arith, count-cons waits j js)
-      | false ↦ λ is h.
-          let later = waiting-without caller key js state (λ i k d lt within. once (suc i) (suc k) d (omega arith) (omega arith)) h over in
-          omega (arith, later, count-cons waits j js, count-cons waits j (joiners_without caller key js))
-    ] refl h

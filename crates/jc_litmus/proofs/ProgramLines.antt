@@ -4,7 +4,7 @@
 --     next_line         a line that is read
 --     at_fault          a line at fault
 --     last_line         what is behind the last line feed
-use Rattle.jc_litmus.proofs.Common.{◌≡◌, ◌∙◌, ◌==◌, ap, sym, refl, ℕ, ◌+◌, Bool, true, false, cond, List, [], ◌∷◌, ◌++◌, Result, Ok, Err, map, pieces_some, map-append, pieces_of, LineFault, after_line, ended, fault_at, is_blank, onto_last, program_from, ReadSoFar, ReadsLines, then_on}
+use Rattle.jc_litmus.proofs.Common.{◌≡◌, ◌∙◌, ap, sym, refl, ℕ, ◌+◌, List, [], ◌∷◌, ◌++◌, Result, Ok, Err, map, pieces_some, map-append, pieces_of, LineFault, after_line, ended, fault_at, is_blank, onto_last, program_from, ReadSoFar, ReadsLines, then_on}
 use Rattle.std.specs.Global.{Vec}
 use Rattle.jc_explore.specs.declared.program.Item.{Item}
 use Rattle.jc_litmus.specs.declared.line_error.LineError.{LineError}

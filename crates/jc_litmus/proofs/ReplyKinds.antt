@@ -1,7 +1,7 @@
 -- The replies that calls of a kind have are those that are read, and those of the operation table.
 --     read_of_kind        an expectation's word is read as such a reply
 --     table_of_kind       each reply that the operation table gives is one
-use Rattle.jc_litmus.proofs.Common.{◌≡◌, ℕ, Bool, true, false, cond, List, Option, None, Some, Result, Ok, Err, refl, subst, codes, ◌&&◌, is_none, is_some, bytes_eq, and_parts, common_steps, HistoryFull, LoaderFailed, WriterFailed, ProcessorFailed, Bytes, Reply, Fault, number_of, value_or_none_of, LineFault, BadReply, ReplyKind, halves_of, failure_with, plain_reply, plain_value, refusal_of, reply_from, reply_kind, HasRefusal, HasReply, RepliesAreOfKind, RepliesOfTable}
+use Rattle.jc_litmus.proofs.Common.{◌≡◌, ℕ, Bool, true, false, cond, List, Option, None, Some, Result, Ok, Err, refl, subst, codes, ◌&&◌, is_none, is_some, bytes_eq, and_parts, HistoryFull, LoaderFailed, WriterFailed, ProcessorFailed, Bytes, Reply, Fault, number_of, value_or_none_of, LineFault, BadReply, ReplyKind, halves_of, failure_with, plain_reply, plain_value, refusal_of, reply_from, reply_kind, HasRefusal, HasReply, RepliesAreOfKind, RepliesOfTable}
 use Rattle.std.specs.Bool.{beq}
 use Rattle.jc_types.specs.declared.refusal.Refusal.{Refusal}
 use Rattle.jc_model.specs.declared.event.Op.{Op}

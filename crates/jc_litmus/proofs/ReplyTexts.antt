@@ -3,7 +3,7 @@
 --     replies_back        what an expectation writes for a reply is read as that reply
 --     replies_told        of two replies the texts differ
 --     silence_told        none of these texts is that of a call that is never answered
-use Rattle.jc_litmus.proofs.Common.{◌≡◌, ◌∙◌, ◌==◌, ℕ, ◌+◌, ◌%◌, ◌^◌, ◌<◌, Bool, true, false, not, List, [], ◌∷◌, ◌++◌, length, map, None, Some, Result, Ok, Err, inl, inr, refl, ap, arith, codes, decimal, ◌&&◌, nat_lt, nat_le, list_all, position_or_len, bytes_eq, and_from, and_left, and_parts, cond-true, cond-false, not_from_false, common_steps, take_at, HistoryFull, Busy, TooManyInFlight, TooManyJoiners, LoaderFailed, WriterFailed, ProcessorFailed, OutOfMemory, TooManyKeys, BadConfig, NoLoader, NoWriter, TooManySessions, StillReserved, RepeatedKey, Bytes, Reply, Fault, IsNumber, IsValue, NumbersReadBack, ValuesReadBack, is_letter, number_of, some_value, value_or_none_of, LineFault, BadReply, ReplyKind, halves_of, failure_with, plain_reply, plain_value, reply_from, reply_said, two_words, colon_for_space, RepliesAreTold, RepliesReadBack, reply_word, SilenceIsTold, no_dash, text_shown}
+use Rattle.jc_litmus.proofs.Common.{◌≡◌, ◌∙◌, ◌==◌, ℕ, ◌+◌, ◌%◌, ◌^◌, ◌<◌, Bool, true, false, not, List, [], ◌∷◌, ◌++◌, length, map, None, Some, Result, Ok, Err, inl, inr, refl, ap, arith, codes, decimal, ◌&&◌, nat_lt, nat_le, list_all, position_or_len, and_from, and_parts, cond-true, cond-false, not_from_false, common_steps, take_at, HistoryFull, Busy, LoaderFailed, WriterFailed, ProcessorFailed, Bytes, Reply, Fault, IsNumber, IsValue, NumbersReadBack, ValuesReadBack, is_letter, number_of, some_value, value_or_none_of, LineFault, BadReply, ReplyKind, halves_of, failure_with, plain_reply, plain_value, reply_from, reply_said, two_words, colon_for_space, RepliesAreTold, RepliesReadBack, reply_word, SilenceIsTold, no_dash, text_shown}
 use Rattle.std.proofs.lemmas.Fmt.{decimal_by_steps}
 use Rattle.std.proofs.lemmas.List.Folds.{list_all-append}
 use Rattle.std.proofs.Math.Seq.{drop-append-add}

@@ -1,5 +1,6 @@
 -- The atoms of an expectation, from its words.
 --     in_script                 a fault in a word of a script, as a fault of a program's line
+--     or_bad                    a number, or that the atom has no right shape
 --     number_or_bad             a number: a word that is none doesn't have the shape of an atom
 --     numbers_in, numbers_of    the numbers of a thread and of its item, from both sides of a dot, and from a word
 --     cached_of, stored_of      the entry of a key in the cache, and in the store

@@ -1,5 +1,5 @@
 //! The whole answer, as text.
-ghost use Rattle.std.specs.Prelude.{◌≡◌, ◌++◌, ◌+◌, ◌<◌, ◌^◌, codes, OnOk, IfOk, IfSome};
+ghost use Rattle.std.specs.Prelude.{◌≡◌, ◌++◌, ◌+◌, ◌<◌, ◌^◌, OnOk, IfOk, IfSome};
 ghost use Rattle.jc_litmus.specs.Judging.{IsNumbered};
 ghost use Rattle.jc_litmus.specs.Outcomes.{budget_line, closing_text, counts_text, ending_text, exploration_text, fault_text, first_text, outcomes_line, verdict_line, verdicts_text, whole_line};
 

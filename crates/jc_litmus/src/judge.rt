@@ -1,7 +1,6 @@
 //! Whether the outcomes are as a program's author expects.
 ghost use Rattle.std.specs.Prelude.{◌≡◌, ◌&&◌, ◌<◌, ◌+◌, ◌^◌, length, position, IfSome};
-ghost use Rattle.std.specs.List.{list_all, list_any};
-ghost use Rattle.std.specs.Cmp.Lexicographic.{pointwise};
+ghost use Rattle.std.specs.List.{list_any};
 ghost use Rattle.jc_explore.specs.Final.{final_of};
 ghost use Rattle.jc_litmus.specs.Judging.{IsNumbered, code_of, decides, end_of, first_deciding, has_all, has_atom, is_failure, reply_of, same_code};
 ghost use Rattle.jc_litmus.specs.Judging.{same_flag, same_refusal, same_reply, same_value, value_of_key, verdict_from, verdict_on, was_answered};

@@ -1,6 +1,6 @@
 //! Outcomes, as text.
-ghost use Rattle.std.specs.Prelude.{◌≡◌, ◌++◌, ◌+◌, ◌<◌, ◌^◌, codes, length, slice_get, OnOk};
-ghost use Rattle.jc_litmus.specs.ReplyTexts.{refused_text, replied_text, unanswered_text};
+ghost use Rattle.std.specs.Prelude.{◌≡◌, ◌++◌, ◌+◌, ◌<◌, ◌^◌, length, slice_get, OnOk};
+ghost use Rattle.jc_litmus.specs.ReplyTexts.{refused_text, replied_text};
 ghost use Rattle.jc_litmus.specs.Outcomes.{calls_before, item_name, item_text, number_line, outcome_if, outcome_text, outcomes_text, thread_call_text};
 ghost use Rattle.jc_litmus.specs.Outcomes.{replies_to, reply_line, state_text, thread_at, thread_text, threads_text, unanswered_line};
 

@@ -1,5 +1,5 @@
 //! A schedule as a script, which `jcache run` plays.
-ghost use Rattle.std.specs.Prelude.{◌≡◌, ◌++◌, ◌+◌, ◌<◌, ◌^◌, nat_lt, codes, true, replicate, OnOk, IfOk, IfSome, option_copied, Some};
+ghost use Rattle.std.specs.Prelude.{◌≡◌, ◌++◌, ◌+◌, ◌<◌, ◌^◌, codes, replicate, OnOk, IfOk, IfSome, option_copied, Some};
 ghost use Rattle.std.specs.List.{flat_map};
 ghost use Rattle.jc_types.specs.declared.limits.TheConstants.{NUMBER_MAX};
 ghost use Rattle.jc_script.specs.declared.read.line.Line.TheVariants as line;

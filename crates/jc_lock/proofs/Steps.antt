@@ -6,7 +6,7 @@ use mathlib.Core.Option.{some, none, some-injective, some-ne-none}
 use mathlib.Core.List.{IsPrefix}
 use lib.ListN.{get_elem?}
 use prog.Atomic.{either}
-use Rattle.atomic_table.specs.Table.{State, Me, Act, keeps, takes, gives, Valid, step, stepped, Allows, Splits, Joins, opening as table_opening, rest, carried_after, put_back, Seen}
+use Rattle.atomic_table.specs.Table.{State, Me, keeps, takes, gives, step, Allows, Splits, Joins, opening as table_opening, rest, put_back, Seen}
 use Rattle.atomic_table.proofs.Lists.{at_set, set_else, set_again}
 use Rattle.jc_stripe.specs.State.{State as StripeState}
 use Rattle.jc_stripe.specs.Reached.{IsReached}
@@ -79,10 +79,6 @@ module _ {B : Type 0} (value : B → StripeState) where
         ))
         r.place;
   }
-
-  -- a take that finds the word held changes nothing
-  Stepped : St → ℕ → M → (ℕ → ℕ) → (ℕ → M → Type 0) → Type 0
-  Stepped s id me f then = (w : View) × (a : Act (Option B)) × Valid s.homes me.1 a × LockRule value (stepped s 0 (f (get_or s.words 0 0)) id me.1 w a) × then (get_or s.words 0 0) (w, carried_after me.1 a)
 
   -- what a take that misses leaves of a view says no more than the view
   pub record IsMiss (missed : View → View) : Type 0 where

@@ -1,20 +1,14 @@
 -- The callers' order, seen from its end.
-use Rattle.std.proofs.Common.{◌≡◌, ◌==◌, ◌&&◌, ◌||◌, ℕ, List, [], ◌∷◌, ◌++◌, Bool, true, false, not, nat_lt, ◌+◌, ◌<◌, length, take, drop, get_or, refl, sym, ap, ◌∙◌, arith, None}
+use Rattle.std.proofs.Common.{◌≡◌, ◌==◌, ◌&&◌, ◌||◌, ℕ, List, [], ◌∷◌, ◌++◌, Bool, true, false, not, nat_lt, ◌+◌, ◌<◌, length, take, drop, get_or, refl, sym, ap, ◌∙◌, arith}
 use Rattle.std.specs.List.{list_all}
 use Rattle.std.specs.Cmp.Lexicographic.{pointwise}
 use Rattle.std.proofs.lemmas.List.{take_more, take-append-drop}
 use Rattle.std.proofs.lemmas.List.Folds.{list_all-append}
 use Rattle.std.proofs.lemmas.Bool.Decides.{nat_tests}
 use Rattle.std.proofs.lemmas.Bool.{and_parts, and_from}
-use Rattle.jc_types.specs.declared.caller.Caller.{Caller}
 use Rattle.jc_model.specs.declared.event.Event.{Event}
 use Rattle.jc_model.specs.declared.event.Event.TheVariants.{Step, Evict}
-use Rattle.jc_model.specs.declared.event.Op.{Op}
-use Rattle.jc_model.specs.declared.event.Out.{Out}
-use Rattle.jc_model.specs.declared.event.Reply.{Reply}
-use Rattle.jc_model.specs.declared.event.Cause.{Cause}
-use Rattle.jc_model.specs.Cache.{Bytes}
-use Rattle.jc_model.specs.Legal.{may_come, may_follow, in_order}
+use Rattle.jc_model.specs.Legal.{may_follow, in_order}
 use Rattle.jc_model.specs.Reader.{comes_before}
 use Rattle.jc_model.proofs.CallerLemmas.{follows_all, order-last}
 
@@ -88,17 +82,3 @@ order_not events k h =
           let no : true ≡ false = sym front ∙ h in cc
       | false ↦ λ e. e
     ] refl
-
--- that a step may come is that its event may follow
-comes_follows : (events : List Event) (caller : Caller) (op : Op) (key : Bytes) (out : Out) (reply : Reply) → follows_all events (Step caller op key out None reply) ≡ list_all (λ e. may_come e caller key) events
-comes_follows [] caller op key out reply = refl
-comes_follows (x ∷ xs) caller op key out reply =
-    ap (λ b. b && follows_all xs (Step caller op key out None reply)) refl
-    ∙ ap (λ b. may_come x caller key && b) (comes_follows xs caller op key out reply)
-
-evict_follow : (event : Event) (key : Bytes) (cause : Cause) → may_follow event (Evict key cause) ≡ true
-evict_follow event key cause = refl
-
-evict_follows : (events : List Event) (key : Bytes) (cause : Cause) → follows_all events (Evict key cause) ≡ true
-evict_follows [] key cause = refl
-evict_follows (x ∷ xs) key cause = and_from _ _ (evict_follow x key cause) (evict_follows xs key cause)

@@ -41,4 +41,5 @@ pub use event::{
 };
 pub use processor::{EntryAnswer, EntryCall};
 pub use statistics::Statistics;
+pub use stripes::is_opening_of;
 pub use table::{LentChange, LoaderAsk, OpValues};

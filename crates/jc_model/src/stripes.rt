@@ -23,7 +23,9 @@ fn first_stripe(stripes: usize, opening: &[(Key, Value)], events: &[Event]) -> u
 }
 
 /// Whether the keys of an opening are all of this stripe.
-fn is_opening_of(stripes: usize, stripe: usize, opening: &[(Key, Value)]) -> bool
+///
+/// Condition: there is at least one stripe.
+pub fn is_opening_of(stripes: usize, stripe: usize, opening: &[(Key, Value)]) -> bool
     requires { 0 < stripes }
     ensures { result ≡ list_all (λ entry. stripe_of entry.0 stripes == stripe) opening.now }
 {

@@ -1,4 +1,5 @@
--- What crates above may cite: an entry before the first call, and what several calls make of a loader.
+-- What crates above may cite: an entry before the first call, what several calls make of a loader, and a choice by a test.
+pub use Rattle.jc_mutentry.proofs.Lent.{given_match, absent_match}
 use Rattle.std.proofs.Common.{◌≡◌, inl, inr, ℕ, List, [], ◌∷◌, Option, None, Some, Result, Ok, Err, false, ◌&&◌, is_none, refl, sym, ◌∙◌, subst}
 use Rattle.jc_model.specs.Cache.{Bytes}
 use Rattle.jc_model.specs.declared.event.LoadAnswer.{LoadAnswer}

@@ -9,11 +9,11 @@ use Rattle.std.specs.declared.dyn_box.DynBox.{DynBox}
 use Rattle.jc_mutentry.specs.Entries.{LoadsOn}
 use Rattle.jc_mutentry.specs.Running.{LoadsIfGiven}
 
-given_match : (b : Bool) (A B : Type 0) → b ≡ true → A → MatchBool b A B
+pub given_match : (b : Bool) (A B : Type 0) → b ≡ true → A → MatchBool b A B
 given_match true A B h a = a
 given_match false A B h a = cc
 
-absent_match : (b : Bool) (A B : Type 0) → b ≡ false → B → MatchBool b A B
+pub absent_match : (b : Bool) (A B : Type 0) → b ≡ false → B → MatchBool b A B
 absent_match false A B h b = b
 absent_match true A B h b = cc
 

@@ -1,5 +1,5 @@
 pub mod CallerLemmas
-mod Lent
+pub mod Lent
 mod LookingBack
 mod Playing
 mod Stepping

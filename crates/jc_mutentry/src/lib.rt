@@ -4,8 +4,8 @@
 //! Why it is so:
 //! - The definition of a processor's calls looks back in their list, while the code keeps one state, so that neither copies the
 //!   other.
-//! - A session without a loader runs a processor with a loader that finds nothing. This is a second method of the trait, with a
-//!   body, so that no processor has to write it.
+//! - A session without a loader runs a processor with a loader that finds nothing. The trait has a method with a body for this
+//!   (`process_alone`), so no processor has to write one.
 #![tactic(auto)]
 
 mod ask;

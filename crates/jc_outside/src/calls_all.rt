@@ -1,6 +1,5 @@
 //! Calls of a loader and a writer for many keys at once, while no stripe is held.
-ghost use Rattle.std.specs.Prelude.{◌≡◌, ◌≤◌, ◌+◌, ◌++◌, [], List, map, true, IsSome, Some, vec_len, vec_capacity};
-ghost use Rattle.std.specs.Map.{keys_of};
+ghost use Rattle.std.specs.Prelude.{◌≡◌, ◌≤◌, ◌+◌, ◌++◌, [], map, true, IsSome, Some, vec_len, vec_capacity};
 ghost use Rattle.jc_model.specs.Cache.{Bytes};
 ghost use Rattle.jc_model.specs.Batches.{answer_in_batch};
 ghost use Rattle.jc_model.specs.Table.{is_load_given};
@@ -9,7 +8,7 @@ ghost use Rattle.jc_model.specs.declared.event.WriteAnswer.{WriteAnswer as Write
 ghost use Rattle.jc_batch.specs.Changes.{changes_of};
 ghost use Rattle.jc_batch.specs.Answers.{no_answers};
 ghost use Rattle.jc_outside.specs.Calling.{KeepsType};
-ghost use Rattle.jc_outside.specs.CallingAll.{load_all_answer, found_or_nothing, returned_fault, LoadsKeys, WritesEntries};
+ghost use Rattle.jc_outside.specs.CallingAll.{load_all_answer, returned_fault, LoadsKeys, WritesEntries};
 ghost use Rattle.jc_outside.specs.CallingAll.{DeletesKeys, KeepsLoadRoom, LoadsAllOnce, WritesAllOnce, loads_done, writes_done, asked_changes};
 
 use crate::ask::{Ask, AskWrite};

@@ -19,7 +19,8 @@ pub trait CompletionListener {
     fn on_completion(&mut self)
         ensures { hears self.old (Ok tt) (listener_state self.new) };
 
-    /// The `loadAll` has failed: the first fault, or the refusal of a key (`onException`).
+    /// The `loadAll` has failed (`onException`): the first fault, or the refusal of a key, or that of the whole call
+    /// (`TooManyKeys`, `OutOfMemory`).
     fn on_exception(&mut self, refusal: Refusal)
         ensures { hears self.old (Err refusal) (listener_state self.new) };
 }

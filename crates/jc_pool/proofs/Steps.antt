@@ -5,12 +5,12 @@ use Rattle.std.proofs.lemmas.Bool.Decides.{nat_tests}
 use Rattle.std.proofs.lemmas.List.Sums.{sum_by-cons, sum_by-append, sum_by_push}
 use mathlib.Core.Option.{some, none, some-injective, some-ne-none}
 use lib.ListN.{get_elem?}
-use Rattle.atomic_table.specs.Table.{State, Me, keeps, step, Allows, Splits, Joins, opening, Seen}
+use Rattle.atomic_table.specs.Table.{State, Me, keeps, step, Allows, Splits, Joins, Seen}
 use Rattle.atomic_table.proofs.Lists.{at_set, set_else}
 use Rattle.jc_pool.specs.declared.view.JobPlan.{JobPlan}
 use Rattle.jc_pool.specs.declared.view.Claims.{Claims}
 use Rattle.jc_pool.specs.Shares.{times, once_below}
-use Rattle.jc_pool.specs.Views.{workers_of, least_above, fresh_claims, spent_claims, after_claim, after_end, claims_after_split, split_off, claims_after_join}
+use Rattle.jc_pool.specs.Views.{workers_of, least_above, spent_claims, after_claim, after_end, claims_after_split, split_off, claims_after_join}
 use Rattle.jc_pool.specs.Rule.{ClaimsFit, CountsClaims, IsClaim}
 
 -- 1. Lists of numbers.
@@ -157,20 +157,6 @@ claims_it plan slots id me working s r wide at _ =
       elim (nat_lt found v.plan.pieces) as F [ true ↦ hit | false ↦ miss ] refl,
       (refl, omega arith),
     )
-
-pub opens : (plan : JobPlan) → plan.pieces + plan.workers < 2 ^ 64 → CountsClaims plan (opening (0 ∷ []) [] (fresh_claims plan plan.workers))
-opens plan fits =
-    let v : Claims = fresh_claims plan plan.workers in
-    record {
-      number = 0;
-      word = refl;
-      fits = fits;
-      workers = (let a = sum_by-cons workers_of v [] in omega arith);
-      ends = (let p : ℕ = plan.pieces in let t : ℕ = sum_by (λ (u : Claims). u.ended) (v ∷ []) in let g : 0 ≤ p + t = omega arith in g);
-      once = λ x. (let z : 0 ≡ once_below x 0 = grind (arith, nat_tests) in z) ∙ ap (once_below x) (let p : ℕ = plan.pieces in let g : 0 ≡ min 0 p = omega arith in g);
-      each = each_end (ClaimsFit plan 0) [] v (λ j u e. absurd (some-ne-none u (sym e)))
-          record { below = omega arith; past = λ e. absurd (omega arith); nobody = λ _. refl; planned = λ _. refl };
-    }
 
 pub splits_it : (plan : JobPlan) (id : ℕ) (v : Claims) → 1 < v.working → Splits (CountsClaims plan) id v (claims_after_split v) (split_off v)
 splits_it plan id v two s r at =

@@ -1,7 +1,7 @@
 //! The counter that pieces are claimed from.
-ghost use Rattle.std.specs.Prelude.{◌≡◌, ℕ, ◌+◌, ◌-◌, ◌/◌, ◌^◌, ◌<◌, ◌≤◌, IfOk, IfSome, IfNone};
+ghost use Rattle.std.specs.Prelude.{◌≡◌, ℕ, ◌+◌, ◌-◌, ◌^◌, ◌<◌, ◌≤◌, IfOk, IfSome, IfNone};
 ghost use Rattle.jc_pool.specs.Shares.{times, once_below};
-ghost use Rattle.jc_pool.specs.Views.{fresh_claims, ended_claims, least_above, after_claim, after_end, claims_after_split, split_off, claims_after_join, IsClaimerOf};
+ghost use Rattle.jc_pool.specs.Views.{fresh_claims, least_above, after_claim, after_end, claims_after_split, split_off, claims_after_join, IsClaimerOf};
 
 use crate::rule::{Claim, CounterRule, Half};
 use crate::view::{Claims, JobPlan};

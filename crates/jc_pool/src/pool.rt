@@ -1,5 +1,5 @@
 //! Workers side by side.
-ghost use Rattle.std.specs.Prelude.{◌≡◌, ℕ, ◌+◌, ◌^◌, ◌<◌, ◌++◌, All, length, OnOk, OnErr};
+ghost use Rattle.std.specs.Prelude.{◌≡◌, ◌+◌, ◌^◌, ◌<◌, ◌++◌, All, length, OnOk, OnErr};
 ghost use Rattle.std.specs.List.{zip};
 ghost use denote.Param.Send.{IsSync, IsSend};
 ghost use Rattle.jc_pool.specs.Shares.{CanDoAll, DoesEachOnce};

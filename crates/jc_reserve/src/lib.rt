@@ -4,8 +4,8 @@
 //! entry meanwhile (JSR 107, "Default Consistency").
 //!
 //! Why it is so:
-//! - The table is an array of 64 places in the value itself, because making it then takes no memory, and a look-up goes over at
-//!   most 64 keys.
+//! - The table is an array of `RESERVATIONS_MAX` places in the value itself, because making it then takes no memory, and a look-up
+//!   goes over at most that many keys.
 //! - When a reservation ends, those behind it move up, because the table lends its records and keys as slices in the order of
 //!   reserving, and a stripe's state is that list.
 #![tactic(auto)]

@@ -1,5 +1,5 @@
 -- Keys, each once: those that are spelled read back, and those that are read are spelled so.
-use Rattle.jc_script.proofs.Common.{◌≡◌, ◌∙◌, ◌==◌, ◌||◌, ℕ, Bool, true, false, List, [], ◌∷◌, ◌++◌, Ok, Err, refl, sym, ap, append_assoc, IfOk, pointwise, and_from, cond-true, or_parts, nat_list_eq_equiv, All-nil, All-cons, All-head, All-tail, KEY_MAX, Bytes, is_among, BadKey, RepeatedKey, IsKey, AreKeyWords}
+use Rattle.jc_script.proofs.Common.{◌≡◌, ◌∙◌, ◌==◌, ◌||◌, ℕ, Bool, false, List, [], ◌∷◌, ◌++◌, Ok, Err, refl, sym, ap, append_assoc, IfOk, pointwise, and_from, cond-true, or_parts, nat_list_eq_equiv, All-nil, All-cons, All-head, All-tail, KEY_MAX, Bytes, is_among, BadKey, RepeatedKey, IsKey, AreKeyWords}
 use Rattle.std.specs.List.{All, AllByRecursion, IsDistinct, list_any}
 use Rattle.std.proofs.lemmas.List.{append-nil}
 use Rattle.jc_script.specs.Words.{is_text, key_of, key_onto, keys_from, distinct_keys_of}

@@ -20,6 +20,7 @@ pub use Rattle.std.specs.Prelude.{codes, decimal, min, nat_le, nat_lt, ◌&&◌,
 pub use Rattle.std.specs.Str.{bytes_eq}
 pub use Rattle.jc_model.specs.Batches.{is_among}
 pub use Rattle.jc_model.specs.Cache.{Bytes, Cache, key_cmp}
+pub use Rattle.jc_model.specs.Reader.{is_full_cause}
 pub use Rattle.jc_model.specs.Table.{is_load_given}
 pub use Rattle.jc_model.specs.declared.event.Op.{Op}
 pub use Rattle.jc_model.specs.declared.processor.EntryCall.{EntryCall}
@@ -47,7 +48,7 @@ pub use Rattle.jc_types.specs.declared.config.Config.{Config}
 pub use Rattle.jc_types.specs.declared.limits.TheConstants.{CAPACITY_MAX, HISTORY_MAX, HISTORY_MIN, KEY_MAX, SESSIONS_MAX, STRIPES_MAX, VALUE_MAX}
 pub use Rattle.jc_types.specs.declared.refusal.Refusal.TheVariants.{BadConfig, TooManyKeys, WriterFailed}
 pub use Rattle.jc_world.specs.Calls.{CallState, SweepState, Task, at_each, has_number, has_too_many_keys, new_call, op_at, open_keys, over_of, put_each_of}
-pub use Rattle.jc_world.specs.Determinism.{RunsAreDetermined, cause_has_memory, eviction_has_memory, has_memory, have_memory}
+pub use Rattle.jc_world.specs.Determinism.{RunsAreDetermined, eviction_has_memory, has_memory, have_memory}
 pub use Rattle.jc_world.specs.Events.{AllFit, Ends, Happens, Picks, Run, StartsAs, Step, after_report, after_reports, all_fit, is_fit, keys_reported, not_over, reported_at, reported_now, shown_begun, with_call, with_met_by}
 pub use Rattle.jc_world.specs.Fits.{fits, is_being_written, is_free, is_new, is_playable, is_single, may_change, may_leave, may_look, may_report, may_start}
 pub use Rattle.jc_world.specs.Together.{BeginFits, FitTogether, at_call, key_at, looks, looks_of, opening_events}

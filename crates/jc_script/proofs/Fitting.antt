@@ -1,10 +1,11 @@
 -- The events of a line about a call under way fit, if it is the time for it.
-use Rattle.jc_script.proofs.Common.{◌≡◌, ◌==◌, ◌∙◌, ◌&&◌, ◌||◌, ◌++◌, ◌+◌, ◌<◌, ℕ, Bool, true, false, not, List, [], ◌∷◌, Option, None, Some, find, is_none, is_some, length, filter, get_or, map, option_to_list, take, cond, refl, sym, ap, subst, append-nil, arith, zero, suc, inl, inr, pointwise, and_from, and_parts, or_parts, nat_eq_equiv, nat_list_eq_equiv, map-append, take_more, filter-append, is_among, Bytes, is_load_given, Part, CallState, op_at, open_keys, WorldState, is_joined, open_call, part_of, fits, is_being_written, is_free, may_change, may_report, may_start, AllFit, is_fit, Shown, Config, at_call, key_at, looks, FitTogether, ScriptAct, Read, ReadFail, Say, Apply, ApplyFail, ApplyLie, End, Drop, More, Take, Process, said_after, event_at, events_of_act, is_meant, is_started, is_time, key_events, keys_of_act, leaves, left_keys}
+use Rattle.jc_script.proofs.Common.{◌≡◌, ◌==◌, ◌∙◌, ◌&&◌, ◌||◌, ◌++◌, ◌+◌, ◌<◌, ℕ, Bool, true, false, not, List, [], ◌∷◌, Option, None, Some, find, is_none, is_some, length, filter, get_or, map, option_to_list, take, cond, refl, sym, ap, subst, append-nil, arith, zero, suc, inl, inr, pointwise, and_from, and_parts, or_parts, nat_list_eq_equiv, map-append, take_more, filter-append, is_among, Bytes, is_load_given, Part, CallState, op_at, open_keys, WorldState, is_joined, open_call, part_of, fits, is_being_written, is_free, may_change, may_report, may_start, AllFit, is_fit, Shown, Config, key_at, looks, FitTogether, ScriptAct, Read, ReadFail, Say, Apply, ApplyFail, ApplyLie, End, Drop, More, Take, Process, said_after, event_at, events_of_act, is_meant, is_started, is_time, key_events, keys_of_act, leaves, left_keys}
 use Rattle.std.specs.List.{AllByRecursion, IsDistinct, list_all, list_any}
 use Rattle.std.proofs.lemmas.Map.Keys.{apart_from_distinct, IsDistinct-cons, IsDistinct-head, IsDistinct-tail}
 use Rattle.jc_model.specs.declared.event.LoadAnswer.{LoadAnswer}
 use Rattle.jc_model.specs.declared.event.LoadAnswer.TheVariants.{Found, Nothing}
 use Rattle.jc_world.specs.declared.event.WorldEvent.TheVariants as event
+use Rattle.jc_world.proofs.CallerLemmas.{own_call}
 
 -- ---- a call under way
 
@@ -34,10 +35,6 @@ kept_differ p (key ∷ keys) d =
           | true ↦ (all.0, kept ks all.1)
           | false ↦ kept ks all.1
         ]
-
--- a call's own number
-own : (call : ℕ) (key : Bytes) → at_call call call key ≡ Some key
-own call key = ap (λ b. cond b (Some key) None) (nat_eq_equiv.refl call)
 
 -- what a loader says by pairs is an answer
 said_given : (pairs : List (Bytes × Bytes)) (key : Bytes) (answer : LoadAnswer) → is_load_given answer ≡ true → is_load_given (said_after answer pairs key) ≡ true
@@ -149,7 +146,7 @@ looks-more call from (suc count) =
 pub starts_fit : (w : WorldState) → FitTogether w → (call : ℕ) (u : CallState) → open_call w call ≡ Some u → ((key : Bytes) → is_free w call key ≡ true) → IsDistinct (pointwise ◌==◌) (open_keys u)
     → list_all (λ key. is_some (op_at u key)) (open_keys u) ≡ true → AllFit w (key_events w call More (open_keys u))
 starts_fit w together call u here free differ opens =
-    keys_fit w together call More (own call) (open_keys u) differ (all_kept (open_keys u) opens)
+    keys_fit w together call More (own_call call) (open_keys u) differ (all_kept (open_keys u) opens)
   where
     all_kept : (keys : List Bytes) → list_all (λ key. is_some (op_at u key)) keys ≡ true → list_all (fits w) (key_events w call More keys) ≡ true
     all_kept [] h = refl
@@ -169,15 +166,15 @@ first_differs p keys = one_differs (find p keys)
 -- the events of an act fit if it is the time for it
 pub act_fits : (w : WorldState) → FitTogether w → (call : ℕ) (act : ScriptAct) (u : CallState) (keys : List Bytes) → open_call w call ≡ Some u → keys ≡ keys_of_act w call act u → IsDistinct (pointwise ◌==◌) keys
     → is_time w call act keys (key_events w call act keys) ≡ true → AllFit w (events_of_act w call act keys)
-act_fits w together call Read u keys here is differ time = alone_fit w together call Read (own call) keys differ (all_of_kept _ (event_at call Read) (fits w) (λ key h. h) keys)
-act_fits w together call (ReadFail code) u keys here is differ time = alone_fit w together call (ReadFail code) (own call) keys differ (all_of_kept _ (event_at call (ReadFail code)) (fits w) (λ key h. h) keys)
-act_fits w together call (Say pairs) u keys here is differ time = alone_fit w together call (Say pairs) (own call) keys differ (all_of_kept _ (event_at call (Say pairs)) (fits w) (λ key h. and_from _ _ (said_given pairs key Nothing refl) h) keys)
+act_fits w together call Read u keys here is differ time = alone_fit w together call Read (own_call call) keys differ (all_of_kept _ (event_at call Read) (fits w) (λ key h. h) keys)
+act_fits w together call (ReadFail code) u keys here is differ time = alone_fit w together call (ReadFail code) (own_call call) keys differ (all_of_kept _ (event_at call (ReadFail code)) (fits w) (λ key h. h) keys)
+act_fits w together call (Say pairs) u keys here is differ time = alone_fit w together call (Say pairs) (own_call call) keys differ (all_of_kept _ (event_at call (Say pairs)) (fits w) (λ key h. and_from _ _ (said_given pairs key Nothing refl) h) keys)
 act_fits w together call (Apply left) u keys here is differ time =
     writer_fit w together call (is_meant w call (Apply left)) u keys (left_keys w call (Apply left) keys) None (λ key h. (and_parts (is_being_written w call key) (not (leaves (Apply left) key)) h).0) here is differ time
 act_fits w together call (ApplyFail code left) u keys here is differ time =
     writer_fit w together call (is_meant w call (ApplyFail code left)) u keys (left_keys w call (ApplyFail code left) keys) (Some code) (λ key h. (and_parts (is_being_written w call key) (not (leaves (ApplyFail code left) key)) h).0) here is differ time
 act_fits w together call (ApplyLie code) u keys here is differ time = writer_fit w together call (is_meant w call (ApplyLie code)) u keys (left_keys w call (ApplyLie code) keys) (Some code) (λ key h. h) here is differ time
-act_fits w together call End u keys here is differ time = alone_fit w together call End (own call) keys differ (and_parts _ _ time).1
+act_fits w together call End u keys here is differ time = alone_fit w together call End (own_call call) keys differ (and_parts _ _ time).1
 act_fits w together call Drop u keys here is differ time =
     let parts = and_parts (list_all (fits w) (key_events w call Drop keys)) (not (list_any (is_joined w call) keys)) time in
     together.leave call u (filter (is_started w call) keys) here (kept_differ (is_started w call) keys differ)
@@ -187,9 +184,9 @@ act_fits w together call Drop u keys here is differ time =
     unset : (b : Bool) → not b ≡ true → b ≡ false
     unset true e = cc
     unset false e = refl
-act_fits w together call More u keys here is differ time = alone_fit w together call More (own call) keys differ (and_parts _ _ time).1
-act_fits w together call Take u keys here is differ time = alone_fit w together call Take (own call) keys differ (all_of_kept _ (event_at call Take) (fits w) (λ key h. h) keys)
-act_fits w together call (Process source calls fail) u keys here is differ time = alone_fit w together call (Process source calls fail) (own call) keys differ (all_of_kept _ (event_at call (Process source calls fail)) (fits w) (λ key h. h) keys)
+act_fits w together call More u keys here is differ time = alone_fit w together call More (own_call call) keys differ (and_parts _ _ time).1
+act_fits w together call Take u keys here is differ time = alone_fit w together call Take (own_call call) keys differ (all_of_kept _ (event_at call Take) (fits w) (λ key h. h) keys)
+act_fits w together call (Process source calls fail) u keys here is differ time = alone_fit w together call (Process source calls fail) (own_call call) keys differ (all_of_kept _ (event_at call (Process source calls fail)) (fits w) (λ key h. h) keys)
 
 -- ---- a reopening
 

@@ -95,9 +95,6 @@ at_end old n (b ∷ bs) e = absurd (omega arith)
 abbrev pub IsAt : (input : List ℕ) (number : ℕ) (rest : List ℕ) → Type 0
 IsAt input number rest = (before : List (List ℕ)) × (pieces_of input ≡ before ++ pieces_of rest) × (number ≡ length before + 1)
 
-pub at_first : (input : List ℕ) → IsAt input 1 input
-at_first input = ([], refl, refl)
-
 pub at_next : (input rest line after : List ℕ) (n : ℕ) → IsAt input n rest → pieces_of rest ≡ line ∷ pieces_of after → IsAt input (n + 1) after
 at_next input rest line after n (before, e, count) cut = (
   before ++ line ∷ [],

@@ -2,7 +2,7 @@
 --     before_it, behind_it    a text with such a line before or behind another has it
 --     event_tells             an event that shows such an eviction prints it
 --     transcript_tells        and so does a transcript
-use Rattle.jc_script.proofs.Common.{◌≡◌, ◌∙◌, ◌+◌, ◌++◌, ◌&&◌, ℕ, Bool, true, false, cond, List, [], ◌∷◌, Option, None, Some, Result, Ok, Err, refl, sym, ap, subst, inl, inr, append_assoc, append-nil, true≢false, ◌⊎◌, codes, list_all-append, Bytes, CallState, has_too_many_keys, new_call, over_of, TooManyKeys, Command, Outcome, Shown, WorldEvent, LoadSource, cause_has_memory, eviction_has_memory, has_memory, have_memory, Happens, Run, Step, not_over, shown_begun, opening_events, WorldState, open_call, Fault, ScriptAct, Line, Open, Set, Begin, BeginBulk, OfCall, Foreign, Reopen, Audit, RunEnd, TellsOfMemory, shown_at_begin, shown_by_act, shown_by_one, shown_by_line, shown_by_read, shown_in, events_of_act, keys_of_act, load_code, single, start_events, read_line, OpenedWorld, Plays, PlaysAct, PlaysBegin, PlaysOne, PlaysRead, Transcript}
+use Rattle.jc_script.proofs.Common.{◌≡◌, ◌∙◌, ◌+◌, ◌++◌, ◌&&◌, ℕ, Bool, true, false, cond, List, [], ◌∷◌, Option, None, Some, Result, Ok, Err, refl, sym, ap, subst, inl, inr, append_assoc, append-nil, true≢false, ◌⊎◌, codes, list_all-append, Bytes, CallState, has_too_many_keys, new_call, over_of, TooManyKeys, Command, Outcome, Shown, WorldEvent, LoadSource, is_full_cause, eviction_has_memory, has_memory, have_memory, Happens, Run, Step, not_over, shown_begun, opening_events, WorldState, open_call, Fault, ScriptAct, Line, Open, Set, Begin, BeginBulk, OfCall, Foreign, Reopen, Audit, RunEnd, TellsOfMemory, shown_at_begin, shown_by_act, shown_by_one, shown_by_line, shown_by_read, shown_in, events_of_act, keys_of_act, load_code, single, start_events, read_line, OpenedWorld, Plays, PlaysAct, PlaysBegin, PlaysOne, PlaysRead, Transcript}
 use Rattle.jc_model.specs.declared.event.Cause.{Cause}
 use Rattle.jc_model.specs.declared.event.Cause.TheVariants.{Full, Memory}
 use Rattle.jc_stripe.specs.declared.begun.Eviction.{Eviction}
@@ -34,7 +34,7 @@ behind_it a b (before, key, stripe, place, after, is) =
       ap (λ (t : List ℕ). a ++ t) is ∙ sym (append_assoc a (before ++ line) after) ∙ ap (λ (t : List ℕ). t ++ after) (sym (append_assoc a before line)),
     )
 
-cause_tells : (key : Bytes) (cause : Cause) (stripe place : ℕ) → cause_has_memory cause ≡ false → TellsOfMemory (evict_line key cause stripe place)
+cause_tells : (key : Bytes) (cause : Cause) (stripe place : ℕ) → is_full_cause cause ≡ false → TellsOfMemory (evict_line key cause stripe place)
 cause_tells key Full stripe place h = absurd (true≢false h)
 cause_tells key Memory stripe place h = ([], key, stripe, place, [], sym (append-nil (evict_line key Memory stripe place)))
 

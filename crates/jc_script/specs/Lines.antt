@@ -22,7 +22,7 @@
 --     number_alone                  one number, and no word after it
 --     lone_act, lone_of             an act with no other word than its call's number, and what the words of its line ask for
 --     coded_act, coded_of           an act with a call's number and a code, and what the words of its line ask for
---     has_but_shape                 nothing follows what the writer does, or `but` and at least so many words
+--     has_but_shape                 nothing follows what the writer does, or `but` and at least this number of words
 --     left_of                       the keys that the writer leaves, if `but` is there
 --     apply_of, apply_fail_of       what the words after `apply` and `applyfail` ask for
 --     process_of                    what the words after `process` ask for
@@ -301,7 +301,7 @@ coded_of act (n ∷ words) = do
   Ok (OfCall number (act code))
 coded_of act [] = Err BadLine
 
--- nothing, or `but` and at least so many words
+-- nothing, or `but` and at least this number of words
 abbrev pub has_but_shape : ℕ → List (List ℕ) → Bool
 has_but_shape least [] = true
 has_but_shape least (word ∷ words) = bytes_eq word (codes "but") && nat_le least (length words)

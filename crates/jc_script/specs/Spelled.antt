@@ -18,9 +18,9 @@
 --     IsSource, IsEntryCall, IsOptionalCode     how a processor's loader answers; a call of a processor, and its value; a code, or none
 --     AreValues                  the values of an operation
 --     IsOperation, IsAct         an operation that has a name, and its values; an act, and its code or its pairs
---     AreKeyWords                    at least so many keys, and none twice
+--     AreKeyWords                    at least this number of keys, and none twice
 --     AreDistinctPairs           the pairs of a call of many keys: at least one, and no key twice
---     AreLeftKeys                    the keys that the writer leaves, at least so many, if they are named
+--     AreLeftKeys                    the keys that the writer leaves, at least this number of them, if they are named
 --     HasKeys                    the keys or the pairs of a call of many keys
 --     IsShape                    the numbers of a shape
 --     SaysWords                  what a line asks for consists of what words can say
@@ -179,7 +179,7 @@ abbrev pub IsOptionalCode : Option ℕ → Type 0
 IsOptionalCode None = Unit {0}
 IsOptionalCode (Some code) = IsNumber code
 
--- at least so many, and each of them once
+-- at least this number of keys, and each of them once
 abbrev pub AreKeyWords : ℕ → List Bytes → Type 0
 AreKeyWords least keys = (least ≤ length keys) × All IsKey keys × IsDistinct (pointwise ◌==◌) keys
 

@@ -6,7 +6,7 @@
 --     number_of                a number, up to NUMBER_MAX, with no leading zero but 0 itself
 --     caller_if                the session with a number, 1 to 32
 --     caller_of                a session, s1 to s32
---     is_text                  at least one of the letters, and at most so many
+--     is_text                  at least one of the letters, and at most this number
 --     key_of                   a key: letters, digits, underscores and dots
 --     value_of                 a value: the same letters, or a tilde for the empty one
 --     some_value               a value that is there, or its fault
@@ -75,7 +75,7 @@ abbrev pub caller_of : List ℕ → Result ℕ Fault
 caller_of [] = Err BadCaller
 caller_of (b ∷ bs) = if b == 115 then caller_if (number_of bs) else Err BadCaller
 
--- at least one of the letters, and at most so many
+-- at least one of the letters, and at most this number
 abbrev pub is_text : ℕ → List ℕ → Bool
 is_text most word = nat_lt 0 (length word) && nat_le (length word) most && list_all is_letter word
 

@@ -1,7 +1,7 @@
 //! All that a reader gives, and all that a writer takes.
-ghost use Rattle.std.specs.Prelude.{◌≡◌, ◌<◌, ◌≤◌, ◌↔◌, ℕ, take, drop, length, List, IfOk, IfErr, IsErr, OnOk, OnErr};
+ghost use Rattle.std.specs.Prelude.{◌≡◌, ◌<◌, ◌≤◌, ◌↔◌, ℕ, take, length, IfOk, IfErr, IsErr, OnOk, OnErr};
 ghost use Rattle.std.specs.Prelude.{IfSome, true, false};
-ghost use Rattle.std.specs.Io.KnownBytes.{Appends, Consumes, IsAtEnd};
+ghost use Rattle.std.specs.Io.KnownBytes.{Appends};
 ghost use Rattle.jc_script.specs.Running.{ReadsAll};
 
 use crate::noted::Noted;

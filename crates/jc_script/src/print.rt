@@ -1,7 +1,6 @@
 //! Printing: each function appends bytes to what is there.
-ghost use Rattle.std.specs.Prelude.{◌≡◌, ◌++◌, OnOk, decimal, codes, List, ℕ};
+ghost use Rattle.std.specs.Prelude.{◌≡◌, ◌++◌, OnOk, decimal};
 ghost use Rattle.std.specs.List.{flat_map};
-ghost use Rattle.jc_types.specs.Refusals.{refusal_name};
 ghost use Rattle.jc_script.specs.Printing.{value_text, value_or_none_text, coded_text, refusal_text, flag_text, reply_text};
 ghost use Rattle.jc_script.specs.Printing.{place_text, subject, piece_text, fault_line};
 

@@ -1,5 +1,5 @@
 -- The lines of a script: its first line, and what is after it.
-use Rattle.jc_shell.proofs.Common.{◌≡◌, ◌==◌, ◌||◌, ℕ, ◌+◌, Bool, true, false, cond, List, [], ◌∷◌, ◌++◌, Some, refl, sym, ap, ◌∙◌, inl, inr, arith, pieces_some, pieces_of, OpenedWorld, Prints, Transcript, fault_of, Fault, LineFault, fault_line, has_feed}
+use Rattle.jc_shell.proofs.Common.{◌≡◌, ◌==◌, ℕ, ◌+◌, Bool, true, false, cond, List, [], ◌∷◌, ◌++◌, Some, refl, sym, ap, ◌∙◌, inl, inr, arith, pieces_some, pieces_of, OpenedWorld, Prints, Transcript, fault_of, Fault, LineFault, fault_line, has_feed}
 use Rattle.std.proofs.lemmas.Bool.{or_parts}
 use Rattle.jc_script.specs.declared.run.RunEnd.{RunEnd}
 

@@ -1,5 +1,5 @@
 -- What was read, answered and written, one part after another.
-use Rattle.jc_shell.proofs.Common.{◌≡◌, ◌≤◌, ◌-◌, ◌+◌, ℕ, List, [], ◌∷◌, ◌++◌, length, take, drop, Option, None, Some, Result, Ok, Err, OnOk, IfErr, inl, inr, ◌⊎◌, false, refl, sym, ap, ◌∙◌, append_assoc, append-nil, arith, drop-append_seam, take-append-add, take-length, flat_map-append, length-append, take-append-le, Appends, Consumes, IsAtEnd, codes, Read, TooLong, OutOfMemory, Write, OpenedWorld, Holds, Saved, Saves, Accepted, AnswersLine, AreAnswered, has_feed, nobody, script_of, appends-then}
+use Rattle.jc_shell.proofs.Common.{◌≡◌, ◌-◌, ◌+◌, ℕ, List, [], ◌∷◌, ◌++◌, length, drop, Option, None, Some, Result, Ok, Err, OnOk, IfErr, inl, inr, ◌⊎◌, false, refl, sym, ap, ◌∙◌, append_assoc, append-nil, arith, drop-append_seam, take-append-add, take-length, flat_map-append, length-append, take-append-le, Appends, Consumes, IsAtEnd, codes, Read, TooLong, OutOfMemory, Write, OpenedWorld, Holds, Saved, Saves, Accepted, AnswersLine, AreAnswered, has_feed, nobody, script_of, appends-then}
 use Rattle.jc_shell.specs.declared.run.ShellFault.{ShellFault}
 use Rattle.jc_shell.specs.Running.{EndsDialogue, LastText, RunsDialogue, Stopped, WrittenBy}
 use Rattle.jc_shell.proofs.Turns.{saves_none, saves_then, script_more}

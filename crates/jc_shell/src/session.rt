@@ -1,5 +1,5 @@
 //! A session: the lines that were accepted so far, and the world that they have led to.
-ghost use Rattle.std.specs.Prelude.{◌≡◌, ◌≢◌, ◌⊎◌, ◌++◌, ◌∷◌, ◌+◌, ◌≤◌, [], List, ℕ, false, length, OnOk, OnErr, IfOk};
+ghost use Rattle.std.specs.Prelude.{◌≡◌, ◌≢◌, ◌⊎◌, ◌++◌, ◌∷◌, ◌+◌, ◌≤◌, [], List, ℕ, false, length, OnOk, OnErr};
 ghost use Rattle.jc_script.specs.Places.{complaint};
 ghost use Rattle.jc_script.specs.Transcript.{opened_world};
 ghost use Rattle.jc_shell.specs.Holding.{Holds};

@@ -1,6 +1,6 @@
 //! The shell's own words.
-ghost use Rattle.std.specs.Prelude.{◌≡◌, drop};
-ghost use Rattle.jc_shell.specs.ShellWords.{help_text, name_in, word_of};
+ghost use Rattle.std.specs.Prelude.{◌≡◌};
+ghost use Rattle.jc_shell.specs.ShellWords.{name_in, word_of};
 
 use jc_script::read::words::is;
 

@@ -3,7 +3,7 @@
 --     number_stays, numbers_stay    numbers stay in a longer table
 --     numbers_push                  one more thing, with its number
 --     things_equal, numbers_equal   numbers are of one list of things, and in a table of distinct things these have one list of numbers
-use Rattle.jc_snapshot.proofs.Common.{◌≡◌, ℕ, zero, suc, ◌<◌, ◌+◌, List, [], ◌∷◌, ◌++◌, length, Some, slice_get, sym, refl, ap, ◌∙◌, append_assoc, append-nil, take, get_or, add-one, same_Some, map-append, IsNumberOf, AreNumbers, Continues, IsAbsent, IsDistinctTable}
+use Rattle.jc_snapshot.proofs.Common.{◌≡◌, ℕ, ◌<◌, ◌+◌, List, [], ◌∷◌, ◌++◌, length, Some, slice_get, sym, refl, ap, ◌∙◌, append_assoc, append-nil, take, get_or, add-one, same_Some, map-append, IsNumberOf, AreNumbers, Continues, IsDistinctTable}
 use Rattle.std.proofs.Math.Seq.{take-suc}
 use Rattle.jc_types.proofs.CallerLemmas.{stands_on}
 

@@ -1,5 +1,5 @@
 //! A call under way as a row of numbers.
-ghost use Rattle.std.specs.Prelude.{◌≡◌, ◌∷◌, [], List, ℕ, IfOk};
+ghost use Rattle.std.specs.Prelude.{◌≡◌, List, ℕ, IfOk};
 ghost use Rattle.jc_world.specs.Calls.{looked_in};
 ghost use Rattle.jc_snapshot.specs.Numbers.{AreNumbers, Continues};
 ghost use Rattle.jc_snapshot.specs.Rows.{flat, AreRows};

@@ -5,7 +5,7 @@ ghost use Rattle.jc_world.specs.Essence.{answer_in, essence_of};
 ghost use Rattle.jc_world.specs.Sound.{HaveNoneEnded};
 ghost use Rattle.jc_snapshot.specs.Numbers.{AreNumbers, Continues};
 ghost use Rattle.jc_snapshot.specs.Rows.{flat, AreRows};
-ghost use Rattle.jc_snapshot.specs.Snapshot.{IsStripeRow, GrowsTo, origin_word, bit, scalars_of};
+ghost use Rattle.jc_snapshot.specs.Snapshot.{IsStripeRow, GrowsTo, origin_word, bit};
 ghost use Rattle.jc_stripe.specs.OrderOfUse.{by_use};
 
 use crate::rows::{five_rows, push_row};

@@ -9,8 +9,12 @@
 --     picker_parks, picked_parks          a pick-up finds its step parked, and leaves it so no more
 --     others_park                         it parks of the steps at other places what was parked
 --     again_parks_same                    a pick-up that is told to retry parks what was parked
+--     all_at                              what all of a list pass, that at a place does
 --     invokes                             only an `Invoke` is given a processor's ticket
 --     asks_none, answering_asks           where there is nothing to write, and what answers at once, asks nobody
+--     joins_get                           what may join a load is a `Get`
+--     fewer_than                          a number that isn't at least another is below it
+--     clash                               no test both passes and fails
 --     loads_asked                         what asks the loader first loads a key whole
 --     next_begun                          a first phase doesn't make the next number of a reservation less
 --     without_none                        the reservations without a key that none of them has
@@ -28,6 +32,8 @@
 --     there_behind                        what is in a list is in a longer one, behind what comes before it
 --     adds_whole, gains_whole             a step that is added or gained is in the whole history, and one own step more
 --     ask_found                           a reservation that is found asks what it asked
+--     by_use-append                       the order of use after two lists of events, one after the other
+--     past-snoc                           the events of generations with one more
 --     stands_at                           the place of an event is the number of those before it
 --     may_in_all                          a step that may come after its session's own steps of all generations may come after the whole
 --                                         history
@@ -75,14 +81,15 @@ use Rattle.jc_stripe.specs.Reached.{IsReached, may_share}
 use Rattle.jc_stripe.specs.OnePhase.{is_parked, own_steps, GainsOwn}
 use Rattle.jc_stripe.specs.OwnSteps.{AddsOwn, HasOneMore}
 use Rattle.jc_stripe.proofs.Settled.{claim_left, keyed_callers}
-pub use Rattle.jc_stripe.proofs.Refusing.{asks_none, answering_asks}
+pub use Rattle.jc_stripe.proofs.Refusing.{asks_none, answering_asks, clash, fewer_than, joins_get}
 pub use Rattle.jc_stripe.proofs.Settled.{loads_asked}
 pub use Rattle.jc_stripe.proofs.Numbering.{without_none}
 pub use Rattle.jc_stripe.proofs.Uniform.{next_begun}
 pub use Rattle.jc_stripe.proofs.AllEntries.{distinct-append, all_entries_once, once_unless_shared}
 pub use Rattle.jc_stripe.proofs.Kept.{kept_few, kept_once, kept_own}
 pub use Rattle.jc_stripe.proofs.Refusing.{call_below, ends_numbers, lacks_room, put_off_or_full}
-pub use Rattle.jc_stripe.proofs.Renewing.{stays_alone, stays_or_renews}
+pub use Rattle.jc_stripe.proofs.Renewing.{past-snoc, stays_alone, stays_or_renews}
+pub use Rattle.jc_stripe.proofs.Used.{by_use-append}
 pub use Rattle.jc_stripe.proofs.WholeSteps.{of_same, whole_goes_on, own_stay, there_behind, adds_whole, gains_whole, may_in_all}
 pub use Rattle.jc_stripe.proofs.Opened.{opened_len, opened_at, opened_opens, opened_reached}
 use Rattle.jc_stripe.proofs.ParkedSteps.{parked-joined, parked-dissolved, parked-answered, parked-callers}
@@ -111,7 +118,7 @@ pub beginner_parks : (old : State) (caller : Caller) (key : Bytes) → MayBegin 
 beginner_parks old caller key may = unparked caller key old.joiners may.apart
 
 -- what all of a list pass, that at a place does
-all_at : {A : Type 0} (p : A → Bool) (xs : List A) (i : ℕ) (x : A) → list_all p xs ≡ true → slice_get xs i ≡ Some x → p x ≡ true
+pub all_at : {A : Type 0} (p : A → Bool) (xs : List A) (i : ℕ) (x : A) → list_all p xs ≡ true → slice_get xs i ≡ Some x → p x ≡ true
 all_at p [] i x all h = cc
 all_at p (y ∷ ys) zero x all h = let is : y ≡ x = cc in ap p (sym is) ∙ (and_parts (p y) (list_all p ys) all).0
 all_at p (y ∷ ys) (suc i) x all h = all_at p ys i x (and_parts (p y) (list_all p ys) all).1 h

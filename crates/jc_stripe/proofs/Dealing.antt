@@ -4,8 +4,6 @@
 --                     a list with one element more, cut off at a length
 --     deal_in         one entry more, for which there is room, and which isn't dropped
 --     deal_out        one entry more, for which there is no room, and which is dropped
---     kept_few, kept_once, kept_own
---                     what is kept is not too much, has each key once, and is of the stripe's keys
 use Rattle.std.proofs.Common.{◌≡◌, ◌<◌, ◌≤◌, ℕ, zero, suc, List, [], ◌∷◌, ◌++◌, Bool, true, false, cond, length, take, set, Some, option_map, ⊎_elim, refl, sym, ap, ◌∙◌, subst, append_assoc, append-nil, arith}
 use Rattle.std.specs.List.{slice_get}
 use Rattle.std.proofs.lemmas.List.{take_all, take-append-le, length-take}

@@ -1,7 +1,7 @@
 -- Every phase leaves each session's own steps before the next call's number.
 --     behind       at first, and after a phase whose own session stays before
 --     may_behind   a call with that number may begin, if the stripe is clear for it
-use Rattle.std.proofs.Common.{◌≡◌, ◌==◌, ◌&&◌, ◌||◌, ◌+◌, ◌≤◌, ◌<◌, ℕ, List, [], ◌∷◌, ◌++◌, Bool, true, false, not, nat_lt, refl, sym, ap, ◌∙◌, subst, arith, None, Some}
+use Rattle.std.proofs.Common.{◌≡◌, ◌==◌, ◌&&◌, ◌||◌, ◌+◌, ◌≤◌, ◌<◌, ℕ, List, true, false, not, nat_lt, refl, sym, ap, ◌∙◌, subst, arith, None, Some}
 use Rattle.std.proofs.lemmas.Bool.{and_parts, eqb-true}
 use Rattle.std.proofs.lemmas.Bool.Decides.{nat_tests}
 use Rattle.std.specs.List.{list_all}
@@ -17,7 +17,7 @@ use Rattle.jc_model.specs.declared.event.Event.TheVariants.{Step, Evict}
 use Rattle.jc_model.specs.Cache.{Bytes}
 use Rattle.jc_stripe.specs.State.{State, is_of}
 use Rattle.jc_stripe.specs.OnePhase.{own_steps, IsUniform, IsPhaseOf, OnePhase}
-use Rattle.jc_stripe.specs.OwnSteps.{is_before_call, CallerNumbers, OwnNumbers, OwnSteps, HasOneMore}
+use Rattle.jc_stripe.specs.OwnSteps.{is_before_call, CallerNumbers, OwnNumbers, OwnSteps}
 use Rattle.jc_stripe.specs.Phases.{MayBegin, Begins, Commits, PicksUp, is_other_call, is_other_join}
 use Rattle.jc_stripe.specs.Reached.{IsReached}
 use Rattle.jc_stripe.specs.Tickets.{JoinClaim}
@@ -26,6 +26,7 @@ use Rattle.jc_stripe.specs.Outcomes.{StepDone}
 use Rattle.jc_stripe.specs.Outcomes as begun
 use Rattle.jc_stripe.specs.Polled as polled
 use Rattle.jc_stripe.proofs.CallerLemmas.{adds_one, gains_one}
+use Rattle.jc_stripe.proofs.OwnNumbers.{all_one_more, or_last}
 use Rattle.jc_stripe.specs.Tests.{is_clear}
 use Rattle.jc_stripe.specs.DeskState.{HasStepsBefore}
 
@@ -84,19 +85,6 @@ begun_same one old new session call = same_own one old new session call (call + 
 pub left_same : (one : OnePhase) (old new : State) (session call : ℕ) → IsReached old → HasStepsBefore old call → IsPhaseOf session old new
     → own_steps session new ≡ own_steps session old → HasStepsBefore new call
 left_same one old new session call = same_own one old new session call call (omega arith)
-
-all_more : {A : Type 0} (p : A → Bool) (x : A) (xs ys : List A) → p x ≡ true → list_all p (xs ++ ys) ≡ true → list_all p (xs ++ x ∷ ys) ≡ true
-all_more p x [] ys here all = ap (λ b. b && list_all p ys) here ∙ all
-all_more p x (z ∷ xs) ys here all =
-    let parts = and_parts (p z) (list_all p (xs ++ ys)) all in
-    ap (λ b. b && list_all p (xs ++ x ∷ ys)) parts.0 ∙ all_more p x xs ys here parts.1
-
-all_one_more : (p : Event → Bool) (event : Event) (old new : List Event) → HasOneMore event old new → p event ≡ true → list_all p old ≡ true → list_all p new ≡ true
-all_one_more p event old new more here all = ap (list_all p) more.is ∙ all_more p event more.before more.after here (ap (list_all p) (sym more.was) ∙ all)
-
-or_last : (a b : Bool) → b ≡ true → (a || b) ≡ true
-or_last true b h = refl
-or_last false b h = h
 
 below : (n m : ℕ) → n < m → nat_lt n m ≡ true
 below n m low = grind (arith, nat_tests)

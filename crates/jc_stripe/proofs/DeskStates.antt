@@ -28,6 +28,7 @@ use Rattle.jc_stripe.specs.Generations.{after_renewal}
 use Rattle.jc_stripe.specs.Renewal.{RenewsIfFull, is_renewable}
 use Rattle.jc_stripe.specs.DeskState.{DeskState, HasStepsBefore, IsDesk, is_joined_before, next_caller, may_call_next}
 use Rattle.jc_stripe.specs.DeskPhases.{newest}
+use Rattle.jc_stripe.proofs.OwnNumbers.{below_next}
 
 -- Joiners whose calls are before a number.
 
@@ -42,9 +43,6 @@ later_joined next more js le all = all_imply (is_joined_before next) (is_joined_
 
 pub same_joined : (old new : State) (next more : ℕ) → next ≤ more → new.joiners ≡ old.joiners → AreJoinedBefore old next → AreJoinedBefore new more
 same_joined old new next more le same all = ap (list_all (is_joined_before more)) same ∙ later_joined next more old.joiners le all
-
-below_next : (n : ℕ) → nat_lt n (n + 1) ≡ true
-below_next n = grind (arith, nat_tests)
 
 pub one_joined : (old new : State) (join : JoinClaim) (next : ℕ) → join.caller.call ≡ next → new ≡ with_joiner old join → AreJoinedBefore old next → AreJoinedBefore new (next + 1)
 one_joined old new join next is with all =

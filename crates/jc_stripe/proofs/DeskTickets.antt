@@ -1,6 +1,5 @@
 -- A ticket by its number: its reservation is out, and without it the others are left in their order.
 --     has_number     a reservation has this number
---     found_ticket   the reservation at the place of a number is the first with it
 --     out_at         it is out
 --     left_at        without it those of the other keys are left
 use Rattle.std.proofs.Common.{◌≡◌, ◌==◌, ◌<◌, ℕ, zero, suc, List, [], ◌∷◌, length, map, Bool, true, false, None, Some, position, remove, get_or, slice_index_or, sym, ap, ◌∙◌, arith}

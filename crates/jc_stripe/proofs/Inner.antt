@@ -1,5 +1,5 @@
 -- What a stripe's fields say of its state.
-use Rattle.std.proofs.Common.{List, [], ◌∷◌, ◌||◌, cond, is_some, ◌≡◌, ◌≤◌, ◌+◌, ◌&&◌, length, Bool, true, false, Some, find, refl, ap, ◌∙◌, arith}
+use Rattle.std.proofs.Common.{List, [], ◌∷◌, ◌||◌, cond, is_some, ◌≡◌, ◌≤◌, ◌+◌, length, Bool, true, false, Some, find, refl, ap, ◌∙◌, arith}
 use Rattle.std.specs.List.{list_any}
 use Rattle.std.specs.FinMap.{len, from_entries}
 use Rattle.jc_model.specs.Cache.{Bytes, key_cmp}
@@ -13,11 +13,6 @@ use Rattle.jc_stripe.specs.Inside.{IsStripe, state_of}
 -- the places that are gone are those of the events and the promised ones
 pub used_of : (i : Inside) → IsStripe i → places_used i.history ≡ length (state_of i).history + promised (state_of i)
 used_of i sound = ap (λ n. length i.history.events + n) sound.promised
-
-three : (a b c d : Bool) → a ≡ true → b ≡ true → c ≡ d → (a && b && c) ≡ d
-three true true c d g h e = e
-three true false c d g h e = cc
-three false b c d g h e = cc
 
 -- how many entries there are
 pub entries_len : (i : Inside) → IsStripe i → length i.entries.list ≤ i.entries.capacity

@@ -59,9 +59,6 @@ picks_up_on old new join (polled.NotYet back) h = same_on old new _ h.3 (record 
 
 -- 2. The entry of a reserved key stays.
 
-stays_so : (old new mid : State) (q : Bytes) → new ≡ mid → entry_at mid.cache q ≡ entry_at old.cache q → entry_at new.cache q ≡ entry_at old.cache q
-stays_so old new mid q e h = ap (λ (s : State). entry_at s.cache q) e ∙ h
-
 pub begins_keeps : (old new : State) (caller : Caller) (key : Bytes) (op : Op) (b : Begun) (q : Bytes) → IsReached old → Begins old caller key op b new → is_reserved old q ≡ true → entry_at new.cache q ≡ entry_at old.cache q
 begins_keeps old new caller key op (begun.Refused refusal) q reached h there = ap (λ (s : State). entry_at s.cache q) h.1
 begins_keeps old new caller key op (begun.Done done) q reached h there =

@@ -10,11 +10,11 @@ use Rattle.jc_model.specs.Cache.{Bytes, entry_at}
 use Rattle.jc_model.proofs.CallerLemmas.{same_key}
 use Rattle.jc_history.specs.Past.{Past, places_used, promise, unpromise}
 use Rattle.jc_reserve.specs.Table.{Table}
-use Rattle.jc_reserve.specs.Reserving.{CanReserve, is_held}
+use Rattle.jc_reserve.specs.Reserving.{CanReserve}
 use Rattle.jc_reserve.specs.Reserving as reserving
 use Rattle.jc_inflight.specs.declared.joiner.Joiner.{Joiner}
 use Rattle.jc_inflight.specs.declared.joiner.JoinState.TheVariants.{Waiting}
-use Rattle.jc_inflight.specs.Joining.{belongs_to, has_joined, waits_for, waits}
+use Rattle.jc_inflight.specs.Joining.{has_joined, waits_for, waits}
 use Rattle.jc_inflight.specs.Joining as joining
 use Rattle.jc_inflight.proofs.CallerLemmas.{waiting-after_dissolve}
 use Rattle.jc_types.specs.declared.limits.TheConstants.{STEP_PLACES, HIT_PLACES, JOINERS_MAX}

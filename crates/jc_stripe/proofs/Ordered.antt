@@ -25,17 +25,14 @@ use Rattle.jc_entries.specs.ByUse.{after_eviction}
 use Rattle.jc_entries.proofs.CallerLemmas.{lru_victim-found}
 use Rattle.jc_stripe.specs.State.{State, is_of}
 use Rattle.jc_stripe.specs.OrderOfUse.{is_use, used_at, by_use, least_used, pinned}
+use Rattle.jc_stripe.specs.OwnSteps.{may_come_all}
 use Rattle.jc_stripe.specs.Reached.{is_own}
 use Rattle.jc_stripe.specs.Appending.{without_own_entry, entries_after}
 use Rattle.jc_types.specs.declared.caller.Caller.{Caller}
 
 -- 1. What may come behind what.
 
--- a step of this session, number and key may come behind all of these
-abbrev pub comes_behind : List Event → Caller → Bytes → Bool
-comes_behind events caller key = list_all (λ e. may_come e caller key) events
-
-pub behind-append : (xs ys : List Event) (caller : Caller) (key : Bytes) → comes_behind xs caller key ≡ true → comes_behind ys caller key ≡ true → comes_behind (xs ++ ys) caller key ≡ true
+pub behind-append : (xs ys : List Event) (caller : Caller) (key : Bytes) → may_come_all xs caller key ≡ true → may_come_all ys caller key ≡ true → may_come_all (xs ++ ys) caller key ≡ true
 behind-append xs ys caller key g h = list_all-append (λ e. may_come e caller key) xs ys ∙ and_from _ _ g h
 
 comes : (a b l k : Bool) → (not a || (b && not k)) ≡ true → (not a || l || (b && not k)) ≡ true
@@ -62,11 +59,11 @@ away false l c h = refl
 pub comes_away : (who : Caller) (k : Bytes) (op : Op) (out : Out) (shared : Option ℕ) (reply : Reply) (caller : Caller) (key : Bytes) → not (caller.session == who.session) ≡ true → may_come (Step who op k out shared reply) caller key ≡ true
 comes_away who k op out shared reply caller key h = away (who.session == caller.session) (nat_lt who.call caller.call) _ (ap not (nat_eq_equiv.symm who.session caller.session) ∙ h)
 
-behind-victim : (victim : Option Bytes) (caller : Caller) (key : Bytes) → comes_behind (victim_events victim) caller key ≡ true
+behind-victim : (victim : Option Bytes) (caller : Caller) (key : Bytes) → may_come_all (victim_events victim) caller key ≡ true
 behind-victim None caller key = refl
 behind-victim (Some v) caller key = refl
 
-behind-evicted : (k : Bytes) (cause : Option Cause) (caller : Caller) (key : Bytes) → comes_behind (evicted_events k cause) caller key ≡ true
+behind-evicted : (k : Bytes) (cause : Option Cause) (caller : Caller) (key : Bytes) → may_come_all (evicted_events k cause) caller key ≡ true
 behind-evicted k None caller key = refl
 behind-evicted k (Some cause) caller key = refl
 
@@ -75,7 +72,7 @@ abbrev pub beside_callers : Caller → Bytes → Bytes → List Caller → Bool
 beside_callers caller key k callers = list_all (λ c. not (caller.session == c.session) || ((caller.call == c.call) && not (pointwise ◌==◌ key k))) callers
 
 behind-shared : (place : ℕ) (k : Bytes) (answer : LoadAnswer) (callers : List Caller) (caller : Caller) (key : Bytes) → beside_callers caller key k callers ≡ true
-    → comes_behind (map (shared_event place k answer) callers) caller key ≡ true
+    → may_come_all (map (shared_event place k answer) callers) caller key ≡ true
 behind-shared place k answer [] caller key h = refl
 behind-shared place k answer (c ∷ cs) caller key h =
     let parts = and_parts (not (caller.session == c.session) || ((caller.call == c.call) && not (pointwise ◌==◌ key k))) (beside_callers caller key k cs) h in
@@ -83,7 +80,7 @@ behind-shared place k answer (c ∷ cs) caller key h =
 
 -- a step that is beside those of a group may come behind it
 pub behind-group : (place : ℕ) (g : Group) (caller : Caller) (key : Bytes) → (not (caller.session == g.caller.session) || ((caller.call == g.caller.call) && not (pointwise ◌==◌ key g.step.key))) ≡ true
-    → beside_callers caller key g.step.key g.joined ≡ true → comes_behind (events_of place g) caller key ≡ true
+    → beside_callers caller key g.step.key g.joined ≡ true → may_come_all (events_of place g) caller key ≡ true
 behind-group place g caller key beside callers =
     let shared : List Event = map (shared_event (step_place place g) g.step.key g.step.out.load) g.joined in
     behind-append (victim_events g.victim ++ step_event g ∷ shared) (evicted_events g.step.key g.evicted) caller key
@@ -93,13 +90,13 @@ behind-group place g caller key beside callers =
 
 -- 2. The order of the events.
 
-follows_come : (xs : List Event) (who : Caller) (op : Op) (k : Bytes) (out : Out) (shared : Option ℕ) (reply : Reply) → list_all (λ e. may_follow e (Step who op k out shared reply)) xs ≡ comes_behind xs who k
+follows_come : (xs : List Event) (who : Caller) (op : Op) (k : Bytes) (out : Out) (shared : Option ℕ) (reply : Reply) → list_all (λ e. may_follow e (Step who op k out shared reply)) xs ≡ may_come_all xs who k
 follows_come [] who op k out shared reply = refl
 follows_come (Step who' op' k' out' shared' reply' ∷ xs) who op k out shared reply = ap (λ b. may_come (Step who' op' k' out' shared' reply') who k && b) (follows_come xs who op k out shared reply)
 follows_come (Evict k' cause ∷ xs) who op k out shared reply = follows_come xs who op k out shared reply
 
 -- a step more, behind which it may come
-pub order-pushed : (xs : List Event) (who : Caller) (op : Op) (k : Bytes) (out : Out) (shared : Option ℕ) (reply : Reply) → in_order xs ≡ true → comes_behind xs who k ≡ true → in_order (xs ++ Step who op k out shared reply ∷ []) ≡ true
+pub order-pushed : (xs : List Event) (who : Caller) (op : Op) (k : Bytes) (out : Out) (shared : Option ℕ) (reply : Reply) → in_order xs ≡ true → may_come_all xs who k ≡ true → in_order (xs ++ Step who op k out shared reply ∷ []) ≡ true
 order-pushed xs who op k out shared reply g h = order-last xs (Step who op k out shared reply) ∙ and_from _ _ g (follows_come xs who op k out shared reply ∙ h)
 
 follows_evict : (xs : List Event) (k : Bytes) (cause : Cause) → list_all (λ e. may_follow e (Evict k cause)) xs ≡ true
@@ -125,7 +122,7 @@ apart_callers (c ∷ cs) = list_all (λ d. not (d.session == c.session)) cs && a
 
 -- each of the callers may come behind these at a key
 abbrev pub callers_behind : List Event → Bytes → List Caller → Bool
-callers_behind events key callers = list_all (λ c. comes_behind events c key) callers
+callers_behind events key callers = list_all (λ c. may_come_all events c key) callers
 
 -- also behind one step more, of another session
 callers_pushed : (xs : List Event) (who : Caller) (k : Bytes) (op : Op) (out : Out) (shared : Option ℕ) (reply : Reply) (key : Bytes) (callers : List Caller) → list_all (λ d. not (d.session == who.session)) callers ≡ true
@@ -133,7 +130,7 @@ callers_pushed : (xs : List Event) (who : Caller) (k : Bytes) (op : Op) (out : O
 callers_pushed xs who k op out shared reply key [] apart h = refl
 callers_pushed xs who k op out shared reply key (c ∷ cs) apart h =
     let away = and_parts (not (c.session == who.session)) (list_all (λ d. not (d.session == who.session)) cs) apart in
-    let parts = and_parts (comes_behind xs c key) (callers_behind xs key cs) h in
+    let parts = and_parts (may_come_all xs c key) (callers_behind xs key cs) h in
     and_from _ _ (behind-append xs (Step who op k out shared reply ∷ []) c key parts.0 (and_from _ _ (comes_away who k op out shared reply c key away.0) refl))
     (callers_pushed xs who k op out shared reply key cs away.1 parts.1)
 
@@ -141,14 +138,14 @@ order-shared : (xs : List Event) (place : ℕ) (key : Bytes) (answer : LoadAnswe
     → in_order (xs ++ map (shared_event place key answer) callers) ≡ true
 order-shared xs place key answer [] g h apart = ap in_order (append-nil xs) ∙ g
 order-shared xs place key answer (c ∷ cs) g h apart =
-    let parts = and_parts (comes_behind xs c key) (callers_behind xs key cs) h in
+    let parts = and_parts (may_come_all xs c key) (callers_behind xs key cs) h in
     let aside = and_parts (list_all (λ d. not (d.session == c.session)) cs) (apart_callers cs) apart in
     ap in_order (sym (append_assoc xs (shared_event place key answer c ∷ []) (map (shared_event place key answer) cs)))
     ∙ order-shared (xs ++ shared_event place key answer c ∷ []) place key answer cs (order-pushed xs c Get key (load_only answer) (Some place) (reply_after Get None (load_only answer)) g parts.0) (callers_pushed xs c key Get (load_only answer) (Some place) (reply_after Get None (load_only answer)) key cs aside.0 parts.1) aside.1
 
 -- what is known of who puts a group down
 pub record MayPut (events : List Event) (caller : Caller) (key : Bytes) (callers : List Caller) : Type 0 where
-  pub behind : comes_behind events caller key ≡ true
+  pub behind : may_come_all events caller key ≡ true
   pub callers_behind : callers_behind events key callers ≡ true
   pub callers_away : list_all (λ d. not (d.session == caller.session)) callers ≡ true
   pub callers_apart : apart_callers callers ≡ true
@@ -156,7 +153,7 @@ pub record MayPut (events : List Event) (caller : Caller) (key : Bytes) (callers
 callers_victim : (xs : List Event) (victim : Option Bytes) (key : Bytes) (callers : List Caller) → callers_behind xs key callers ≡ true → callers_behind (xs ++ victim_events victim) key callers ≡ true
 callers_victim xs victim key [] h = refl
 callers_victim xs victim key (c ∷ cs) h =
-    let parts = and_parts (comes_behind xs c key) (callers_behind xs key cs) h in
+    let parts = and_parts (may_come_all xs c key) (callers_behind xs key cs) h in
     and_from _ _ (behind-append xs (victim_events victim) c key parts.0 (behind-victim victim c key)) (callers_victim xs victim key cs parts.1)
 
 -- a group more

@@ -1,4 +1,7 @@
 -- What the numbers of a session's own steps tell.
+--     all_one_more    what all of a list pass, and one more
+--     or_last         the last of two
+--     below_next      a number is below the next one
 --     own_numbers     the law
 use Rattle.std.proofs.Common.{◌≡◌, ◌==◌, ◌&&◌, ◌||◌, ◌+◌, ℕ, List, [], ◌∷◌, ◌++◌, Bool, true, false, not, Option, nat_lt, refl, sym, ap, ◌∙◌, arith}
 use Rattle.std.proofs.lemmas.Bool.{and_parts}
@@ -25,7 +28,7 @@ all_more p x (z ∷ xs) ys here all =
     let parts = and_parts (p z) (list_all p (xs ++ ys)) all in
     ap (λ b. b && list_all p (xs ++ x ∷ ys)) parts.0 ∙ all_more p x xs ys here parts.1
 
-all_one_more : (p : Event → Bool) (event : Event) (old new : List Event) → HasOneMore event old new → p event ≡ true → list_all p old ≡ true → list_all p new ≡ true
+pub all_one_more : (p : Event → Bool) (event : Event) (old new : List Event) → HasOneMore event old new → p event ≡ true → list_all p old ≡ true → list_all p new ≡ true
 all_one_more p event old new more here all = ap (list_all p) more.is ∙ all_more p event more.before more.after here (ap (list_all p) (sym more.was) ∙ all)
 
 -- 2. One step.
@@ -51,11 +54,11 @@ before_next : (caller : Caller) (event : Event) → is_before_call caller.sessio
 before_next caller (Step who op k out shared_with reply) h = less_next caller.session who.session caller.call who.call h
 before_next caller (Evict k cause) h = refl
 
-or_last : (a b : Bool) → b ≡ true → (a || b) ≡ true
+pub or_last : (a b : Bool) → b ≡ true → (a || b) ≡ true
 or_last true b h = refl
 or_last false b h = h
 
-below_next : (n : ℕ) → nat_lt n (n + 1) ≡ true
+pub below_next : (n : ℕ) → nat_lt n (n + 1) ≡ true
 below_next n = grind (arith, nat_tests)
 
 own_before_next : (caller : Caller) (op : Op) (key : Bytes) (out : Out) (shared_with : Option ℕ) (reply : Reply) → is_before_call caller.session (caller.call + 1) (Step caller op key out shared_with reply) ≡ true

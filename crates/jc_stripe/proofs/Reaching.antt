@@ -24,7 +24,7 @@ use Rattle.jc_stripe.specs.State.{State, is_key, is_reserved, IsOut, new_reserva
 use Rattle.jc_stripe.specs.Refusals.{first_refusal, first_asked, needs_free_key, places_needed, needs_reservation}
 use Rattle.jc_stripe.specs.Phases.{MayBegin, is_other_call, is_other_join, new_group, after_group, Steps, Begins, Commits, with_joiner, after_commit}
 use Rattle.jc_stripe.specs.Reached.{IsReached, IsUsed}
-use Rattle.jc_stripe.proofs.Refusing.{not_refused, roomy, alone_passes, answering_keeps, was_free, ticket_places, few_out, join_places, few_joined, asking_needs}
+use Rattle.jc_stripe.proofs.Refusing.{clash, not_refused, roomy, alone_passes, answering_keeps, was_free, ticket_places, few_out, join_places, few_joined, asking_needs}
 use Rattle.jc_stripe.proofs.Tables.{reached_reserved, reached_joined}
 use Rattle.jc_stripe.proofs.Beside.{ask_same, none_left}
 use Rattle.jc_stripe.proofs.Settled.{SharedAt, joins_same, joins_settled, remains_settled, may_commit, beside_found, callers_behind, callers_other, callers_apart, callers_beside, callers_left, claim_left_waiting, one_less_claimed, count_left, length_left}
@@ -149,10 +149,6 @@ commits_found old new r out done reached found steps =
       between = remains.between;
     } in
     subst IsReached (sym steps.after) next
-  where
-    clash : (b : Bool) → b ≡ true → b ≡ false → ⊥
-    clash true g h = cc
-    clash false g h = cc
 
 -- a last phase leads from a reached state to a reached one
 pub reached_commits : (old new : State) (r : Reservation) (out : Out) (done : StepDone) → IsReached old → Commits old r out done new → IsReached new

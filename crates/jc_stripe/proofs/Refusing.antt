@@ -121,7 +121,7 @@ join_if true true (Some x) o load h = cc
 join_if true false entry o load h = cc
 join_if false read entry o load h = cc
 
-joins_get : (op : Op) → may_join op ≡ true → op ≡ Get
+pub joins_get : (op : Op) → may_join op ≡ true → op ≡ Get
 joins_get Get h = refl
 joins_get op h = cc
 

@@ -17,7 +17,7 @@ use Rattle.jc_model.specs.declared.event.Cause.{Cause}
 use Rattle.jc_model.specs.declared.event.LoadAnswer.{LoadAnswer}
 use Rattle.jc_model.specs.Cache.{Bytes, Cache, key_cmp, entry_at, with_entry}
 use Rattle.jc_model.specs.Table.{entry_after, reply_after}
-use Rattle.jc_model.specs.Group.{Group, load_only, victim_events, step_event, step_place, shared_event, evicted_events, events_of, history_of, cache_after_group, without_own, cache_after_groups}
+use Rattle.jc_model.specs.Group.{Group, victim_events, step_event, step_place, shared_event, evicted_events, events_of, history_of, cache_after_group, without_own}
 use Rattle.jc_model.specs.Group as group
 use Rattle.jc_model.specs.Lawful.{IsLawful}
 use Rattle.jc_model.specs.Legal.{IsHistory, in_order}
@@ -31,9 +31,10 @@ use Rattle.jc_stripe.specs.OrderOfUse.{by_use, pinned, least_used}
 use Rattle.jc_stripe.specs.Phases.{is_other_call, is_other_join, new_group, inserts_here, overflows, own_cause, after_group}
 use Rattle.jc_stripe.specs.Reached.{IsUsed, may_end, may_share, is_own}
 use Rattle.jc_stripe.specs.Appending.{entries_after}
+use Rattle.jc_stripe.specs.OwnSteps.{may_come_all}
 use Rattle.jc_stripe.proofs.Used.{by_use-append, by_use-group, apart-left, from-left}
 use Rattle.jc_stripe.proofs.Lawfully.{history-push, lawful-push, cache_after-push, victim_known, own_entry}
-use Rattle.jc_stripe.proofs.Ordered.{comes_behind, behind-append, behind-group, own_least, own_left, own-group}
+use Rattle.jc_stripe.proofs.Ordered.{behind-append, behind-group, own_least, own_left, own-group}
 use Rattle.jc_stripe.specs.Phases as phases
 use Rattle.jc_types.specs.declared.caller.Caller.{Caller}
 use Rattle.jc_stripe.specs.declared.ticket.Reservation.{Reservation}
@@ -174,8 +175,8 @@ shares_on history place g (j ∷ js) shares apart callers =
     each [] h = refl
     each (c ∷ cs) h = h
 
-    one : (w : Bool) (callers : List Caller) → (not w || comes_behind history j.caller j.key) ≡ true → (not w || is_other_join g.caller g.step.key j) ≡ true
-        → list_all (λ c. not w || is_other_join c g.step.key j) g.joined ≡ true → (not w || comes_behind (history ++ events_of place g) j.caller j.key) ≡ true
+    one : (w : Bool) (callers : List Caller) → (not w || may_come_all history j.caller j.key) ≡ true → (not w || is_other_join g.caller g.step.key j) ≡ true
+        → list_all (λ c. not w || is_other_join c g.step.key j) g.joined ≡ true → (not w || may_come_all (history ++ events_of place g) j.caller j.key) ≡ true
     one false callers s a c = refl
     one true callers s a c = behind-append history (events_of place g) j.caller j.key s (behind-group place g j.caller j.key a c)
 

@@ -7,7 +7,7 @@ use Rattle.jc_model.specs.declared.event.Op.{Op}
 use Rattle.jc_model.specs.Cache.{Bytes}
 use Rattle.jc_model.specs.Group.{Group, nothing_said}
 use Rattle.jc_inflight.specs.declared.joiner.Joiner.{Joiner}
-use Rattle.jc_inflight.specs.Joining.{belongs_to, is_waiting, waits_for, callers_of}
+use Rattle.jc_inflight.specs.Joining.{callers_of}
 use Rattle.jc_inflight.specs.Joining as joining
 use Rattle.jc_inflight.specs.Resolving.{after_resolve}
 use Rattle.jc_inflight.specs.Dissolving.{after_dissolve}

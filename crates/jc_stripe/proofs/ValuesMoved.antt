@@ -7,7 +7,6 @@ use Rattle.std.proofs.Common.{◌≡◌, ◌==◌, ◌&&◌, ◌||◌, ◌+◌, 
 use Rattle.std.proofs.lemmas.Bool.{and_parts}
 use Rattle.std.proofs.lemmas.Bool.Decides.{nat_tests}
 use Rattle.std.proofs.lemmas.Cmp.{nat_list_eq_equiv}
-use Rattle.std.proofs.lemmas.List.Sorted.{list_any-IsPermutation, IsPermutation-map, IsPermutation-reverse}
 use Rattle.std.specs.Ordering.{eq_by_cmp}
 use Rattle.std.specs.List.{list_any}
 use Rattle.std.specs.Map.{keys_of}
@@ -34,6 +33,7 @@ use Rattle.jc_stripe.specs.Phases.{Steps, Commits, own_cause, inserts_here, over
 use Rattle.jc_stripe.specs.Reached.{IsReached}
 use Rattle.jc_stripe.proofs.Used.{find-entry}
 use Rattle.jc_stripe.specs.ValuesMoved.{MovesMade, MovesValues, is_new_value, value_lost, victim_entry, nothing_moved, KeepsOtherEntries}
+use Rattle.jc_entries.proofs.CallerLemmas.{any_key}
 
 -- 1. Who is evicted.
 
@@ -98,9 +98,6 @@ missing_any key (e ∷ es) h = by (eq_by_cmp key_cmp key e.0) refl h (λ none. m
     by true is h more = cc
     by false is h more = (λ i. (texts_ties key e.0 ∙ is) i || more h i)
 
-turned_any : (q : Bytes → Bool) (entries : List (Bytes × Bytes)) → list_any q (keys_of (reverse entries)) ≡ list_any q (keys_of entries)
-turned_any q entries = sym (list_any-IsPermutation q _ _ (IsPermutation-map (λ e. e.0) entries (reverse entries) (IsPermutation-reverse entries)))
-
 none_of : (o : Option Bytes) → is_some o ≡ false → o ≡ None
 none_of None h = refl
 none_of (Some x) h = cc
@@ -109,7 +106,7 @@ freed_least : (old : State) (r : Reservation) (place : ℕ) → IsReached old �
 freed_least old r place reached missing =
     let entries = by_use old.opening old.history in
     let none : finite.find key_cmp r.key entries ≡ None = find-entry entries r.key ∙ ap (λ c. entry_at c r.key) (sym reached.used.cache) ∙ none_of (entry_at old.cache r.key) missing in
-    find_out (keys_of (reverse entries)) old.reservations r.key (turned_any (pointwise ◌==◌ r.key) entries ∙ missing_any r.key entries none)
+    find_out (keys_of (reverse entries)) old.reservations r.key (any_key (pointwise ◌==◌ r.key) entries ∙ missing_any r.key entries none)
 
 pub commit_next : (old new : State) (r : Reservation) (v : Bytes) (out : Out) (done : StepDone) → IsReached old → Commits old r out done new → done.victim ≡ Some v → IsNext old r.key v
 commit_next old new r v out done reached commits h =

@@ -3,7 +3,7 @@
 //!
 //! The events of a step are in a fixed order: the eviction that makes room for it, the step, the shared steps of the calls that
 //! joined its load, and the eviction of its own key.
-ghost use Rattle.std.specs.Prelude.{◌≡◌, ◌+◌, ◌≤◌, ◌<◌, ◌^◌, [], ◌∷◌, ◌++◌, map, length, Option, None, Some, IsTrue, option_map};
+ghost use Rattle.std.specs.Prelude.{◌≡◌, ◌+◌, ◌≤◌, ◌<◌, ◌^◌, [], ◌∷◌, ◌++◌, map, length, Option, None, Some, option_map};
 ghost use Rattle.std.specs.FinMap as finite;
 ghost use Rattle.jc_model.specs.Cache.{key_cmp};
 ghost use Rattle.jc_model.specs.Table.{holds};

@@ -8,7 +8,7 @@
 //! - The stripe is of origin `Played`, because the outside answers are what the driver states.
 //! - A full generation ends before a first phase, so that no driver meets a full history. A driver that wants the events is
 //!   answered `Full` first.
-ghost use Rattle.std.specs.Prelude.{◌≡◌, ◌==◌, ◌≤◌, ◌<◌, true, not, Some, Ok, ◌++◌, length, slice_get, is_some, IsTrue, IfOk, IfErr, IfSome, IfNone, OnOk, OnErr};
+ghost use Rattle.std.specs.Prelude.{◌≡◌, ◌==◌, ◌≤◌, ◌<◌, true, not, Some, Ok, ◌++◌, length, slice_get, is_some, IfOk, IfErr, IfSome, IfNone, OnOk, OnErr};
 ghost use Rattle.std.specs.Bool.{OnTrue, OnFalse};
 ghost use Rattle.std.specs.List.{list_all};
 ghost use Rattle.std.specs.Option.{option_copied};

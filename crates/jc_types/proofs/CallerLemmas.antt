@@ -1,14 +1,18 @@
 -- Lemmas for the crates above: the first place at which a test passes, and what is found, left out or mapped there; what is known of
--- an element that is found; a test that all elements pass; and what stands at a place of a longer list.
-use Rattle.std.proofs.Common.{◌≡◌, ℕ, ◌-◌, suc, ◌<◌, is_some, Option, List, [], ◌∷◌, ◌++◌, take, drop, Bool, true, false, cond, not, length, Some, None, ap, refl, sym, ◌∙◌, arith, find, filter, map, get_or, ◌||◌, ◌+◌, subst}
+-- an element that is found; a test that all elements pass; what stands at a place of a longer list; and that a cache has a stripe.
+use Rattle.std.proofs.Common.{◌≡◌, ℕ, ◌-◌, suc, ◌<◌, is_some, Option, List, [], ◌∷◌, ◌++◌, take, drop, Bool, true, false, cond, not, length, Some, None, ap, refl, sym, ◌∙◌, arith, find, filter, map, get_or, ◌||◌, ◌+◌, subst, nat_le, Result, Ok, Err}
 use Rattle.std.proofs.lemmas.Grind.{common_steps}
 use Rattle.std.proofs.lemmas.List.{map-append, take-map, drop-map, length-append, get_or_append_left}
 use Rattle.std.proofs.lemmas.List.Elements.{All-head, All-tail}
 use Rattle.std.proofs.lemmas.List.Folds.{find_at, find-append}
 use Rattle.std.proofs.lemmas.Option.{slice_get_read, slice_get_within, get_or_from_slice_get, slice_get-get_or}
-use Rattle.std.proofs.lemmas.Bool.{and_parts, and_from}
+use Rattle.std.proofs.lemmas.Bool.{and_parts, and_from, leb-true}
 use Rattle.std.specs.Option.{option_or}
 use Rattle.std.specs.List.{list_all, list_any, slice_get, position, position_or_len, remove, AllPairs, All}
+use Rattle.jc_types.specs.Limits.{is_between, check}
+use Rattle.jc_types.specs.declared.config.Config.{Config}
+use Rattle.jc_types.specs.declared.limits.TheConstants.{STRIPES_MAX}
+use Rattle.jc_types.specs.declared.refusal.Refusal.{Refusal}
 
 module _ {X : Type 0} (p : X → Bool) where
   -- whether there is such a place
@@ -127,3 +131,12 @@ stands_on xs ys k x h =
 pub none_from : {X : Type 0} (o : Option X) → is_some o ≡ false → o ≡ None
 none_from None h = refl
 none_from (Some x) h = cc
+
+-- a number that is not refused is within its limits
+pub in_limits : (b : Bool) (more : Result (Unit {0}) Refusal) (refusal : Refusal) → cond b more (Err refusal) ≡ Ok tt → b ≡ true
+in_limits true more refusal h = refl
+in_limits false more refusal h = cc
+
+-- there is a stripe
+pub some_stripe : (config : Config) → check config ≡ Ok tt → 0 < config.stripes
+some_stripe config h = leb-true 1 config.stripes ((and_parts (nat_le 1 config.stripes) (nat_le config.stripes STRIPES_MAX) (in_limits (is_between 1 STRIPES_MAX config.stripes) _ _ h)).0)

@@ -1,8 +1,8 @@
 -- Stripes that are alike make the same phases, and are alike behind them.
 use Rattle.std.proofs.Common.{◌≡◌, ◌≤◌, ℕ, zero, suc, ◌+◌, List, [], ◌∷◌, ◌++◌, length, filter, find, Bool, true, false, not, ◌&&◌, Option, None, Some, is_some, option_map, slice_get, nat_le, nat_lt, if◌then◌else◌, sym, refl, ap, ◌∙◌, subst, true≢false, arith}
-use Rattle.jc_world.proofs.Common.{length-append, Caller, Refusal, Op, Out, Event, Bytes, Group, events_of, step_place, nothing_said, Joiner, JoinState, Waiting, Answered, Again, waits_for, callers_of, belongs_to, answered_from, after_dissolve, JoinClaim, Begun, Picked, StepDone, Reservation}
+use Rattle.jc_world.proofs.Common.{length-append, Caller, Refusal, Op, Out, Event, Bytes, Group, events_of, step_place, nothing_said, Joiner, JoinState, Waiting, Answered, Again, waits_for, callers_of, belongs_to, answered_from, after_dissolve, JoinClaim, Begun, StepDone, Reservation}
 use Rattle.jc_model.specs.Lawful.{IsLawful}
-use Rattle.jc_stripe.specs.OrderOfUse.{by_use, order_after_event}
+use Rattle.jc_stripe.specs.OrderOfUse.{by_use}
 use Rattle.jc_stripe.specs.State.{State, with_reservation, promised, is_reserved}
 use Rattle.jc_types.specs.declared.refusal.Refusal.TheVariants as refusal
 use Rattle.jc_types.specs.declared.limits.TheConstants.{RESERVATIONS_MAX, JOINERS_MAX}
@@ -11,6 +11,7 @@ use Rattle.jc_stripe.specs.Polled.{Polled}
 use Rattle.jc_stripe.specs.Polled as polled
 use Rattle.jc_stripe.specs.Refusals.{first_refusal, load_joined, full_refusal, last_number, places_needed, needs_free_key, needs_reservation}
 use Rattle.jc_stripe.specs.Phases.{Steps, Begins, Commits, Withdraws, PicksUp, with_joiner, without_joiner, new_group, own_cause, own_eviction, inserts_here, overflows, victim, after_group, after_commit, after_withdrawal}
+use Rattle.jc_stripe.proofs.CallerLemmas.{by_use-append}
 use Rattle.jc_world.specs.Alike.{AgreeAt, Agree, IsLike}
 use Rattle.jc_world.proofs.Facts.{some_back}
 
@@ -89,13 +90,7 @@ agree-found p (j ∷ js) h k place shared a is = go (p j) (agree-found p js h k 
     go true rest e = let P : JoinState → Type 0 = λ s. AgreeAt s h k in subst P (some_back j.state (Answered place shared) e) a.0
     go false rest e = rest e
 
--- 2. The order of use.
-
-by_use-more : (entries : List (Bytes × Bytes)) (h e : List Event) → by_use entries (h ++ e) ≡ by_use (by_use entries h) e
-by_use-more entries [] e = refl
-by_use-more entries (x ∷ h) e = by_use-more (order_after_event entries x) h e
-
--- 3. Alike.
+-- 2. Alike.
 
 pub like-refl : (a : State) → IsLike a a
 like-refl a = record { is = refl; order = refl; count = refl; answers = agree-refl a.joiners a.history }
@@ -103,7 +98,7 @@ like-refl a = record { is = refl; order = refl; count = refl; answers = agree-re
 abbrev pub with_past : State → List (Bytes × Bytes) → List Event → State
 with_past a opening history = record a { opening = opening; history = history }
 
--- 4. Steps.
+-- 3. Steps.
 
 same_victim : (a : State) (o : List (Bytes × Bytes)) (h : List Event) (key : Bytes) (op : Op) (out : Out) → by_use o h ≡ by_use a.opening a.history
     → victim (with_past a o h) key op out ≡ victim a key op out
@@ -122,7 +117,7 @@ group-like a o h g order count answers =
     let same : f ≡ e = ap (λ (n : ℕ). events_of n g) count in
     record {
       is = refl;
-      order = by_use-more o h f ∙ ap (λ (x : List (Bytes × Bytes)). by_use x f) order ∙ ap (by_use (by_use a.opening a.history)) same ∙ sym (by_use-more a.opening a.history e);
+      order = by_use-append o h f ∙ ap (λ (x : List (Bytes × Bytes)). by_use x f) order ∙ ap (by_use (by_use a.opening a.history)) same ∙ sym (by_use-append a.opening a.history e);
       count = length-append h f ∙ ap (λ (n : ℕ). n + length f) count ∙ ap (λ (x : List Event). length a.history + length x) same ∙ sym (length-append a.history e);
       answers = subst (λ (x : List Event). Agree a.joiners (a.history ++ e) (h ++ x)) (sym same) (agree-more a.joiners a.history h e count answers);
     }
@@ -149,7 +144,7 @@ steps-past a n o h caller key op out callers done order count answers s =
       subst (λ (x : State). IsLike x (after_group b f)) (sym s.after) (subst (λ (x : Group). IsLike (after_group a g) (after_group b x)) (sym same) (group-like a o h g order count answers)),
     )
 
--- 5. First phases.
+-- 4. First phases.
 
 past-like : (a : State) (o : List (Bytes × Bytes)) (h : List Event) → by_use o h ≡ by_use a.opening a.history → length h ≡ length a.history → Agree a.joiners a.history h → IsLike a (with_past a o h)
 past-like a o h order count answers = record { is = refl; order = order; count = count; answers = answers }
@@ -191,7 +186,7 @@ begins-like a b n caller key op x like one =
     let P : State → Type 0 = λ s. (m : State) × Begins s caller key op x m × IsLike n m in
     subst P (sym like.is) (begins-past a n b.opening b.history caller key op x like.order like.count like.answers one)
 
--- 6. Last phases, withdrawals and pick-ups.
+-- 5. Last phases, withdrawals and pick-ups.
 
 commits-past : (a n : State) (o : List (Bytes × Bytes)) (h : List Event) (r : Reservation) (out : Out) (done : StepDone)
     → by_use o h ≡ by_use a.opening a.history → length h ≡ length a.history → Agree a.joiners a.history h

@@ -1,5 +1,5 @@
 -- Worlds that are alike show the same of an event, and are alike behind it.
-use Rattle.std.proofs.Common.{◌≡◌, ℕ, zero, suc, List, [], ◌∷◌, ◌++◌, map, Bool, true, false, Option, None, Some, is_some, option_map, slice_get, slice_set, if◌then◌else◌, sym, refl, ap, ◌∙◌, subst, true≢false, inl, inr}
+use Rattle.std.proofs.Common.{◌≡◌, ℕ, zero, suc, List, [], ◌∷◌, ◌++◌, map, Bool, true, false, Option, None, Some, option_map, slice_get, slice_set, if◌then◌else◌, sym, refl, ap, ◌∙◌, subst, inl, inr}
 use Rattle.jc_world.proofs.Common.{keys_of, Caller, Config, WriterFailed, Op, Event, WriteAnswer, Bytes, entry_at, with_entry, by_use, AreKeys, State, JoinClaim, Played, WorldEvent, Outcome, Shown, Part, new_call, WorldState, start, home, part_of, out_of_part, waits_for_report, read_answer, report_for, load_from, opens_coherent, with_foreign_write, fits}
 use Rattle.std.specs.List.Sorted.{IsPermutation}
 use Rattle.jc_stripe.specs.Reopening.{all_entries}
@@ -53,9 +53,6 @@ alike-as : (n x m : WorldState) → n ≡ x → m ≡ with_past x m.stripes m.or
 alike-as n x m is past like = subst (λ (y : WorldState). WorldsAlike y m) (sym is) (record { is = past; alike = like })
 
 -- 3. First phases, last phases and pick-ups.
-
-abbrev Goes : WorldState → (Outcome → State → State → WorldState → Type 0) → Outcome → State → WorldState → Type 0
-Goes n phase o from m = (to : State) × phase o from to m × WorldsAlike n m
 
 starts-past : (w n : WorldState) (ss : List State) (o : List Event) (caller : Caller) (key : Bytes) (op : Op) (from to b : State) (x : Outcome)
     → AreLike w.stripes ss → IsLike from b → StartsAs w caller key op from to x n

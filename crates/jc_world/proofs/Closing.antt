@@ -1,7 +1,6 @@
 -- The end of a world: each reservation is over, and then each join.
 --     ended          one key less, once its reservation is over
 --     none_reserved  with nothing held no key is reserved
---     picked         one join less, once it has its answer
 --     never_waits    if no key is reserved, no joiner waits
 --     held_out, joins_out    what is out in a world that is sound
 use Rattle.jc_world.proofs.Common.{◌≡◌, ℕ, ◌+◌, ◌<◌, Bool, true, false, cond, not, ◌&&◌, ◌⊎◌, List, [], ◌∷◌, length, get_or, is_some, IsSomeAnd, ◌==◌, slice_get, slice_set, Some, None, Option, option_map, find, sym, refl, ap, ◌∙◌, subst, inl, inr, arith, not-true, eqb-true, and_parts, and_from, false_from_ne_true, nat_list_cmp_total, eq_by_cmp_equiv, pointwise, texts_ties, empty, get, remove, get-empty, get-remove, list_all, eq_by_cmp, all_imply, all_filter, stripe_of, Config, Bytes, key_cmp, Out, belongs_to, Waiting, Joiner, StaysReached, Commits, Withdraws, without_joiner, PicksUp, JoinFits, AllJoin, IsReached, State, is_of, is_key, without_key, IsOut, IsJoined, JoinClaim, Polled, StepDone, Reservation, Part, IsLeftStripe, AreLeft, out_at, IsPartOut, HasHeld, IsJoinOut, HasJoins, NoneReserved, IsHeld, IsOwned, IsSoundWorld, Parts, JoinKey, join_key, Joins, WorldState, stripe_for}

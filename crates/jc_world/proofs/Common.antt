@@ -74,7 +74,7 @@ pub use Rattle.jc_stripe.proofs.CallerLemmas.{step_at, joined_parks, withdrawn_p
 pub use Rattle.jc_stripe.specs.Effects.{change_due}
 pub use Rattle.jc_stripe.specs.Keys.{AreKeys}
 pub use Rattle.jc_stripe.specs.Laws.{StaysReached, IsSameStripe, Extends, Grows, KeepsReserved}
-pub use Rattle.jc_stripe.specs.OnePhase.{is_parked}
+pub use Rattle.jc_stripe.specs.OnePhase.{is_answered, is_parked}
 pub use Rattle.jc_stripe.specs.OrderOfUse.{by_use, least_used}
 pub use Rattle.jc_stripe.specs.OwnSteps.{may_come_all}
 pub use Rattle.jc_stripe.specs.Phases.{is_other_call, is_other_join, MayBegin, overflows, victim, new_group, Steps, with_joiner, Begins, after_commit, Commits, Withdraws, without_joiner, told_to, PicksUp, polled_with}
@@ -117,7 +117,7 @@ pub use Rattle.jc_world.specs.PlayedWorld.{PlayedWorld}
 pub use Rattle.jc_world.specs.Premises.{is_stored, opens_coherent, read_answer, load_from, changed_to, report_for, is_true_load, is_done, is_true_report, with_foreign_write, premises_hold}
 pub use Rattle.jc_world.specs.Replies.{IsReplyOfStep, Stands, is_answer_at, joiners_in, joiners_at, times_shown}
 pub use Rattle.jc_world.specs.Reserved.{changes_cache}
-pub use Rattle.jc_world.specs.Sound.{IsWorldStripe, IsWorldShaped, is_up_to, number_up_to, has_answer, has_parked_answer, is_served_in, is_served, is_apart, FitsKey, FitsCall, CallsFit, Each, FitsAsked, change_in, IsDueIn, IsDue, AllDue, IsHeld, IsCallOf, IsOwned, AllOwned, IsWaitedFor, AllWaitedFor, IsCalled, AllCalled, Agrees, LoadAgrees, WriteAgrees, ChangeAgrees, ProgressAgrees, KeyAgrees, Sweeps, IsSoundWorld}
+pub use Rattle.jc_world.specs.Sound.{IsWorldStripe, IsWorldShaped, is_up_to, number_up_to, has_parked_answer, is_served_in, is_served, is_apart, FitsKey, FitsCall, CallsFit, Each, FitsAsked, change_in, IsDueIn, IsDue, AllDue, IsHeld, IsCallOf, IsOwned, AllOwned, IsWaitedFor, AllWaitedFor, IsCalled, AllCalled, Agrees, LoadAgrees, WriteAgrees, ChangeAgrees, ProgressAgrees, KeyAgrees, Sweeps, IsSoundWorld}
 pub use Rattle.jc_world.specs.Together.{looks, opening_events, BeginFits, at_call, key_at, FitTogether}
 pub use Rattle.jc_world.specs.Turns.{history_in, history_at, turns_of, after_turn, merge, OrderedStripes, IsPhase, IsQuietPhase, ordered_stripes, AreTurns, IsMergeable}
 pub use Rattle.jc_world.specs.World.{Parts, JoinKey, join_cmp, join_key, Joins, WorldState, home, stripe_for, entry_in, cached_entry, fresh_stripe, fresh_stripes, start, is_busy, is_idle, open_call, of_call, part_of, has_progress, is_unanswered, waits_for_load, waits_for_process, waits_for_report, is_write, waits_for_write, is_all_answered, is_untouched, has_changed, writer_change, out_of_part, join_of, has_join, is_joined, is_free_of, with_stored}

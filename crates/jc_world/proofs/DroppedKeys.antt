@@ -42,7 +42,7 @@ module _ (config : Config) (key : Bytes) where
   abbrev own : Entries → Entries
   own es = entries_for config number es
 
-  -- as many as there are leave room for so many more
+  -- as many as there are leave room for this number more
   abbrev HasRoom : ℕ → ℕ → Type 0
   HasRoom there zero = config.capacity ≤ there
   HasRoom there (suc room) = there + suc room ≡ config.capacity

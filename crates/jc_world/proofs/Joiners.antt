@@ -3,7 +3,7 @@
 --     told_waiting      a commit parks an answer for each that waits for its load
 --     join_at, join_there       a join that is found, and one that is there, with what is true of it
 --     other_key         a call that has not joined the load of a key is at another key, if it has joined there
-use Rattle.jc_world.proofs.Common.{◌≡◌, ℕ, ◌+◌, Bool, true, false, cond, not, ◌&&◌, ◌||◌, List, [], ◌∷◌, ◌++◌, map, is_some, IsSomeAnd, ◌==◌, Some, None, filter, Option, find, sym, refl, ap, ◌∙◌, subst, and_parts, and_from, false_from_ne_true, nat_eq_equiv, nat_list_cmp_total, nat_list_eq_equiv, pointwise, get, insert, remove, get-insert, get-remove, list_all, eq_by_cmp, Caller, same_key, Bytes, key_cmp, after_dissolve, belongs_to, is_waiting, waits_for, callers_of, with_answer, answered_from, JoinState, Again, Waiting, Joiner, is_other_join, are_apart, JoinClaim, Part, has_answer, has_parked_answer, Each, IsWaitedFor, AllWaitedFor, AllCalled, Parts, JoinKey, WorldState, of_call, part_of, join_of, is_joined}
+use Rattle.jc_world.proofs.Common.{◌≡◌, ℕ, ◌+◌, Bool, true, false, cond, not, ◌&&◌, ◌||◌, List, [], ◌∷◌, ◌++◌, map, is_some, IsSomeAnd, ◌==◌, Some, None, filter, Option, find, sym, refl, ap, ◌∙◌, subst, and_parts, and_from, false_from_ne_true, nat_eq_equiv, nat_list_cmp_total, nat_list_eq_equiv, pointwise, get, insert, remove, get-insert, get-remove, list_all, eq_by_cmp, Caller, same_key, Bytes, key_cmp, after_dissolve, belongs_to, is_waiting, waits_for, callers_of, with_answer, answered_from, JoinState, Again, Waiting, Joiner, is_other_join, are_apart, JoinClaim, Part, is_answered, has_parked_answer, Each, IsWaitedFor, AllWaitedFor, AllCalled, Parts, JoinKey, WorldState, of_call, part_of, join_of, is_joined}
 
 -- the joiner of a caller at a key
 abbrev pub joiner_of : Caller → Bytes → List Joiner → Option Joiner
@@ -12,7 +12,7 @@ joiner_of caller key joiners = find (belongs_to caller key) joiners
 -- 1. What is parked.
 
 -- what waits has no answer
-pub unanswered : (s : JoinState) → is_waiting s ≡ true → has_answer s ≡ true → ⊥
+pub unanswered : (s : JoinState) → is_waiting s ≡ true → is_answered s ≡ true → ⊥
 unanswered Waiting h k = cc
 unanswered s h k = cc
 

@@ -40,7 +40,7 @@ callers_length load js =
     let f = filter_length (waits_for load) js in
     omega arith
 
--- a history grows by at most so many events
+-- a history grows by at most this number of events
 pub record IsLonger (old new : State) : Type 0 where
   pub grows : length old.history ≤ length new.history
   pub within : length new.history ≤ length old.history + (STEP_PLACES + JOINERS_MAX)

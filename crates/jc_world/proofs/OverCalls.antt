@@ -2,7 +2,6 @@
 --     Numbers          what holds of the highest number so far, and of the callers of the calls under way
 --     numbers_step     an event keeps it, if a call that begins with a higher number does
 --     IsPast           a call has begun
---     past_run         it has so from then on
 --     IsOver           a call has begun, and isn't under way
 --     over_run         it is over from then on
 --     over_reopened    a call that has begun is over once the cache is opened again

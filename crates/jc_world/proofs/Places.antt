@@ -1,5 +1,6 @@
 -- The stripes of a world, once one is set.
-use Rattle.jc_world.proofs.Common.{◌≡◌, ℕ, zero, suc, ◌%◌, ◌<◌, ◌≤◌, Bool, true, false, cond, List, [], ◌∷◌, length, get_or, nat_le, slice_get, slice_set, Some, Ok, Err, sum, Option, Result, sym, refl, ap, subst, arith, leb-true, and_parts, slice_get-get_or, is_between, check, Config, STRIPES_MAX, Refusal, Bytes, State, IsWorldShaped, WorldState, home, stripe_for, fresh_stripe}
+use Rattle.jc_world.proofs.Common.{◌≡◌, ℕ, zero, suc, ◌%◌, ◌<◌, ◌≤◌, List, [], ◌∷◌, length, get_or, nat_le, slice_get, slice_set, Some, Ok, sum, Option, sym, refl, ap, subst, arith, leb-true, and_parts, slice_get-get_or, is_between, check, Config, STRIPES_MAX, Bytes, State, IsWorldShaped, WorldState, home, stripe_for, fresh_stripe}
+use Rattle.jc_types.proofs.CallerLemmas.{in_limits, some_stripe}
 
 -- what stays true from a stripe to the one that is put in its place stays true at every number
 pub at_stripe_apart : (stripes : List State) (i j : ℕ) (from next : State) (P : Option State → Option State → Type 0) → slice_get stripes i ≡ Some from → (i ≡ j → P (Some from) (Some next)) → ((i ≡ j → ⊥) → P (slice_get stripes j) (slice_get stripes j))
@@ -20,15 +21,6 @@ pub stripe_put : (stripes : List State) (i : ℕ) (from next : State) → slice_
 stripe_put [] i from next h = cc
 stripe_put (x ∷ xs) zero from next h = refl
 stripe_put (x ∷ xs) (suc i) from next h = stripe_put xs i from next h
-
--- a number that is not refused is within its limits
-in_limits : (b : Bool) (more : Result (Unit {0}) Refusal) (refusal : Refusal) → cond b more (Err refusal) ≡ Ok tt → b ≡ true
-in_limits true more refusal h = refl
-in_limits false more refusal h = cc
-
--- there is a stripe
-pub some_stripe : (config : Config) → check config ≡ Ok tt → 0 < config.stripes
-some_stripe config h = leb-true 1 config.stripes ((and_parts (nat_le 1 config.stripes) (nat_le config.stripes STRIPES_MAX) (in_limits (is_between 1 STRIPES_MAX config.stripes) _ _ h)).0)
 
 -- and no more than a cache may have
 pub few_stripes : (config : Config) → check config ≡ Ok tt → config.stripes ≤ STRIPES_MAX

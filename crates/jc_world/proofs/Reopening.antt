@@ -10,12 +10,12 @@
 --     reopened_coherent      if the opening is coherent, so is the world
 --     may_reopen             what a reopening rests on
 --     reopened_opens         the world is an opening
-use Rattle.jc_world.proofs.Common.{◌≡◌, ℕ, zero, suc, ◌+◌, Bool, true, false, cond, ◌&&◌, List, [], ◌∷◌, length, slice_get, Some, None, Ok, Err, Option, Result, IfSome, IsSomeAnd, sym, refl, ap, ◌∙◌, subst, zero-add, Get, eqb-true, and_parts, nil_from_length, find, list_all, list_all-append, slice_get_within, ◌<◌, ◌≤◌, STRIPES_MAX, history_in, history_at, get, empty, from_entries, get-empty, get-from_entries, nat_list_cmp_total, same_map, eq_by_cmp, same_key, stripe_of, check, Config, Refusal, Bytes, Cache, entry_at, key_cmp, Played, State, WorldEvent, CallState, has_number, stripes_reopened, after_reopening, fits, IsOpeningStripe, IsOpeningWorld, is_stored, opens_coherent, IsCallOf, IsSoundWorld, join_cmp, WorldState, entry_in, cached_entry, is_idle, open_call, op_at}
+use Rattle.jc_world.proofs.Common.{◌≡◌, ℕ, zero, suc, ◌+◌, true, false, cond, ◌&&◌, List, [], ◌∷◌, length, slice_get, Some, None, Ok, Err, Option, Result, IfSome, IsSomeAnd, sym, refl, ap, ◌∙◌, subst, zero-add, Get, eqb-true, and_parts, nil_from_length, find, list_all, list_all-append, slice_get_within, ◌<◌, ◌≤◌, STRIPES_MAX, history_in, history_at, get, empty, from_entries, get-empty, get-from_entries, nat_list_cmp_total, same_map, eq_by_cmp, same_key, stripe_of, check, Config, Refusal, Bytes, Cache, entry_at, key_cmp, Played, State, WorldEvent, CallState, has_number, stripes_reopened, after_reopening, fits, IsOpeningStripe, IsOpeningWorld, is_stored, opens_coherent, IsCallOf, IsSoundWorld, join_cmp, WorldState, entry_in, cached_entry, is_idle, open_call, op_at}
 use Rattle.std.specs.FinMap as map
 use Rattle.std.specs.Result.{is_ok}
 use Rattle.jc_model.specs.Listed.{has_distinct_keys}
 use Rattle.jc_stripe.specs.Reopening.{all_entries, kept, opened_stripe, opened_stripes}
-use Rattle.jc_stripe.proofs.CallerLemmas.{all_entries_once, opened_len, opened_at, opened_reached}
+use Rattle.jc_stripe.proofs.CallerLemmas.{all_at, all_entries_once, opened_len, opened_at, opened_reached}
 use Rattle.jc_world.proofs.Lemmas.{missing, same_found, few_stripes}
 use Rattle.jc_world.proofs.Holding.{call_on}
 use Rattle.jc_world.proofs.Kept.{holds_same}
@@ -83,11 +83,6 @@ stored_all store config contents number (suc count) =
 pub stored_reopened : (store : Cache) (config : Config) (w : WorldState) → list_all (is_stored store) (all_entries (stripes_reopened config w)) ≡ opens_coherent store (stripes_reopened config w)
 stored_reopened store config w = stored_all store config (all_entries w.stripes) 0 config.stripes
 
-test_at : {A : Type 0} (p : A → Bool) (xs : List A) (i : ℕ) (x : A) → list_all p xs ≡ true → slice_get xs i ≡ Some x → p x ≡ true
-test_at p [] i x all h = cc
-test_at p (y ∷ ys) zero x all h = let is : y ≡ x = cc in ap p (sym is) ∙ (and_parts (p y) (list_all p ys) all).0
-test_at p (y ∷ ys) (suc i) x all h = test_at p ys i x (and_parts (p y) (list_all p ys) all).1 h
-
 pub stored_found : (store : Cache) (entries : List (Bytes × Bytes)) (key value : Bytes) → list_all (is_stored store) entries ≡ true → map.find key_cmp key entries ≡ Some value → entry_at store key ≡ Some value
 stored_found store [] key value all h = cc
 stored_found store (e ∷ es) key value all h =
@@ -117,7 +112,7 @@ reopened_coherent config w all key = go (slice_get (stripes_reopened config w) (
         let contents = kept config number (all_entries w.stripes) in
         let opened : s ≡ opened_stripe config Played number contents = reopened_at config w number s is in
         let stored : list_all (is_stored w.store) contents ≡ true =
-        ap (λ (t : State). list_all (is_stored w.store) t.opening) (sym opened) ∙ test_at (λ t. list_all (is_stored w.store) t.opening) (stripes_reopened config w) number s all is
+        ap (λ (t : State). list_all (is_stored w.store) t.opening) (sym opened) ∙ all_at (λ t. list_all (is_stored w.store) t.opening) (stripes_reopened config w) number s all is
         in
         subst (λ (t : State). IfSome (entry_at t.cache key) (λ value. entry_at w.store key ≡ Some value)) (sym opened) (stored_in w.store contents key stored)
 

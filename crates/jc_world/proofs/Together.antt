@@ -2,6 +2,7 @@
 --     Keeps           at a key, a call is as far in one world as in another
 --     kept_fit        what fits at such a key fits in either
 --     keeps_other     what happens at a key keeps every other key of the call
+--     own_call        a call's own number
 --     fit_together    what fits at keys that differ fits one after the other
 use Rattle.jc_world.proofs.Common.{◌≡◌, ℕ, Bool, true, false, cond, not, ◌&&◌, ◌||◌, List, [], ◌∷◌, ◌++◌, map, is_some, is_none, IsSomeAnd, ◌==◌, Some, None, Option, find, sym, refl, ap, ◌∙◌, subst, inl, append-nil, and_parts, and_from, or_right, eqb-true, nat_eq_equiv, nat_list_eq_equiv, IsDistinct-head, IsDistinct-tail, pointwise, get, insert, remove, list_all, AllByRecursion, IsDistinct, Refusal, is_among, Bytes, Cache, is_load_given, Op, JoinClaim, Part, Premises, Shown, WorldEvent, CallState, has_number, op_at, open_keys, settle, Happens, AllFit, is_free, may_start, may_leave, fits, IsCallOf, IsSoundWorld, at_call, key_at, FitTogether, JoinKey, join_key, Parts, WorldState, open_call, of_call, part_of, has_progress, waits_for_load, has_join, is_joined}
 use Rattle.jc_world.proofs.Lemmas.{is_some_and, same_bytes, still_called, KeyChange, by_nothing, by_refusal, by_step, by_reservation, by_join, by_commit, by_withdrawal, by_answer, by_retry, start_change, end_change, pick_change, some_of}
@@ -202,7 +203,7 @@ free_then w call key keys q alone h =
     ] refl h
 
 -- a call's own number
-own_call : (call : ℕ) (key : Bytes) → at_call call call key ≡ Some key
+pub own_call : (call : ℕ) (key : Bytes) → at_call call call key ≡ Some key
 own_call call key = ap (λ b. cond b (Some key) None) (nat_eq_equiv.refl call)
 
 goes_leaving : (call : ℕ) → Goes (WorldEvent.Withdraw call) (IsLeaving call) (WorldEvent.Leave call ∷ [])

@@ -41,9 +41,9 @@
 --     has_looked        a stripe is among those at which a call has looked
 --     looked_in         the stripes at which a call with this sweep has looked: none, if it is to look at no more
 --     has_looked_at_each
---                       so is each of so many stripes
---     next_sweep        a sweep of so many stripes behind a look at one more: none once it has looked at each
---     with_swept_keys   a call, of so many stripes, that has looked at a stripe and taken its keys
+--                       so is each, in a cache of this number of stripes
+--     next_sweep        a sweep, in a cache of this number of stripes, behind a look at one more: none once it has looked at each
+--     with_swept_keys   a call that has looked at a stripe and taken its keys, in a cache of this number of stripes
 --     look              the calls under way once a call has looked at a stripe and taken these keys: it is over if it has looked at
 --                       each stripe, and no key of it is open
 use Rattle.std.specs.Prelude.{◌==◌, ◌&&◌, ◌||◌, ℕ, zero, suc, List, [], ◌∷◌, ◌++◌, length, nat_lt, Bool, true, false, not, Option, None, Some, find, filter, map, is_some, option_map, if◌then◌else◌}
@@ -240,7 +240,7 @@ abbrev pub looked_in : Option SweepState → List ℕ
 looked_in None = []
 looked_in (Some sweep) = sweep.looked
 
--- at each of so many stripes
+-- at each, in a cache of this number of stripes
 abbrev pub has_looked_at_each : List ℕ → ℕ → Bool
 has_looked_at_each looked zero = true
 has_looked_at_each looked (suc stripe) =

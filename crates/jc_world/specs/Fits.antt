@@ -17,7 +17,7 @@
 --     is_being_written   so it is of the call with this number
 --     may_report         so it is of an open key of the call
 --     is_to_look         a sweep hasn't looked at a stripe yet
---     may_look           a call takes the keys that are cached, and hasn't looked at this one of so many stripes
+--     may_look           a call takes the keys that are cached, and hasn't looked at this one, in a cache of this number of stripes
 --     fits               an event fits
 use Rattle.std.specs.Prelude.{ℕ, Bool, true, false, not, ◌&&◌, Option, None, Some, is_some, nat_lt, if◌then◌else◌}
 use Rattle.std.specs.List.{list_all, list_any}

@@ -3,7 +3,7 @@
 --     IsWorldShaped                 there is a stripe for each number
 --     HaveNoneEnded                 of these stripes none has ended a generation
 --     is_up_to, number_up_to        a number is at most the last call's, and so is the number of an event's step
---     has_answer, has_parked_answer  an answer is parked for a joiner in this state, and for a joiner that is there
+--     has_parked_answer             an answer is parked for a joiner that is there
 --     is_served_in, is_served       the answer of a load that it has joined is parked for a caller at a key, in a stripe and in the world
 --     is_apart                      two calls are of different sessions, and have different numbers
 --     FitsKey                       a key of a call: its step may still come, unless it is served
@@ -58,13 +58,12 @@ use Rattle.jc_outside.specs.declared.done.Origin.TheVariants.{Played}
 use Rattle.jc_mutentry.specs.Done.{effect_change}
 use Rattle.jc_stripe.specs.declared.ticket.First.TheVariants.{Nobody, Loader, Writer, Processor}
 use Rattle.jc_inflight.specs.declared.joiner.Joiner.{Joiner}
-use Rattle.jc_inflight.specs.declared.joiner.JoinState.{JoinState}
-use Rattle.jc_inflight.specs.declared.joiner.JoinState.TheVariants.{Waiting, Answered, Again}
 use Rattle.jc_inflight.specs.Joining.{belongs_to}
 use Rattle.jc_stripe.specs.declared.ticket.Reservation.{Reservation}
 use Rattle.jc_stripe.specs.Tickets.{JoinClaim}
 use Rattle.jc_stripe.specs.State.{State, IsOut, IsJoined}
 use Rattle.jc_stripe.specs.Reached.{IsReached}
+use Rattle.jc_stripe.specs.OnePhase.{is_answered}
 use Rattle.jc_stripe.specs.OwnSteps.{may_come_all}
 use Rattle.jc_world.specs.Calls.{CallState, SweepState, has_looked, op_at, op_for}
 use Rattle.jc_world.specs.declared.event.Part.{Part}
@@ -102,15 +101,9 @@ abbrev pub number_up_to : Option ℕ → Event → Bool
 number_up_to last (stripe.Step caller op key out shared_with reply) = is_up_to last caller.call
 number_up_to last (stripe.Evict key cause) = true
 
--- an answer is parked
-abbrev pub has_answer : JoinState → Bool
-has_answer Waiting = false
-has_answer (Answered place shared_with) = true
-has_answer Again = false
-
 abbrev pub has_parked_answer : Option Joiner → Bool
 has_parked_answer None = false
-has_parked_answer (Some j) = has_answer j.state
+has_parked_answer (Some j) = is_answered j.state
 
 -- at the stripe of its key
 abbrev pub is_served_in : Option State → Caller → Bytes → Bool

@@ -1,6 +1,6 @@
 //! The operations of a call at its keys, and which of them are open.
 ghost use Rattle.std.specs.Prelude.{◌≡◌, ◌==◌, ◌&&◌, ◌||◌, ◌+◌, ◌≤◌, ◌<◌, ◌++◌, ◌∷◌, [], true, Some, None, is_some, is_none, length, option_copied};
-ghost use Rattle.std.specs.Prelude.{slice_get, OnErr, OnOk, IfOk};
+ghost use Rattle.std.specs.Prelude.{OnErr, OnOk, IfOk};
 ghost use Rattle.std.specs.List.{list_all, list_any, IsDistinct};
 ghost use Rattle.std.specs.Map.{keys_of, lookup, set_value};
 ghost use Rattle.std.specs.Cmp.Lexicographic.{pointwise};

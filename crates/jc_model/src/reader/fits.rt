@@ -1,5 +1,5 @@
 //! Whether an event may come next.
-ghost use Rattle.std.specs.Prelude.{◌≡◌, ◌↔◌, ◌&&◌, ℕ, IsTrue, is_none, is_some};
+ghost use Rattle.std.specs.Prelude.{◌≡◌, ◌↔◌, ◌&&◌, IsTrue, is_none, is_some};
 ghost use Rattle.jc_model.specs.Cache.{entry_at};
 ghost use Rattle.jc_model.specs.Table.{answers_fit, entry_after, reply_after};
 ghost use Rattle.jc_model.specs.Group.{without_victim};

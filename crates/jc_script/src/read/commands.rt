@@ -1,5 +1,5 @@
 //! Operations as words: their names, and what follows a name.
-ghost use Rattle.std.specs.Prelude.{◌≡◌, map, length, option_map};
+ghost use Rattle.std.specs.Prelude.{◌≡◌, map, option_map};
 ghost use Rattle.jc_script.specs.Lines.{Gives, ok_with, form_named, op_name, takes_words, bare_op, valued_op, bare_of, valued_of};
 ghost use Rattle.jc_script.specs.Lines.{value_alone, replace_if_of, command_of, begin_with, bulk_of, bulk_with};
 ghost use Rattle.jc_script.specs.Lines.{is_load_mode, has_load_shape, bulk_takes, load_all_of};

@@ -1,5 +1,5 @@
 //! The kinds of line, and what each asks for.
-ghost use Rattle.std.specs.Prelude.{◌≡◌, map, length, IfOk};
+ghost use Rattle.std.specs.Prelude.{◌≡◌, map};
 ghost use Rattle.std.specs.List.{list_all};
 ghost use Rattle.jc_script.specs.Lines.{Gives, ok_with, with_line, flags_of, shape_of, open_of, reopen_of, set_of};
 ghost use Rattle.jc_script.specs.Lines.{begin_of, number_alone, lone_act, lone_of, coded_act, coded_of, process_of, say_of};

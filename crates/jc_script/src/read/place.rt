@@ -1,7 +1,6 @@
 //! Where in its line a fault is: which word is meant, and at how many bytes it begins. Nothing here runs before a script has ended at a
 //! fault.
 ghost use Rattle.std.specs.Prelude.{◌≡◌, ◌≤◌, ◌<◌, ◌+◌, ◌^◌, map, drop, length, IfOk, []};
-ghost use Rattle.std.specs.Str.{bytes_eq};
 ghost use Rattle.jc_script.specs.Places.{kind_in, is_unknown, is_wrong, is_bad, bad_among, form_in, after_name, operation_kinds};
 ghost use Rattle.jc_script.specs.Places.{bad_in_begin, bad_in_line, bad_word, is_lone, list_start, repeat_from, repeated_word};
 ghost use Rattle.jc_script.specs.Places.{word_meant, start_of};

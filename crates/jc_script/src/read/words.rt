@@ -1,5 +1,5 @@
 //! The kinds of word of a line.
-ghost use Rattle.std.specs.Prelude.{◌≡◌, ◌≤◌, ◌<◌, OnOk, IfSome, Ok, [], is_ok, map, length, List, ℕ};
+ghost use Rattle.std.specs.Prelude.{◌≡◌, ◌≤◌, ◌<◌, OnOk, IfSome, Ok, [], is_ok, map, length};
 ghost use Rattle.std.specs.Str.{bytes_eq};
 ghost use Rattle.std.specs.List.{list_all};
 ghost use Rattle.jc_types.specs.declared.limits.TheConstants.{VALUE_MAX};

@@ -1,5 +1,5 @@
 //! The values that came into a stripe with a step, and those that left it.
-ghost use Rattle.std.specs.Prelude.{◌≡◌, Bool, None, Some, is_some, option_map, if◌then◌else◌};
+ghost use Rattle.std.specs.Prelude.{◌≡◌, None, Some, is_some, option_map, if◌then◌else◌};
 ghost use Rattle.std.specs.Option.{option_copied};
 ghost use Rattle.std.specs.Map.Iter.{deref_pair};
 ghost use Rattle.jc_model.specs.Cache.{entry_at};

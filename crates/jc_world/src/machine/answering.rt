@@ -4,7 +4,7 @@ ghost use Rattle.jc_model.specs.Table.{is_load_given, is_write_given};
 ghost use Rattle.jc_types.specs.declared.refusal.Refusal.TheVariants.{WriterFailed};
 ghost use Rattle.jc_world.specs.declared.event.WorldEvent.TheVariants as event;
 ghost use Rattle.jc_world.specs.declared.event.Part.{Part};
-ghost use Rattle.jc_world.specs.World.{has_progress, open_call, part_of, waits_for_load, waits_for_report};
+ghost use Rattle.jc_world.specs.World.{has_progress, part_of, waits_for_load, waits_for_report};
 ghost use Rattle.jc_world.specs.Premises.{report_for};
 ghost use Rattle.jc_world.specs.Fits.{fits, waits_at};
 ghost use Rattle.jc_world.specs.Events.{after_answer, after_report, reported_at, after_reports, keys_reported, Happens};

@@ -1,5 +1,5 @@
 //! The audit of a machine.
-ghost use Rattle.std.specs.Prelude.{IsTrue, ◌≡◌, ◌&&◌, [], true, false, Ok, IfOk, Option, None, Some};
+ghost use Rattle.std.specs.Prelude.{IsTrue, ◌≡◌, ◌&&◌, [], true, Ok, IfOk};
 ghost use Rattle.std.specs.FinMap as map;
 ghost use Rattle.jc_world.specs.Premises.{is_stored};
 ghost use Rattle.jc_world.specs.World.{has_progress, has_changed};

@@ -4,7 +4,7 @@ ghost use Rattle.jc_world.specs.declared.event.WorldEvent.TheVariants as event;
 ghost use Rattle.jc_world.specs.World.{is_busy, open_call};
 ghost use Rattle.jc_types.specs.Limits.{is_session};
 ghost use Rattle.jc_world.specs.Fits.{is_playable, is_new, may_start, may_leave, is_free, may_report, fits};
-ghost use Rattle.jc_world.specs.Fits.{is_being_written, is_single, may_look};
+ghost use Rattle.jc_world.specs.Fits.{is_being_written, may_look};
 
 use crate::calls::{find_call, has_call, is_above, is_playable};
 use crate::command::Command;

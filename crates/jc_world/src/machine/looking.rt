@@ -1,7 +1,5 @@
 //! Calls that take the keys that are cached.
-ghost use Rattle.std.specs.Prelude.{◌≡◌, ◌<◌, true, Some, IfOk, IsSomeAnd, OnErr, OnOk, slice_get};
-ghost use Rattle.std.specs.List.{list_all, IsDistinct};
-ghost use Rattle.std.specs.Cmp.Lexicographic.{pointwise};
+ghost use Rattle.std.specs.Prelude.{◌≡◌, ◌<◌, true, Some, IfOk, OnErr, OnOk, slice_get};
 ghost use Rattle.jc_stripe.specs.Keys.{AreKeys};
 ghost use Rattle.jc_stripe.specs.State.{State};
 ghost use Rattle.jc_world.specs.declared.event.WorldEvent.TheVariants as event;

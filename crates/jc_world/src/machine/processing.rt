@@ -1,7 +1,6 @@
 //! The events of entry processors.
 ghost use Rattle.std.specs.Prelude.{◌≡◌, true, Ok, Some, OnErr, OnOk};
 ghost use Rattle.jc_model.specs.Table.{is_load_given};
-ghost use Rattle.jc_model.specs.Cache.{entry_at};
 ghost use Rattle.jc_world.specs.declared.event.WorldEvent.TheVariants as event;
 ghost use Rattle.jc_world.specs.declared.event.Part.{Part};
 ghost use Rattle.jc_world.specs.World.{has_progress, part_of, waits_for_process};

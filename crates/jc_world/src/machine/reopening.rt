@@ -1,5 +1,5 @@
 //! A cache that is opened again.
-ghost use Rattle.std.specs.Prelude.{◌≡◌, ◌++◌, true, map, IfOk, OnErr, OnOk};
+ghost use Rattle.std.specs.Prelude.{◌≡◌, true, map, IfOk, OnErr, OnOk};
 ghost use Rattle.std.specs.List.{list_all};
 ghost use Rattle.jc_model.specs.Cache.{Bytes};
 ghost use Rattle.jc_stripe.specs.Reopening.{all_entries};

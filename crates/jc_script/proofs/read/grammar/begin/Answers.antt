@@ -1,4 +1,4 @@
-use Rattle.jc_script.proofs.Common.{◌≡◌, map, length, ℕ, ◌<◌, List, [], ◌∷◌, Err, refl, arith, Bor, BadLine}
+use Rattle.jc_script.proofs.Common.{◌≡◌, map, length, ℕ, ◌<◌, List, ◌∷◌, Err, refl, arith, Bor, BadLine}
 use Rattle.jc_script.specs.Lines.{begin_of}
 use Rattle.jc_script.proofs.read.grammar.begin.Goals as goal
 
