@@ -49,12 +49,14 @@ module _ {F S T : Type 0} (Loads : List (Bytes × Op) → PieceEnd → T → T �
   tools_loaded olds news loaded = (
     fact_at (joined team.dss) nothing,
     record {
-      shares = loaded.shares;
-      share_each = loaded.share_each;
-      count = loaded.count;
-      each = λ k d lt. only (get_or olds k d) (get_or news k d) (get_or loaded.shares k []) (fact_at (joined team.dss) nothing)
-          (led_each Step olds news loaded.shares team nothing (piece_count (length keys)) loaded.once k d lt);
-      once = loaded.once;
+      loads = record {
+        shares = loaded.shares;
+        share_each = loaded.share_each;
+        count = loaded.count;
+        each = λ k d lt. only (get_or olds k d) (get_or news k d) (get_or loaded.shares k []) (fact_at (joined team.dss) nothing)
+            (led_each Step olds news loaded.shares team nothing (piece_count (length keys)) loaded.once k d lt);
+        once = loaded.once;
+      };
     },
     λ p lt. fits_at (λ e. IsNoteOf (piece_at keys e.0) (results e.0) e.1) (joined team.dss) nothing p
         (every Step (λ e. IsNoteOf (piece_at keys e.0) (results e.0) e.1) (λ o p x n step. step.1) olds news team.dss team.chains) (there p lt),

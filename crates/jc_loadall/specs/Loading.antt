@@ -65,9 +65,8 @@ first_cause ends (suc n) = option_or (first_cause ends n) (ends n).cause
 
 -- `Loads` is what one of them did to load a piece
 module _ {T : Type 0} (Loads : List (Bytes × Op) → PieceEnd → T → T → Type 0) where
-  abbrev pub LoadsInPieces : List Bytes → Bool → (ℕ → PieceEnd) → List T → List T → Type 0
-  LoadsInPieces keys replace ends old new =
-      LoadsEachOnce (λ before piece after. Loads (load_ops replace (piece_at keys piece)) (ends piece) before after) (piece_count (length keys)) old new
+  pub record LoadsInPieces (keys : List Bytes) (replace : Bool) (ends : ℕ → PieceEnd) (old new : List T) : Type 0 where
+    pub loads : LoadsEachOnce (λ before piece after. Loads (load_ops replace (piece_at keys piece)) (ends piece) before after) (piece_count (length keys)) old new
 
   abbrev pub EndsInPieces : List Bytes → Bool → List T → Result (Unit {0}) BulkFault → List T → Type 0
   EndsInPieces keys replace old result new =
