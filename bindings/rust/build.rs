@@ -29,7 +29,9 @@ fn made() -> PathBuf {
     let folder = PathBuf::from(env::var_os("CARGO_MANIFEST_DIR").expect("cargo sets it"));
     let script = folder.join("../archive");
     let out = PathBuf::from(env::var_os("OUT_DIR").expect("cargo sets it"));
+    let library = folder.join("../../crates/jc_c/out/libjc_c.a");
     println!("cargo::rerun-if-changed={}", script.display());
+    println!("cargo::rerun-if-changed={}", library.display());
     let run = Command::new("sh").arg(&script).arg(&out).output();
     match run {
         Ok(run) if run.status.success() => out.join("libjcache_core.a"),
