@@ -436,7 +436,11 @@ def compare(program, player, seed):
     ran = subprocess.run([program, 'run'], input=script, stdout=subprocess.PIPE, stderr=subprocess.PIPE, universal_newlines=True)
     said = ran.stdout.split('\n')
     history = f'history {player.events()} legal'
-    wrong = differs(said, player.says) or (None if history in said[-3:] else f'jcache says "{said[-2]}", the library "{history}"')
+    wrong = differs(said, player.says)
+    if wrong is None and ran.returncode != 0:
+        wrong = 'jcache failed'
+    if wrong is None and history not in said[-3:]:
+        wrong = f'jcache says "{said[-2]}", the library "{history}"'
     if wrong:
         sys.exit(f'{script}\nseed {seed}, {wrong}; status {ran.returncode} {ran.stderr}')
     return len(player.says)

@@ -10,14 +10,20 @@ fn main() {
         None => made(),
     };
     let folder = archive.parent().expect("a file lies in a folder");
-    println!("cargo::rerun-if-changed={}", archive.display());
     println!("cargo::rustc-link-search=native={}", folder.display());
     println!("cargo::rustc-link-lib=static=jcache_core");
 }
 
+fn depends_on(file: &Path) {
+    println!("cargo::rerun-if-changed={}", file.display());
+}
+
 fn given(path: &Path) -> PathBuf {
     match path.canonicalize() {
-        Ok(path) if path.ends_with("libjcache_core.a") => path,
+        Ok(path) if path.ends_with("libjcache_core.a") => {
+            depends_on(&path);
+            path
+        }
         _ => fail(&format!(
             "JCACHE_CORE is {}; it is to be the path of a file libjcache_core.a",
             path.display()
@@ -29,7 +35,8 @@ fn made() -> PathBuf {
     let folder = PathBuf::from(env::var_os("CARGO_MANIFEST_DIR").expect("cargo sets it"));
     let script = folder.join("../archive");
     let out = PathBuf::from(env::var_os("OUT_DIR").expect("cargo sets it"));
-    println!("cargo::rerun-if-changed={}", script.display());
+    depends_on(&script);
+    depends_on(&folder.join("../../crates/jc_c/out/libjc_c.a"));
     let run = Command::new("sh").arg(&script).arg(&out).output();
     match run {
         Ok(run) if run.status.success() => out.join("libjcache_core.a"),

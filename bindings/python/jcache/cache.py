@@ -111,8 +111,8 @@ class Cache:
     def __init__(self, loader=None, writer=None, *, stripes=16, capacity=1024, history=64, read_through=None, write_through=None):
         if not 1 <= stripes <= core.STRIPES_MAX:
             raise ValueError('stripes are 1 to 64')
-        self._loader = _Loader(loader or (lambda key: None))
-        self._writer = _Writer(writer or (lambda key, value: None))
+        self._loader = _Loader((lambda key: None) if loader is None else loader)
+        self._writer = _Writer((lambda key, value: None) if writer is None else writer)
         self._thread = threading.local()
         reads = loader is not None if read_through is None else read_through
         self._writes = writer is not None if write_through is None else write_through
@@ -342,6 +342,10 @@ class Cache:
         """The keys that are cached, stripe by stripe."""
         return [key for stripe in self._stripes for key in stripe.keys()]
 
+    def __iter__(self):
+        """Iterates over the keys that are cached now. The loader isn't asked."""
+        return iter(self.keys())
+
     def __len__(self):
         """How many keys are cached."""
         return len(self.keys())
@@ -429,11 +433,11 @@ class _Round:
         return None
 
     def _begin(self):
-        """The first phases. If one is stopped, what was reserved is given up."""
+        """The first phases. If one is stopped, what was reserved is given up; if nothing was done, what has stopped it is raised."""
         items, self._items = self._items, []
         reserved, joined, blocked = [], [], None
         try:
-            for item in items:
+            for place, item in enumerate(items):
                 begun = item.stripe.begin(item.op, item.key, item.hash, item.value)
                 if isinstance(begun, Reply):
                     self._replies.append((item.key, begun))
@@ -443,11 +447,13 @@ class _Round:
                 else:
                     blocked = blocked or (item.stripe, begun)
                     self._items.append(item)
-        except BaseException:
+        except BaseException as error:
             for item in reserved:
                 item.stripe.withdraw(item.call)
             for item in joined:
                 item.stripe.abandon(item.call)
+            if isinstance(error, CacheError) and (self._replies or self._failed):
+                self._stop([*self._items, *reserved, *joined, *items[place:]], error)
             raise
         return reserved, joined, blocked
 
@@ -455,12 +461,21 @@ class _Round:
         try:
             stripe.wait(blocked)
         except CacheError as error:
-            self._failed.extend(item.key for item in self._items)
-            raise BulkError(self._failed) from error
+            self._stop(self._items, error)
+
+    def _stop(self, left, error):
+        """Raises the first failure, which is this error if there was none before. What is left has failed, too."""
+        self._failed.extend(item.key for item in left)
+        self._note(error)
+        raise BulkError(self._failed) from self._error
 
     def _fail(self, key, error):
         self._failed.append(key)
-        self._error = self._error or error
+        self._note(error)
+
+    def _note(self, error):
+        if self._error is None:
+            self._error = error
 
     def _load(self, reserved):
         error, values = None, [None] * len(reserved)
@@ -488,7 +503,7 @@ class _Round:
                 self._replies.append((item.key, reply))
         if error is not None and not isinstance(error, Exception):
             raise error
-        self._error = self._error or error
+        self._note(error)
 
     def _unwritten(self, reserved):
         """Asks the writer: the places of what it did not write or delete, and why."""

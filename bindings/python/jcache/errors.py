@@ -24,7 +24,7 @@ class ClosedError(CacheError):
 class BulkError(CacheError):
     """A call of many keys failed at some of them; its __cause__ is the first failure.
 
-    failed: the keys at which it failed; at all others it took effect.
+    failed: the keys at which it failed, and those that it has not reached; at all others it took effect.
     """
 
     def __init__(self, failed):

@@ -138,6 +138,20 @@ class Operations(unittest.TestCase):
             cache.remove('b')
             self.assertEqual(held, {'a': 1, 'b': None})
 
+    def test_a_store_may_be_falsy(self):
+        class Held(Store, dict):
+            """An empty dict: its truth is False."""
+
+        store = Held({'a': 1})
+        with jcache.Cache(loader=store, writer=store) as cache:
+            cache['b'] = cache['a']
+            self.assertEqual((bool(store), store.held), (False, {'a': 1, 'b': 1}))
+
+    def test_iterates_over_what_is_cached(self):
+        self.assertEqual(list(self.cache), [])
+        self.cache['b'] = 2
+        self.assertEqual((list(self.cache), self.store.loads), (['b'], 0))
+
     def test_limits(self):
         for words in ({'stripes': 0}, {'stripes': 65}, {'capacity': 0}, {'capacity': 4097}, {'history': 15}):
             self.assertRaises(ValueError, jcache.Cache, **words)
@@ -323,6 +337,22 @@ class Bulk(unittest.TestCase):
         self.assertIs(caught.exception.__cause__, store.write_fails)
         self.assertEqual(caught.exception.failed, [0, 2])
         self.assertTrue(cache._agrees())
+
+
+    def test_a_call_that_is_stopped_says_what_failed_first(self):
+        class Last(Store):
+            def write_many(self, items):
+                cache.close()
+                raise self.write_fails
+
+        store = Last()
+        store.write_fails = Broken('no write')
+        cache = cache_of(store)
+        entries = dict.fromkeys(range(200), 1)
+        with self.assertRaises(jcache.BulkError) as caught:
+            cache.set_many(entries)
+        self.assertIs(caught.exception.__cause__, store.write_fails)
+        self.assertEqual(sorted(caught.exception.failed), sorted(entries))
 
 
 class Example(unittest.TestCase):

@@ -96,6 +96,16 @@ class Deadlocks(unittest.TestCase):
         self.assertIsInstance(caught.exception.__cause__, jcache.DeadlockError)
         self.assertTrue(cache._agrees())
 
+    def test_a_call_of_many_keys_that_waits_for_itself(self):
+        store = Store()
+        store.write_fails = Broken('no write')
+        cache = jcache.Cache(loader=lambda key: cache.set_many({'other': 1, key: 2}), writer=store)
+        with self.assertRaises(jcache.LoaderError) as caught:
+            cache.get('a')
+        stopped = caught.exception.__cause__
+        self.assertEqual((stopped.failed, stopped.__cause__), (['other', 'a'], store.write_fails))
+        self.assertTrue(cache._agrees())
+
     def test_loaders_that_wait_for_each_other(self):
         barrier = threading.Barrier(2)
 

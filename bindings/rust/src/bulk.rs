@@ -74,7 +74,7 @@ impl<K, V, L, W> Progress<K, V, L, W> {
     fn stop(mut self, error: Error<L, W>, left: Vec<Item<K, V>>) -> BulkError<Arc<K>, L, W> {
         self.failed.extend(left.into_iter().map(|item| item.key));
         BulkError {
-            error,
+            error: self.error.unwrap_or(error),
             failed: self.failed,
         }
     }

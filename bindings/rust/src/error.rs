@@ -66,8 +66,7 @@ impl<L: StdError + 'static, W: StdError + 'static> StdError for Error<L, W> {
 pub struct BulkError<K, L, W> {
     /// The first failure.
     pub error: Error<L, W>,
-    /// The keys that failed. At all others the call took effect, unless [`error`](BulkError::error) is one that stops a call: then
-    /// these are the keys that were not reached.
+    /// The keys that failed, and those that a call which was stopped has not reached. At all others it took effect.
     pub failed: Vec<K>,
 }
 

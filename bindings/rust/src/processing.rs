@@ -108,8 +108,9 @@ impl<'c, K, V, L, W> Processing<'c, K, V, L, W> {
         process.may_load && process.load.is_none() && matches!(process.effect, Effect::Keep)
     }
 
-    /// The loader is being asked.
+    /// The loader is being asked: it is to be.
     pub fn start_load(&mut self) {
+        assert!(self.must_load(), "the loader was not to be asked");
         self.held.process.is_loading = true;
     }
 
@@ -168,13 +169,19 @@ impl<'c, K, V, L, W> Processing<'c, K, V, L, W> {
         }
     }
 
-    /// The writer is being asked.
+    /// The writer is being asked: there is a change.
     pub fn start_write(&mut self) {
+        assert!(self.change().is_some(), "the writer was not to be asked");
         self.held.process.is_writing = true;
     }
 
-    /// Ends the call with what the writer answered, if it was asked.
+    /// Ends the call with what the writer answered: it is asked if there is a change, and only then.
     pub fn commit(mut self, write: Option<Result<(), W>>) -> Result<(), Error<L, W>> {
+        assert_eq!(
+            write.is_some(),
+            self.change().is_some(),
+            "the writer is asked just if there is a change"
+        );
         let told = write.as_ref().map(|result| written(result.is_ok()));
         let failure = self.load_failure();
         let answer = self.held.process.answer(told);

@@ -1,7 +1,7 @@
 //! Calls of many keys.
 mod common;
 use common::{Broken, Mode, Store, cache_of, text};
-use jcache::{Cache, Error, Loader, Unwritten, Writer};
+use jcache::{Cache, Error, Loader, Op, Unwritten, Writer};
 use std::collections::HashMap;
 use std::sync::atomic::{AtomicUsize, Ordering::SeqCst};
 use std::sync::{Arc, Mutex};
@@ -166,6 +166,20 @@ fn a_round_asks_once_and_fails_in_part() {
     assert_eq!(failed.failed.len(), 5);
     assert_eq!(*outside.0.held.lock().unwrap(), HashMap::from([(1, 11)]));
     assert_eq!(*cache.get_all([1]).unwrap()[&1], 11);
+    assert!(cache.agrees());
+}
+
+#[test]
+fn a_call_that_is_stopped_says_what_failed_first() {
+    let (store, cache) = cache_of(1, 8);
+    *store.writing.lock().unwrap() = Mode::Fails;
+    // This thread has reserved b: its own call would wait for it.
+    let begun = cache.begin("b".to_string(), &Op::Get).unwrap();
+    let entries = ["a", "b"].map(|key| (key.to_string(), "1".to_string()));
+    let failed = cache.put_all(entries).unwrap_err();
+    assert!(matches!(failed.error, Error::Writer(Broken("no write"))));
+    assert_eq!(failed.failed.len(), 2);
+    drop(begun);
     assert!(cache.agrees());
 }
 

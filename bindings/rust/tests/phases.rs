@@ -1,9 +1,10 @@
 //! Calls in phases: withdrawn, cancelled, joined and awaited.
 mod common;
-use common::{Texts, cache_of, text};
-use jcache::call::{Begun, Change};
+use common::{Broken, Texts, cache_of, text};
+use jcache::call::{Begun, Change, Processing};
 use jcache::{Cache, Error, Expected, Op, Reply};
 use std::future::Future;
+use std::panic::{AssertUnwindSafe, catch_unwind};
 use std::pin::pin;
 use std::sync::Arc;
 use std::sync::atomic::{AtomicUsize, Ordering::SeqCst};
@@ -64,6 +65,37 @@ fn a_call_that_has_asked_and_is_dropped_has_failed() {
     processing.set("2".to_string());
     drop(processing);
     assert!(!cache.contains_key("a").unwrap());
+    assert!(cache.agrees());
+}
+
+/// A mistake of who makes the phases of a processor's call.
+type Mistake = fn(Processing<'_, String, String, Broken, Broken>);
+
+/// A change, with nobody asked for it; and the other way round.
+const MISTAKES: [Mistake; 4] = [
+    |mut it| {
+        it.set("2".to_string());
+        let _ = it.commit(None);
+    },
+    |it| drop(it.commit(Some(Ok(())))),
+    |mut it| it.start_write(),
+    |mut it| {
+        it.remove();
+        it.start_load();
+    },
+];
+
+#[test]
+fn a_mistake_panics_and_fails_its_call_alone() {
+    let (_store, cache) = cache_of(1, 8);
+    for mistake in MISTAKES {
+        let Begun::Process(ticket) = begin(&cache, &Op::Invoke) else {
+            panic!("it processes")
+        };
+        let mistaken = AssertUnwindSafe(|| mistake(ticket.ask()));
+        assert!(catch_unwind(mistaken).is_err());
+        assert!(!cache.contains_key("a").unwrap());
+    }
     assert!(cache.agrees());
 }
 

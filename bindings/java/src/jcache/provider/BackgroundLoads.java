@@ -21,9 +21,14 @@ final class BackgroundLoads<K, V> {
         this.cacheName = cacheName;
     }
 
-    /** Loads these keys, and tells the listener, if it isn't null. Without a loader there is nothing to do. */
+    /**
+     * Loads these keys, and tells the listener, if it isn't null. Without a loader there is nothing to do.
+     *
+     * @throws IllegalArgumentException if a key has too few or too many bytes
+     */
     void begin(Set<? extends K> keys, boolean replaces, CompletionListener listener) {
         Set<K> all = new LinkedHashSet<>(keys);
+        all.forEach(context.copier::lookup);
         if (context.outside.hasLoader()) {
             execute(() -> load(all, replaces, listener));
         } else if (listener != null) {

@@ -201,17 +201,32 @@ final class BulkCalls {
             V value = valueOf.apply(key);
             calls.add(new Call(op, context.copier.lookup(key), value, context.copier.in(value), null));
         }
-        Throwable[] first = new Throwable[1];
-        List<Call> done = new BulkCalls(context, calls, asked -> {
-            Throwable thrown = askOf(context.outside, asked);
-            first[0] = first[0] == null ? thrown : first[0];
-        }).run();
+        Throwable[] thrown = new Throwable[1];
+        BulkCalls bulk = new BulkCalls(context, calls, asked -> {
+            Throwable next = askOf(context.outside, asked);
+            thrown[0] = thrown[0] == null ? next : thrown[0];
+        });
+        try {
+            bulk.run();
+        } catch (RuntimeException | Error e) {
+            Throwable before = bulk.failure(thrown[0]);
+            if (before != null && before != e) {
+                e.addSuppressed(before);
+            }
+            throw e;
+        }
+        return new Result(bulk.done, bulk.failure(thrown[0]));
+    }
+
+    /** The first failure: what the loader or the writer threw, if it isn't null, or of a call that is done; or null. */
+    private Throwable failure(Throwable thrown) {
+        Throwable first = thrown;
         for (Call call : done) {
-            if (call.hasFailed() && first[0] == null) {
-                first[0] = call.cause;
+            if (call.hasFailed() && first == null) {
+                first = call.cause;
             }
         }
-        return new Result(done, first[0]);
+        return first;
     }
 
     /**

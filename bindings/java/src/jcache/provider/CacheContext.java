@@ -24,7 +24,7 @@ final class CacheContext<K, V> {
 
     /**
      * Makes the parts of a cache: its factories are called, and its stripes opened. The cache need only know its name
-     * and its manager yet.
+     * and its manager yet. If that fails, what the cache was given is closed.
      */
     CacheContext(Cache<K, V> cache, CompleteConfiguration<K, V> configuration, Settings settings) {
         this.cache = cache;
@@ -32,13 +32,16 @@ final class CacheContext<K, V> {
         ExpiryPolicy policy = policies == null ? null : policies.create();
         expiry = policy == null || policy instanceof EternalExpiryPolicy ? null : new Expiry(policy);
         copier = copier(configuration, settings);
-        outside = new Outside<>(configuration, copier);
         hasStatistics = configuration.isStatisticsEnabled();
         listeners = new Listeners<>(cache.getName());
-        for (CacheEntryListenerConfiguration<K, V> listener : configuration.getCacheEntryListenerConfigurations()) {
-            addListener(listener);
+        try {
+            outside = new Outside<>(configuration, copier);
+            configuration.getCacheEntryListenerConfigurations().forEach(this::addListener);
+            stripes = openStripes(settings);
+        } catch (RuntimeException | Error e) {
+            closeGiven();
+            throw e;
         }
-        stripes = openStripes(settings);
     }
 
     /** Keeps bytes, if the settings say so, the types have bytes, and no entry expires; else objects. */
@@ -140,7 +143,13 @@ final class CacheContext<K, V> {
         for (Stripe stripe : stripes) {
             stripe.close();
         }
-        outside.close();
+        closeGiven();
+    }
+
+    private void closeGiven() {
+        if (outside != null) {
+            outside.close();
+        }
         if (expiry != null) {
             expiry.close();
         }

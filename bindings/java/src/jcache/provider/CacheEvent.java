@@ -11,6 +11,8 @@ final class CacheEvent<K, V> extends CacheEntryEvent<K, V> {
     private final transient Object key;
     private final transient Object stored;
     private final transient Object before;
+    /** The thread whose call has made it; null: that has left. The lock of the stripe guards it. */
+    transient Thread caller = Thread.currentThread();
 
     CacheEvent(CacheContext<K, V> context, EventType type, Object key, Object stored, Object before) {
         super(context.cache, type);

@@ -31,6 +31,8 @@ final class Expiry {
             case Native.LOAD:
             case Native.RELOAD:
                 return Due.NOTHING;
+            case Native.INVOKE:
+                return call.hasRead ? Due.ACCESS : Due.NOTHING;
             default:
                 return Due.ACCESS;
         }

@@ -54,9 +54,9 @@ final class Invocations<K, V> {
         }
     }
 
-    /** A failed load is what the processor threw of it, or, if the processor has caught it, the load's own failure. */
+    /** A failed load is what the processor threw then, or, if it threw nothing, the load's own failure. */
     private static EntryProcessorException ofLoad(Call call) {
-        return call.fault instanceof EntryProcessorException ? (EntryProcessorException) call.fault
+        return call.fault != null ? Faults.ofProcessor(call.fault)
                 : new EntryProcessorException(Faults.ofLoader(call.cause));
     }
 

@@ -84,7 +84,13 @@ abstract class KeyedDesk {
      */
     void begin(Call call, Node node) {
         int session = sessions.take();
-        int result = firstWithRoom(call, node, session);
+        int result;
+        try {
+            result = firstWithRoom(call, node, session);
+        } catch (RuntimeException | Error e) {
+            sessions.give(session);
+            throw e;
+        }
         call.node = node;
         call.next = Desk.next(result);
         switch (call.next) {

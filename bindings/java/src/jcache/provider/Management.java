@@ -1,6 +1,8 @@
 package jcache.provider;
 
 import java.lang.management.ManagementFactory;
+import java.util.HashMap;
+import java.util.Map;
 import javax.cache.CacheException;
 import javax.management.JMException;
 import javax.management.MBeanServer;
@@ -8,25 +10,29 @@ import javax.management.ObjectName;
 
 /** Registers the beans of caches with the platform's server, under the names of JSR 107, "Management". */
 final class Management {
+    /** Which cache has registered the bean of a name: names of different caches may be the same. */
+    private static final Map<ObjectName, JcacheCache<?, ?>> OWNERS = new HashMap<>();
+
     private Management() {
     }
 
     static void showStatistics(JcacheCache<?, ?> cache, boolean isOn) {
-        show(nameOf(cache, "CacheStatistics"), isOn ? new StatisticsBean(cache) : null);
+        show(cache, nameOf(cache, "CacheStatistics"), isOn ? new StatisticsBean(cache) : null);
     }
 
     static void showConfiguration(JcacheCache<?, ?> cache, boolean isOn) {
-        show(nameOf(cache, "CacheConfiguration"), isOn ? new ConfigurationBean(cache) : null);
+        show(cache, nameOf(cache, "CacheConfiguration"), isOn ? new ConfigurationBean(cache) : null);
     }
 
-    /** Registers a bean, if none is registered; or takes the registered one out. */
-    private static void show(ObjectName name, Object bean) {
+    /** Registers a bean of an open cache, if none is registered; or, if it is null, takes the cache's own one out. */
+    private static synchronized void show(JcacheCache<?, ?> cache, ObjectName name, Object bean) {
         MBeanServer server = ManagementFactory.getPlatformMBeanServer();
         try {
             boolean isRegistered = server.isRegistered(name);
-            if (bean != null && !isRegistered) {
+            if (bean != null && !isRegistered && !cache.isClosed()) {
                 server.registerMBean(bean, name);
-            } else if (bean == null && isRegistered) {
+                OWNERS.put(name, cache);
+            } else if (bean == null && OWNERS.remove(name, cache) && isRegistered) {
                 server.unregisterMBean(name);
             }
         } catch (JMException e) {

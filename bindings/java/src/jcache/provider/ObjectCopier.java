@@ -7,6 +7,7 @@ import java.io.InputStream;
 import java.io.ObjectInputStream;
 import java.io.ObjectOutputStream;
 import java.io.ObjectStreamClass;
+import java.lang.reflect.Proxy;
 import java.util.function.Supplier;
 import javax.cache.CacheException;
 
@@ -96,6 +97,19 @@ final class ObjectCopier extends Copier {
                 return Class.forName(description.getName(), false, loader);
             } catch (ClassNotFoundException e) {
                 return super.resolveClass(description);
+            }
+        }
+
+        @Override
+        protected Class<?> resolveProxyClass(String[] names) throws IOException, ClassNotFoundException {
+            try {
+                Class<?>[] interfaces = new Class<?>[names.length];
+                for (int i = 0; i < names.length; i++) {
+                    interfaces[i] = Class.forName(names[i], false, loader);
+                }
+                return Proxy.newProxyInstance(loader, interfaces, (proxy, method, arguments) -> null).getClass();
+            } catch (ClassNotFoundException | IllegalArgumentException e) {
+                return super.resolveProxyClass(names);
             }
         }
     }

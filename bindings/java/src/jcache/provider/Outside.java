@@ -10,7 +10,6 @@ import java.util.Set;
 import java.util.concurrent.Callable;
 import javax.cache.Cache;
 import javax.cache.configuration.CompleteConfiguration;
-import javax.cache.configuration.Factory;
 import javax.cache.integration.CacheLoader;
 import javax.cache.integration.CacheWriter;
 import javax.cache.integration.CacheWriterException;
@@ -33,10 +32,8 @@ final class Outside<K, V> {
     @SuppressWarnings("unchecked")
     Outside(CompleteConfiguration<K, V> configuration, Copier copier) {
         this.copier = copier;
-        Factory<CacheLoader<K, V>> loaders = configuration.getCacheLoaderFactory();
-        loader = loaders == null ? null : loaders.create();
-        Factory<CacheWriter<? super K, ? super V>> writers = configuration.getCacheWriterFactory();
-        writer = writers == null ? null : (CacheWriter<K, V>) writers.create();
+        loader = Closing.create(configuration.getCacheLoaderFactory());
+        writer = (CacheWriter<K, V>) Closing.create(configuration.getCacheWriterFactory(), loader);
         readsThrough = configuration.isReadThrough() && loader != null;
         writesThrough = configuration.isWriteThrough() && writer != null;
     }

@@ -67,6 +67,7 @@ final class ProcessorEntry<K, V> implements MutableEntry<K, V> {
             return set;
         }
         if (call.before != null) {
+            call.hasRead = true;
             return context.valueOut(call.before);
         }
         if (call.loadAnswer == Native.NOT_ASKED && context.outside.readsThrough()) {

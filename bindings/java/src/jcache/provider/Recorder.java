@@ -86,32 +86,44 @@ final class Recorder {
         }
         String name = URLEncoder.encode(cacheName, StandardCharsets.UTF_8) + "-" + stripe + FILE_END;
         ByteCopier bytes = copier instanceof ByteCopier ? (ByteCopier) copier : null;
-        Recorder recorder = new Recorder(settings.record.resolve(name), stripe, bytes == null);
-        recorder.claimFile();
         try {
-            Files.createDirectories(settings.record);
-            try (DataOutputStream out = recorder.append()) {
-                out.writeByte(OPENED);
-                out.writeInt(stripe);
-                out.writeByte(bytes == null ? NUMBERS : bytes.keyForm().ordinal());
-                out.writeByte(bytes == null ? NUMBERS : bytes.valueForm().ordinal());
-            }
+            Recorder recorder = new Recorder(realFolder(settings.record).resolve(name), stripe, bytes == null);
+            recorder.claimFile();
+            recorder.writeOpening(bytes);
+            return recorder;
         } catch (IOException e) {
-            recorder.hasEnded = true;
             throw new CacheException("no record can be written to " + settings.record + ", which the property "
                     + Settings.RECORD + " names", e);
         }
-        return recorder;
+    }
+
+    /** The one name of a folder that may have others. It is made if it isn't there. */
+    private static Path realFolder(Path folder) throws IOException {
+        Files.createDirectories(folder);
+        return folder.toRealPath();
     }
 
     private void claimFile() {
         synchronized (WRITERS) {
-            WeakReference<Recorder> reference = WRITERS.get(file.toAbsolutePath());
+            WeakReference<Recorder> reference = WRITERS.get(file);
             Recorder writer = reference == null ? null : reference.get();
             if (writer != null && !writer.hasEnded) {
                 throw new CacheException("another cache of the same name writes its record to " + file);
             }
-            WRITERS.put(file.toAbsolutePath(), new WeakReference<>(this));
+            WRITERS.put(file, new WeakReference<>(this));
+        }
+    }
+
+    /** Writes that the file is opened. The copier of bytes is null if the core knows keys and values by numbers. */
+    private void writeOpening(ByteCopier bytes) throws IOException {
+        try (DataOutputStream out = append()) {
+            out.writeByte(OPENED);
+            out.writeInt(stripe);
+            out.writeByte(bytes == null ? NUMBERS : bytes.keyForm().ordinal());
+            out.writeByte(bytes == null ? NUMBERS : bytes.valueForm().ordinal());
+        } catch (IOException e) {
+            hasEnded = true;
+            throw e;
         }
     }
 

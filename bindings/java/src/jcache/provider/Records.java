@@ -22,7 +22,7 @@ import java.util.stream.Stream;
  */
 public final class Records {
     private static final int WRONG_USAGE = 2;
-    private static final int NOT_READ = 3;
+    private static final int NOT_PRINTED = 3;
 
     /** The keys of an opening that the core knows by numbers. */
     private EventTexts.OfNumbers named = new EventTexts.OfNumbers();
@@ -41,7 +41,8 @@ public final class Records {
     }
 
     /**
-     * Prints the records of a folder. The exit status is 2 if the words are wrong, and 3 if a record can't be read.
+     * Prints the records of a folder. The exit status is 2 if the words are wrong, and 3 if a record can't be read, or
+     * what is printed can't be written.
      *
      * @param words the folder, and perhaps a key
      */
@@ -56,9 +57,12 @@ public final class Records {
         } catch (IOException e) {
             out.flush();
             System.err.println("Records: " + e);
-            System.exit(NOT_READ);
+            System.exit(NOT_PRINTED);
         }
-        out.flush();
+        if (out.checkError()) {
+            System.err.println("Records: what was read can't be written");
+            System.exit(NOT_PRINTED);
+        }
     }
 
     /** Prints the records of a folder, of one key or, if it is null, of all. */

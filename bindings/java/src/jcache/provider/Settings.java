@@ -48,14 +48,11 @@ final class Settings {
     /**
      * Reads the properties of a manager.
      *
-     * @throws CacheException if one is unknown, isn't a number, or is out of its limits; the text names it and them
+     * @throws CacheException if one is unknown, isn't a String or a number, or is out of its limits; the text names it
+     *     and them
      */
     Settings(Properties properties) {
-        for (Object name : properties.keySet()) {
-            if (name.toString().startsWith(PREFIX) && !ALL.contains(name)) {
-                throw new CacheException("there is no property " + name + "; there are " + String.join(", ", ALL));
-            }
-        }
+        properties.forEach(Settings::check);
         Properties defaults = defaults();
         stripes = number(properties, defaults, STRIPES, 1, STRIPES_MAX);
         capacity = number(properties, defaults, CAPACITY, 1, CAPACITY_MAX);
@@ -64,6 +61,21 @@ final class Settings {
         String folder = properties.getProperty(RECORD, defaults.getProperty(RECORD));
         record = folder == null ? null : Path.of(folder);
         library = properties.getProperty(NativeLibrary.PROPERTY, defaults.getProperty(NativeLibrary.PROPERTY));
+    }
+
+    /** Checks a property that is set, if it is the provider's own. {@code getProperty} sees none but Strings. */
+    private static void check(Object key, Object value) {
+        String name = key.toString();
+        if (!name.startsWith(PREFIX)) {
+            return;
+        }
+        if (!ALL.contains(name)) {
+            throw new CacheException("there is no property " + name + "; there are " + String.join(", ", ALL));
+        }
+        if (!(key instanceof String && value instanceof String)) {
+            throw new CacheException("the property " + name + " is '" + value + "', a " + value.getClass().getName()
+                    + ": it has to be a String");
+        }
     }
 
     /** The default properties: those that system properties of the same names set, and the provider's. */

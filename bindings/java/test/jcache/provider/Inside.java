@@ -24,6 +24,24 @@ public final class Inside {
         return List.of(core[0], core[1], core[2], core[3]);
     }
 
+    /** Shows the statistics of a cache, as its manager does beside a close. */
+    public static void showStatistics(Cache<?, ?> cache) {
+        Management.showStatistics((JcacheCache<?, ?>) cache, true);
+    }
+
+    /**
+     * Begins a call at a stripe whose first phase throws this. Throws that, or IllegalStateException if something is
+     * out then.
+     */
+    public static void beginAtBrokenDesk(RuntimeException fault) {
+        KeyedDesk desk = new BrokenDesk(fault);
+        try {
+            desk.begin(new Call(Native.GET, new KeyLookup("key", 0, null)), null);
+        } finally {
+            desk.verify();
+        }
+    }
+
     private static int verify(Cache<?, ?> cache, long[] core) {
         int cached = 0;
         for (Stripe stripe : ((JcacheCache<?, ?>) cache).stripes()) {

@@ -72,6 +72,7 @@ final class BytesInTheCore {
         checkRefused("a key with a lone surrogate", () -> cache.put("a\uD83D", "v"));
         checkRefused("a value with a lone surrogate", () -> cache.put("k", "\uDE00a"));
         checkRefused("one of many", () -> cache.putAll(Map.of("a", "1", "k".repeat(33), "v")));
+        checkRefused("also of loadAll", () -> cache.loadAll(Set.of("k".repeat(33)), false, null));
         equal("what was cached is", Map.of("k", "v"), cache.getAll(Set.of("k", "a")));
     }
 

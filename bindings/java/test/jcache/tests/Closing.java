@@ -4,6 +4,7 @@ import static jcache.tests.Check.equal;
 import static jcache.tests.Check.holds;
 import static jcache.tests.Check.thrown;
 
+import java.io.Closeable;
 import java.io.IOException;
 import java.net.URI;
 import java.net.URL;
@@ -14,10 +15,14 @@ import java.util.List;
 import java.util.Map;
 import java.util.Set;
 import java.util.concurrent.atomic.AtomicInteger;
+import java.util.function.Consumer;
 import javax.cache.Cache;
 import javax.cache.CacheManager;
 import javax.cache.Caching;
+import javax.cache.configuration.MutableCacheEntryListenerConfiguration;
 import javax.cache.configuration.MutableConfiguration;
+import javax.cache.event.CacheEntryCreatedListener;
+import javax.cache.event.CacheEntryEvent;
 import jcache.tests.Background.Work;
 import jcache.tests.Check.Test;
 
@@ -60,6 +65,50 @@ final class Closing {
         holds("a loader and a writer that are Closeable are closed", store.closed);
         cache.close();
         holds("a second close does nothing", cache.isClosed());
+    }
+
+    @Test
+    static void whatACacheThatCannotBeMadeWasGivenIsClosed() {
+        checkClosed("the factory of its writer", it -> it.setCacheWriterFactory(Closing::broken));
+        checkClosed("that of a listener", it -> it.addCacheEntryListenerConfiguration(
+                new MutableCacheEntryListenerConfiguration<>(Closing::broken, null, false, true)));
+    }
+
+    private static <T> T broken() {
+        throw new IllegalStateException("broken");
+    }
+
+    private static void checkClosed(String what, Consumer<MutableConfiguration<Integer, String>> breaking) {
+        Store<Integer, String> store = new Store<>();
+        MutableConfiguration<Integer, String> configuration = Caches.over(store);
+        breaking.accept(configuration);
+        thrown(what + " throws, and so does createCache", IllegalStateException.class,
+                () -> Caches.create(configuration));
+        holds("which closes what was made before it", store.closed);
+    }
+
+    /** A listener that can't be closed, as its classes are gone. */
+    private static final class Undeployed implements CacheEntryCreatedListener<Integer, String>, Closeable {
+        @Override
+        public void onCreated(Iterable<CacheEntryEvent<? extends Integer, ? extends String>> events) {}
+
+        @Override
+        public void close() {
+            throw new NoClassDefFoundError("gone");
+        }
+    }
+
+    @Test
+    static void aCloseThatFailsStopsNoOther() {
+        CacheManager manager = Caches.manager(1, 10);
+        MutableConfiguration<Integer, String> configuration = new MutableConfiguration<Integer, String>()
+                .addCacheEntryListenerConfiguration(new MutableCacheEntryListenerConfiguration<>(Undeployed::new, null,
+                        false, true));
+        List<Cache<Integer, String>> all =
+                List.of(manager.createCache("one", configuration), manager.createCache("two", configuration));
+        manager.close();
+        holds("a manager closes each of its caches, also if what they were given can't be closed",
+                all.stream().allMatch(Cache::isClosed));
     }
 
     @Test

@@ -19,6 +19,7 @@ import javax.cache.expiry.ExpiryPolicy;
 import javax.cache.expiry.ModifiedExpiryPolicy;
 import javax.cache.expiry.TouchedExpiryPolicy;
 import javax.cache.integration.CompletionListenerFuture;
+import jcache.tests.Background.Work;
 import jcache.tests.Check.Test;
 
 /** When an {@link ExpiryPolicy} is asked, and what becomes of an entry that has expired. */
@@ -33,6 +34,7 @@ final class Expiry {
         private final AtomicInteger accesses = new AtomicInteger();
         private final AtomicInteger updates = new AtomicInteger();
         volatile Duration creation = Duration.ETERNAL;
+        volatile Duration access;
 
         @Override
         public Duration getExpiryForCreation() {
@@ -43,7 +45,7 @@ final class Expiry {
         @Override
         public Duration getExpiryForAccess() {
             accesses.incrementAndGet();
-            return null;
+            return access;
         }
 
         @Override
@@ -118,6 +120,8 @@ final class Expiry {
         equal("an iterator for each entry that it hands out", List.of(0, 2, 0), policy.take());
         cache.invoke(1L, (entry, arguments) -> entry.getValue());
         equal("a processor that gets the value for its access", List.of(0, 1, 0), policy.take());
+        cache.invoke(1L, (entry, arguments) -> entry.exists());
+        equal("one that doesn't asks nothing", List.of(0, 0, 0), policy.take());
         cache.invoke(1L, (entry, arguments) -> {
             entry.setValue("x");
             return null;
@@ -268,5 +272,30 @@ final class Expiry {
         equal("a policy that throws fails no call: the entry is cached", "a", cache.get(1L));
         cache.put(1L, "b");
         equal("and updated", "b", cache.get(1L));
+    }
+
+    @Test
+    static void putAllWaitsForAKeyThatHasExpiredWhileItIsReserved() throws Exception {
+        Store<Long, String> store = new Store<>();
+        Counting policy = new Counting();
+        Cache<Long, String> cache = Caches.create(Caches.over(store).setExpiryPolicyFactory(() -> policy));
+        cache.put(2L, "old");
+        Store.Gate gate = new Store.Gate();
+        Work<String> slow = Background.start(() -> cache.invoke(2L, (entry, arguments) -> {
+            gate.pass();
+            return "done";
+        }));
+        gate.awaitCall();
+        policy.access = Duration.ZERO;
+        equal("a get finds an entry whose key is reserved", "old", cache.get(2L));
+        policy.access = null;
+        Map<Long, String> entries = Map.of(1L, "a", 2L, "b", 3L, "c");
+        Work<Void> put = Background.start(() -> cache.putAll(entries));
+        put.awaitSleep();
+        gate.open();
+        slow.result();
+        put.result();
+        equal("putAll waits for it, also if it has expired by that get, and writes it", entries, store.map);
+        equal("and caches it", entries, cache.getAll(entries.keySet()));
     }
 }

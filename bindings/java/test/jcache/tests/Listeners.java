@@ -13,7 +13,9 @@ import java.util.Map;
 import java.util.Set;
 import java.util.concurrent.CountDownLatch;
 import java.util.concurrent.TimeUnit;
+import java.util.concurrent.atomic.AtomicBoolean;
 import javax.cache.Cache;
+import javax.cache.CacheManager;
 import javax.cache.configuration.CacheEntryListenerConfiguration;
 import javax.cache.configuration.Factory;
 import javax.cache.configuration.MutableCacheEntryListenerConfiguration;
@@ -327,5 +329,110 @@ final class Listeners {
             follows += lines.get(i).endsWith("<" + before) ? 1 : 0;
         }
         equal("in the order in which they were done: each has the value before as its old one", 1999, follows);
+    }
+
+    @Test
+    static void aListenerWhoseFactoryFailsMayBeRegisteredAgain() {
+        Log log = new Log();
+        AtomicBoolean fails = new AtomicBoolean(true);
+        Factory<CacheEntryListener<Long, String>> factory = () -> {
+            if (fails.get()) {
+                throw new IllegalStateException("not now");
+            }
+            return log;
+        };
+        CacheEntryListenerConfiguration<Long, String> configuration =
+                new MutableCacheEntryListenerConfiguration<>(factory, null, true, true);
+        Cache<Long, String> cache = Caches.plain(Long.class, String.class);
+        thrown("what a listener's factory throws is passed on", IllegalStateException.class,
+                () -> cache.registerCacheEntryListener(configuration));
+        fails.set(false);
+        cache.registerCacheEntryListener(configuration);
+        cache.put(1L, "a");
+        equal("and the listener may be registered then", List.of("CREATED 1=a<-"), log.take());
+    }
+
+    @Test
+    static void aClosedCacheTellsNobody() throws Exception {
+        Log log = new Log();
+        Cache<Long, String> cache = listened(log);
+        Store.Gate told = new Store.Gate();
+        List<Thread> tellers = Collections.synchronizedList(new ArrayList<>());
+        CacheEntryCreatedListener<Long, String> slow = events -> {
+            tellers.add(Thread.currentThread());
+            told.pass();
+        };
+        cache.registerCacheEntryListener(new MutableCacheEntryListenerConfiguration<>(() -> slow, null, false, false));
+        cache.put(1L, "a");
+        cache.put(2L, "b");
+        told.awaitCall();
+        Store.Gate invoked = new Store.Gate();
+        Work<String> late = Background.start(() -> cache.invoke(3L, (entry, arguments) -> {
+            invoked.pass();
+            entry.setValue("c");
+            return "done";
+        }));
+        invoked.awaitCall();
+        log.take();
+        cache.close();
+        invoked.open();
+        late.result();
+        equal("a call that ends after a close tells no listener", List.of(), log.take());
+        told.open();
+        Background.start(() -> tellers.get(0).join()).result();
+        equal("nor is one that isn't synchronous told what it has not been told before", 1, tellers.size());
+    }
+
+    @Test
+    static void whatAListenerThrowsIsForTheCallerOfTheEvent() throws Exception {
+        CacheManager manager = Caches.manager(1, 100);
+        Store.Gate gate = new Store.Gate();
+        CacheEntryCreatedListener<Long, String> strict = events -> events.forEach(event -> {
+            if (event.getKey() == 2L) {
+                throw new IllegalArgumentException("two");
+            }
+            gate.pass();
+        });
+        Cache<Long, String> cache = Caches.create(manager, new MutableConfiguration<>());
+        cache.registerCacheEntryListener(synchronous(strict));
+        Work<Void> first = Background.start(() -> cache.put(1L, "a"));
+        gate.awaitCall();
+        Work<Void> second = Background.start(() -> cache.put(2L, "b"));
+        second.awaitSleep();
+        gate.open();
+        equal("a call that tells another one's event has no exception of that", null, first.result());
+        thrown("but the other one", CacheEntryListenerException.class, second::result);
+        manager.close();
+    }
+
+    @Test
+    static void aCallThatHasReservedAKeyWaitsForNoListener() throws Exception {
+        CacheManager manager = Caches.manager(1, 100);
+        Cache<Long, String> cache = Caches.create(manager, new MutableConfiguration<>());
+        List<Long> told = Collections.synchronizedList(new ArrayList<>());
+        CacheEntryCreatedListener<Long, String> calling = events -> events.forEach(event -> {
+            told.add(event.getKey());
+            if (event.getKey() == 1L) {
+                cache.putIfAbsent(2L, "b");
+            } else if (event.getKey() == 3L) {
+                throw new IllegalArgumentException("three");
+            }
+        });
+        cache.registerCacheEntryListener(synchronous(calling));
+        Store.Gate gate = new Store.Gate();
+        Work<String> invoking = Background.start(() -> cache.invoke(2L, (entry, arguments) -> {
+            gate.pass();
+            cache.put(3L, "c");
+            entry.setValue("b");
+            return "done";
+        }));
+        gate.awaitCall();
+        Work<Void> telling = Background.start(() -> cache.put(1L, "a"));
+        telling.awaitSleep();
+        gate.open();
+        equal("a processor's call ends while a listener waits for the processor's key", "done", invoking.result());
+        equal("what a listener throws of it then fails nobody", null, telling.result());
+        equal("and each event is told, in the order of the steps", List.of(1L, 3L, 2L), told);
+        manager.close();
     }
 }

@@ -156,4 +156,11 @@ final class LostThreads {
         scene.store.open();
         scene.checkFree();
     }
+
+    @Test
+    static void aFirstPhaseThatThrowsLeavesNothingOut() {
+        IllegalStateException fault = new IllegalStateException("broken");
+        same("what a first phase throws is passed on, and its session is given back", fault,
+                thrown("a first phase throws", IllegalStateException.class, () -> Inside.beginAtBrokenDesk(fault)));
+    }
 }

@@ -226,12 +226,13 @@ final class Managers {
         checkRefused("history", "15", "16 to 65536");
         checkRefused("history", "65537", "16 to 65536");
         checkRefused("stripe", "1", "jcache.provider.stripes");
+        checkRefused("stripes", 16, "a String");
     }
 
     /** That a property of this value is refused, with its name and its limits in the text. */
-    private static void checkRefused(String property, String value, String limits) {
+    private static void checkRefused(String property, Object value, String limits) {
         Properties properties = new Properties();
-        properties.setProperty("jcache.provider." + property, value);
+        properties.put("jcache.provider." + property, value);
         CacheException refused = thrown(property + " of " + value + " is CacheException", CacheException.class,
                 () -> Caches.create(Caches.manager(properties), new MutableConfiguration<>()));
         String text = String.valueOf(refused);

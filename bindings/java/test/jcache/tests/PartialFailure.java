@@ -8,6 +8,7 @@ import static jcache.tests.Check.thrown;
 import java.util.Collection;
 import java.util.HashMap;
 import java.util.LinkedHashMap;
+import java.util.List;
 import java.util.Map;
 import java.util.Set;
 import java.util.TreeMap;
@@ -16,6 +17,7 @@ import javax.cache.CacheException;
 import javax.cache.configuration.MutableConfiguration;
 import javax.cache.integration.CacheWriter;
 import javax.cache.integration.CacheWriterException;
+import jcache.tests.Background.Work;
 import jcache.tests.Check.Test;
 
 /**
@@ -165,6 +167,27 @@ final class PartialFailure {
         store.fault = null;
         holds("nothing of it is cached", !cache.containsKey(1) && !cache.containsKey(2));
         equal("and the keys are free", Map.of(1, "one", 2, "two"), cache.getAll(Set.of(1, 2)));
+    }
+
+    @Test
+    static void aCallThatIsStoppedTellsWhatFailedBefore() throws Exception {
+        Store<Integer, Integer> store = new Store<>();
+        Cache<Integer, Integer> cache =
+                Caches.create(Caches.manager(1, 4096), Caches.over(store).setTypes(Integer.class, Integer.class));
+        Map<Integer, Integer> entries = new HashMap<>();
+        for (int key = 0; key < 65; key++) {
+            entries.put(key, key);
+        }
+        Store.Gate gate = store.shut();
+        Work<Void> put = Background.start(() -> cache.putAll(entries));
+        gate.awaitCall();
+        store.fault = new IllegalStateException("down");
+        cache.close();
+        store.open();
+        IllegalStateException stopped = thrown("putAll whose cache is closed before its second round says so",
+                IllegalStateException.class, put::result);
+        equal("and what the writer has thrown in the first one", List.of(store.fault),
+                List.of(stopped.getSuppressed()));
     }
 
     private static <V> Map<Integer, V> contents(Cache<Integer, V> cache) {

@@ -242,6 +242,17 @@ final class Processors {
                     }
                 }));
         holds("the failed load is its cause", stubborn.getCause() instanceof CacheLoaderException);
+        UnsupportedOperationException own = new UnsupportedOperationException("own");
+        EntryProcessorException other =
+                thrown("nor by throwing something else", EntryProcessorException.class,
+                () -> cache.invoke(1, (entry, arguments) -> {
+                    try {
+                        return entry.getValue();
+                    } catch (CacheLoaderException e) {
+                        throw own;
+                    }
+                }));
+        same("which is its cause then", own, other.getCause());
         store.fault = null;
         holds("nothing is cached", !cache.containsKey(1));
         equal("and the key is free", 1, cache.invoke(1, Processors::append, "b"));

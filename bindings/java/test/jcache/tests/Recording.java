@@ -5,6 +5,7 @@ import static jcache.tests.Check.holds;
 import static jcache.tests.Check.thrown;
 
 import java.io.ByteArrayOutputStream;
+import java.io.File;
 import java.io.IOException;
 import java.io.PrintStream;
 import java.nio.charset.StandardCharsets;
@@ -189,28 +190,44 @@ final class Recording {
     @Test
     static void twoCachesNeverWriteOneRecord() throws Exception {
         try (Scene scene = new Scene(64)) {
-            Properties properties = new Properties();
-            properties.setProperty("jcache.provider.record", scene.folder.toString());
-            CacheManager other = Caches.manager(properties);
-            thrown("a second cache of a name with the same folder is CacheException", CacheException.class,
-                    () -> other.createCache("kept", new MutableConfiguration<>()));
+            Path same = scene.folder.resolve("..").resolve(scene.folder.getFileName());
+            CacheManager other = writingTo(same);
+            for (CacheManager manager : List.of(other, writingTo(scene.folder), writingTo(scene.folder.resolve(".")))) {
+                thrown("a second cache of a name with the same folder, whatever that is called, is CacheException",
+                        CacheException.class, () -> manager.createCache("kept", new MutableConfiguration<>()));
+            }
             scene.cache.close();
             other.createCache("kept", new MutableConfiguration<>()).close();
             holds("once the first is closed it may write, after what is there",
                     scene.all(null).stream().filter(line -> line.equals("# closed")).count() > 1);
-            other.close();
+        }
+    }
+
+    private static CacheManager writingTo(Path folder) {
+        Properties properties = new Properties();
+        properties.setProperty("jcache.provider.record", folder.toString());
+        return Caches.manager(properties);
+    }
+
+    @Test
+    static void anOutputThatFailsIsAStatus() throws Exception {
+        try (Scene scene = new Scene(64)) {
+            Process records = new ProcessBuilder(Path.of(System.getProperty("java.home"), "bin", "java").toString(),
+                    "-cp", System.getProperty("java.class.path"), Records.class.getName(), scene.folder.toString())
+                    .redirectOutput(new File("/dev/full")).redirectError(ProcessBuilder.Redirect.DISCARD).start();
+            equal("Records has status 3 if what it prints can't be written", 3, records.waitFor());
         }
     }
 
     @Test
     static void aFolderThatCannotBeWrittenIsNamed() throws Exception {
         Path file = Files.createTempFile("records", "");
-        Properties properties = new Properties();
-        properties.setProperty("jcache.provider.record", file.resolve("below").toString());
+        Store<String, String> store = new Store<>();
         CacheException refused = thrown("a folder below a file is CacheException", CacheException.class,
-                () -> Caches.create(Caches.manager(properties), new MutableConfiguration<>()));
+                () -> Caches.create(writingTo(file.resolve("below")), Caches.over(store)));
         holds("whose text names the property: " + refused.getMessage(),
                 refused.getMessage().contains("jcache.provider.record"));
+        holds("and the store that the cache was given is closed", store.closed);
         Files.delete(file);
     }
 }

@@ -296,6 +296,20 @@ final class Statistics {
         checkBeans("and close the other", cache, false, false);
     }
 
+    @Test
+    static void aBeanIsOfOneCache() throws Exception {
+        MutableConfiguration<Long, String> counting = new MutableConfiguration<Long, String>()
+                .setStatisticsEnabled(true);
+        Cache<Long, String> first = Caches.manager().createCache("one:bean", counting);
+        Cache<Long, String> second = Caches.manager().createCache("one.bean", counting);
+        second.close();
+        checkBeans("a cache takes no bean of another one out, whose bean has the same name", second, true, false);
+        first.close();
+        checkBeans("but its own", second, false, false);
+        Inside.showStatistics(first);
+        checkBeans("and a cache that is closed has none", second, false, false);
+    }
+
     private static void checkBeans(String rule, Cache<?, ?> cache, boolean statistics, boolean configuration)
             throws Exception {
         equal(rule, List.of(statistics, configuration), List.of(BEANS.isRegistered(beanOf(cache, "CacheStatistics")),

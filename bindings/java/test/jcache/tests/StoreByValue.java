@@ -11,6 +11,9 @@ import java.io.InputStream;
 import java.io.ObjectOutputStream;
 import java.io.Serializable;
 import java.lang.reflect.Constructor;
+import java.lang.reflect.InvocationHandler;
+import java.lang.reflect.Method;
+import java.lang.reflect.Proxy;
 import java.net.URI;
 import java.util.ArrayList;
 import java.util.Arrays;
@@ -164,15 +167,30 @@ final class StoreByValue {
         return bytes.toByteArray();
     }
 
-    /** A loader with a class of its own, under a name that its parent has, too. */
+    /** What a proxy is. */
+    private interface Figure {}
+
+    /** What a proxy calls. */
+    private static final class Handler implements InvocationHandler, Serializable {
+        private static final long serialVersionUID = 1;
+
+        @Override
+        public Object invoke(Object proxy, Method method, Object[] arguments) {
+            return null;
+        }
+    }
+
+    /** A loader with two classes of its own, under names that its parent has, too. */
     private static final class OwnPoints extends ClassLoader {
+        private static final Set<String> OWN = Set.of(Point.class.getName(), Figure.class.getName());
+
         OwnPoints() {
             super(StoreByValue.class.getClassLoader());
         }
 
         @Override
         protected Class<?> loadClass(String name, boolean resolve) throws ClassNotFoundException {
-            if (!name.equals(Point.class.getName())) {
+            if (!OWN.contains(name)) {
                 return super.loadClass(name, resolve);
             }
             synchronized (getClassLoadingLock(name)) {
@@ -195,6 +213,11 @@ final class StoreByValue {
             constructor.setAccessible(true);
             return constructor.newInstance(x);
         }
+
+        Object figure() throws ReflectiveOperationException {
+            Class<?>[] interfaces = {loadClass(Figure.class.getName())};
+            return Proxy.newProxyInstance(this, interfaces, new Handler());
+        }
     }
 
     @Test
@@ -206,6 +229,8 @@ final class StoreByValue {
         same("a value's copy is of the class that the manager's class loader has", loader,
                 cache.get(loader.point(1)).getClass().getClassLoader());
         same("and so is a key's", loader, cache.iterator().next().getKey().getClass().getClassLoader());
+        cache.put(loader.point(1), loader.figure());
+        same("and a proxy's", loader, cache.get(loader.point(1)).getClass().getClassLoader());
         manager.close();
     }
 
