@@ -1,5 +1,6 @@
 //! The last phases of a round of a call with many keys, once the outside answers are there.
-ghost use Rattle.std.specs.Prelude.{◌≡◌, ◌<◌, ◌+◌, [], length, reverse};
+ghost use Rattle.std.specs.Prelude.{◌≡◌, ◌+◌, [], Some, reverse, slice_get};
+ghost use Rattle.jc_rounds.specs.declared.progress.KeyProgress.TheVariants.{Reserved};
 ghost use Rattle.jc_rounds.specs.Answers.{AreAnswers, done_room};
 ghost use Rattle.jc_rounds.specs.Rounds.{Round};
 ghost use Rattle.jc_rounds.specs.KeyProgress.{IsNoted, failures};
@@ -36,14 +37,16 @@ impl<'a> BulkCall<'a> {
         let mut left = answers;
         self.tickets.reverse();
         for place in 0..self.progress.len() {
+            if !self.progress[place].holds_reservation() {
+                continue;
+            }
             self.commit_at(rt, cache, session, place, &mut left);
         }
         self.note_failures();
         left
     }
 
-    /// Makes the last phase at the key of this place, if it is reserved. No key before it is. The first key's ticket is the last
-    /// in the list.
+    /// Makes the last phase at the key of this place, the first one that is reserved. Its ticket is the last in the list.
     fn commit_at<R: Wait>(
         &mut self,
         rt: &R,
@@ -52,7 +55,7 @@ impl<'a> BulkCall<'a> {
         place: usize,
         answers: &mut RoundAnswers,
     )
-        requires place { place < length self.old.progress.items }
+        requires there { slice_get self.old.progress.items place ≡ Some Reserved }
         requires answered { (past : CallPast) × (round : Round)
             × IsCommitting cache.now past round session.old self.old (reverse self.old.tickets.items) answers.old place }
         ensures advances { AdvancesUnnoted session.old session.new self.old self.new }
@@ -62,15 +65,13 @@ impl<'a> BulkCall<'a> {
         ensures room { done_room answers.new ≡ done_room answers.old }
     {
         let _types: Option<&(Reply, Value)> = None;
-        if self.progress[place].holds_reservation() {
-            match self.tickets.pop() {
-                Some(ticket) => {
-                    let mut reply = Reply::Unit;
-                    answers.commit_next(rt, cache, session, ticket, &mut reply);
-                    self.progress[place] = KeyProgress::Ended(Ok(reply));
-                }
-                None => unreachable!(),
+        match self.tickets.pop() {
+            Some(ticket) => {
+                let mut reply = Reply::Unit;
+                answers.commit_next(rt, cache, session, ticket, &mut reply);
+                self.progress[place] = KeyProgress::Ended(Ok(reply));
             }
+            None => unreachable!(),
         }
     }
 }

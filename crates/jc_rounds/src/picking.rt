@@ -1,5 +1,6 @@
 //! The pick-ups of a round of a call with many keys.
-ghost use Rattle.std.specs.Prelude.{◌<◌, ◌+◌, length, reverse};
+ghost use Rattle.std.specs.Prelude.{◌≡◌, ◌+◌, Some, reverse, slice_get};
+ghost use Rattle.jc_rounds.specs.declared.progress.KeyProgress.TheVariants.{Joined};
 ghost use Rattle.jc_stripe.specs.Phases.{polled_with};
 ghost use Rattle.jc_rounds.specs.Keys.{IsPickedUp};
 ghost use Rattle.jc_rounds.specs.SoFar.{IsPicked};
@@ -29,15 +30,17 @@ impl<'a> BulkCall<'a> {
     {
         self.joins.reverse();
         for place in 0..self.progress.len() {
+            if !self.progress[place].waits_for_joined_load() {
+                continue;
+            }
             self.pick_at(rt, cache, session, place);
         }
         self.note_failures();
     }
 
-    /// Makes the pick-up at the key of this place, if it has joined a load. No key before it has. The first key's join is the
-    /// last in the list.
+    /// Makes the pick-up at the key of this place, the first one that has joined a load. Its join is the last in the list.
     fn pick_at<R: Wait>(&mut self, rt: &R, cache: &Cache, session: &mut Session, place: usize)
-        requires place { place < length self.old.progress.items }
+        requires there { slice_get self.old.progress.items place ≡ Some Joined }
         requires picking { (past : CallPast)
             × IsPicking cache.now past session.old self.old (reverse self.old.joins.items) place }
         ensures advances { AdvancesUnnoted session.old session.new self.old self.new }
@@ -46,15 +49,13 @@ impl<'a> BulkCall<'a> {
             → IsPicking cache.now past session.new self.new (reverse self.new.joins.items) (place + 1) }
     {
         let _types: Option<&(Reply, Value)> = None;
-        if self.progress[place].waits_for_joined_load() {
-            match self.joins.pop() {
-                Some(join) => {
-                    let mut reply = Reply::Unit;
-                    let picked = pick_key(rt, cache, session, join, &mut reply);
-                    self.progress[place] = after_pick_up(picked, &reply);
-                }
-                None => unreachable!(),
+        match self.joins.pop() {
+            Some(join) => {
+                let mut reply = Reply::Unit;
+                let picked = pick_key(rt, cache, session, join, &mut reply);
+                self.progress[place] = after_pick_up(picked, &reply);
             }
+            None => unreachable!(),
         }
     }
 }

@@ -1,8 +1,9 @@
-use Rattle.jc_rounds.proofs.Common.{refl, arith}
+use Rattle.jc_rounds.proofs.Common.{refl, sym, arith, ◌∙◌}
 use Rattle.jc_rounds.proofs.Failures.{keeps_itself}
 use Rattle.jc_rounds.proofs.Held.{goes_itself}
-use Rattle.jc_rounds.proofs.Loops.{noted_advances, noted_since, pick_from, pick_noted, pick_over}
+use Rattle.jc_rounds.proofs.Loops.{noted_advances, noted_since, pick_from, pick_noted, pick_over, pick_past}
 use Rattle.jc_rounds.proofs.OnCall.{unnoted_both}
+use Rattle.jc_rounds.proofs.Underway.{joined_there, there_by}
 use Rattle.jc_rounds.proofs.bulk_call.BulkCall.pick_up.Goals as goal
 
 pub loop-place-init : goal.loop-place-init
@@ -13,6 +14,18 @@ loop-place-init g c = record {
 
 pub pick_at-requires-clause-picking : goal.pick_at-requires-clause-picking
 pick_at-requires-clause-picking g c = let r = c.requires.committed in (r.0, c.loop-place.invariant.picking r.0 r.1)
+
+pub pick_at-requires-clause-there : goal.pick_at-requires-clause-there
+pick_at-requires-clause-there g c = joined_there c.loop-place.self.progress.items c.loop-place.place c.index.result.now
+    (let many = c.loop-place.invariant.advances.advances.goes.stay.many in omega (arith, many, c.args.self.now.progress.ok.0, c.len-place-end.ensures, c.loop-place-test.true)) c.index.ensures (sym c.waits_for_joined_load.ensures ∙ c.if-not-waits_for_joined_load.false)
+
+pub loop-place-preserved-then-not-waits_for_joined_load : goal.loop-place-preserved-then-not-waits_for_joined_load
+loop-place-preserved-then-not-waits_for_joined_load g c = record {
+  advances = c.loop-place.invariant.advances;
+  picking = λ past committed.
+      pick_past c.args.cache.now past c.loop-place.session c.loop-place.self c.loop-place.place c.index.result.now
+      (there_by c.loop-place.self.progress.items c.loop-place.place c.index.result.now (let many = c.loop-place.invariant.advances.advances.goes.stay.many in omega (arith, many, c.args.self.now.progress.ok.0, c.len-place-end.ensures, c.loop-place-test.true)) c.index.ensures) (sym c.waits_for_joined_load.ensures ∙ c.if-not-waits_for_joined_load.true) (c.loop-place.invariant.picking past committed);
+}
 
 pub loop-place-preserved : goal.loop-place-preserved
 loop-place-preserved g c = record {
