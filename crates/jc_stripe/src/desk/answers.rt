@@ -13,7 +13,7 @@ pub enum OpenFault {
 }
 
 /// The outcome of a first phase at a desk.
-#[derive(Clone, Copy, Debug)]
+#[derive(Clone, Copy)]
 pub enum FirstAnswer {
     /// The call is done: the place of its step in the present generation.
     Done(u32),
@@ -30,7 +30,7 @@ pub enum FirstAnswer {
 }
 
 /// The outcome of a last phase at a desk.
-#[derive(Clone, Copy, Debug)]
+#[derive(Clone, Copy)]
 pub struct CommitDone {
     /// The place of the step in the present generation.
     pub place: u32,
@@ -39,7 +39,7 @@ pub struct CommitDone {
 }
 
 /// The answer to a joiner at a desk.
-#[derive(Clone, Copy, Debug)]
+#[derive(Clone, Copy)]
 pub enum PickUpAnswer {
     /// The load was committed.
     Answer {
