@@ -72,9 +72,19 @@ class Function:
         self.owner, self.own_name = owner, name
 
     def name_in_checks(self):
-        """The name that a check prints, below its crate: the whole path, and a trait's name behind that of the type."""
-        modules = [it for it in self.file.split("/src/")[1].removesuffix(".rt").split("/") if it not in ("lib", "main")]
-        return "::".join([*modules, *([self.owner.name + self.owner.trait] if self.owner else []), self.own_name])
+        """The name that a check prints, below its crate: the path, of a method that of its type, with a trait's name behind the type's."""
+        file = TYPES[self.crate].get(self.owner.name, self.file) if self.owner else self.file
+        return "::".join([*modules_of(file), *([self.owner.name + self.owner.trait] if self.owner else []), self.own_name])
+
+
+def modules_of(file):
+    """The path of the module that is this file."""
+    return [it for it in file.split("/src/")[1].removesuffix(".rt").split("/") if it not in ("lib", "main")]
+
+
+def types_in(file):
+    """The types and traits that a file declares."""
+    return re.findall(r"^(?:pub(?:\([^)]*\))? )?(?:struct|enum|union|trait) (\w+)", bare(read(os.path.join(CRATES, file))), re.M)
 
 
 # A block of `impl` or `trait`: where it is, the names of the type and of the trait that it is for, and whether its functions are public by themselves.
@@ -281,4 +291,5 @@ def about(crate):
 LISTED = crates_listed()
 ALL = [crate for _ring, crate, _uses in LISTED]
 SPECS = {file: Specs(file) for crate in ALL for file in files_of(crate, "specs", ".antt")}
+TYPES = {crate: {name: file for file in files_of(crate, "src", ".rt") for name in types_in(file)} for crate in ALL}
 FUNCTIONS = {crate: [function for file in files_of(crate, "src", ".rt") for function in functions_in(file)] for crate in ALL}
