@@ -1,4 +1,5 @@
 mod held;
+mod invoking;
 mod loads;
 
 use jc_client::{

@@ -1,4 +1,4 @@
-//! Tests of calls in which an allocation is refused: calls of the parts of a cache, of worlds, owners and clients. The crate has
+//! Tests of calls in which an allocation is refused: calls of the parts of a cache, of worlds, owners, sessions and clients. The crate has
 //! nothing but tests.
 #![tactic(auto)]
 

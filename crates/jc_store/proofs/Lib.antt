@@ -1,2 +1,1 @@
 mod Batches
-pub mod Scheduled

@@ -1,4 +1,3 @@
 pub mod Store
 pub mod Shared
 pub mod Counts
-pub mod Schedules

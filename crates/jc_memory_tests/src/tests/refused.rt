@@ -1,4 +1,4 @@
-//! Each call that allocates and is no session's own, made once.
+//! Each call that allocates, made once.
 //!
 //! Nothing here refuses an allocation. `tools/library_allocations` does, one in each run, and reads the output: before each
 //! call a line `> CALL`, after it a line `=`, and then a line `< END`. If no allocation fails, each call ends in `done`.
@@ -9,6 +9,7 @@ use std::process::Abort;
 
 mod owners;
 mod parts;
+mod sessions;
 
 /// One stripe, without a store.
 const SHAPE: Config = Config {

@@ -1,5 +1,0 @@
-//! Tests of calls with many keys, in front of a store whose calls are counted. The crate has nothing but tests.
-#![tactic(auto)]
-
-#[cfg(test)]
-mod tests;
