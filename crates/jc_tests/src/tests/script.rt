@@ -3,7 +3,8 @@ mod faults;
 mod streams;
 
 use jc_script::run::run;
-use jc_script::{Noted, RunEnd, RunFault};
+use jc_script::{RunEnd, RunFault};
+use jc_text::Noted;
 use std::alloc::Global;
 use std::fmt::Debug;
 use std::io;
