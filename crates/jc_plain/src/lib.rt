@@ -48,8 +48,6 @@
 mod attempts;
 mod listen;
 mod load;
-#[cfg(test)]
-mod tests;
 mod update;
 mod write;
 

@@ -17,8 +17,6 @@ mod exec;
 mod progress;
 mod report;
 mod script_files;
-#[cfg(test)]
-mod tests;
 mod threads;
 
 use exec::Console;

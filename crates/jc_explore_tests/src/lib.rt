@@ -1,5 +1,0 @@
-//! Tests of explorations. The crate has nothing but tests.
-#![tactic(auto)]
-
-#[cfg(test)]
-mod tests;

@@ -1,5 +1,0 @@
-use Rattle.std.proofs.Common.{◌≡◌}
-use Rattle.jc_plain.proofs.tests.loads.QueryLoad.load_all.Given as goal
-
-abbrev pub invariant-loop-key : goal.invariant-loop-key
-invariant-loop-key l = l.answers.room ≡ l.fn.answers.room
