@@ -66,7 +66,7 @@ def edits_of(crate):
     return [Edit(crate, path) for path in files_of(crate, "must-fail", ".edit")]
 
 
-def toolchain():
+def kit():
     """The line that says which toolchain proves."""
     return read(os.path.join(os.path.dirname(os.path.dirname(os.path.realpath(shutil.which("rt")))), "KIT-ID")).strip()
 
@@ -106,7 +106,7 @@ class Sums:
 
     def __init__(self, below):
         """below: of each crate those below it."""
-        self.below, self.toolchain = below, toolchain()
+        self.below, self.kit = below, kit()
         self.seen = {}
 
     def once(self, kind, crate):
@@ -116,7 +116,7 @@ class Sums:
 
     def of(self, edit):
         below = [(it, self.once(statements, it)) for it in ALL if it in self.below[edit.crate]]
-        return sum_of([self.toolchain, edit.text, self.once(whole, edit.crate), below])[:24]
+        return sum_of([self.kit, edit.text, self.once(whole, edit.crate), below])[:24]
 
 
 def refused_before():
