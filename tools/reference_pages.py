@@ -11,11 +11,11 @@ from sources import ALL, LISTED, SPECS, TOP, about, bare, cell, home_of
 # Why a crate has a page: docs/EMBEDDING.md has its reader list it, jc_client passes types of it on, or it is of use by itself.
 LISTED_BY_GUIDE = ["jc_types", "jc_plain", "jc_store", "jc_sqlite", "jc_client", "jc_bulk", "jc_invoke", "jc_loadall"]
 PASSED_ON = ["jc_model", "jc_outside", "jc_mutentry", "jc_stripe", "jc_cache"]
-BY_THEMSELVES = ["jc_script", "jc_explore", "jc_litmus", "jc_pool"]
+BY_THEMSELVES = ["jc_text", "jc_script", "jc_explore", "jc_litmus", "jc_pool"]
 PUBLIC = LISTED_BY_GUIDE + PASSED_ON + BY_THEMSELVES
 
 # Which public modules are on the page, beside what a crate's root passes on: the others are for the crates above.
-MODULES = {"jc_script": ["fault", "run"], "jc_litmus": ["run"], "jc_sqlite": ["code", "table"], "jc_cache": ["laws"]}
+MODULES = {"jc_text": ["fault", "lines"], "jc_script": ["run"], "jc_litmus": ["run"], "jc_sqlite": ["code", "table"], "jc_cache": ["laws"]}
 
 # The macros and attributes of the toolchain that the guide's programs and the crates use.
 MACROS = [

@@ -5,6 +5,7 @@ It goes by the text of the sources. What a clause cites are the names in it that
 """
 import os
 import re
+from collections import namedtuple
 
 TOP = os.path.dirname(os.path.dirname(os.path.abspath(__file__)))
 CRATES = os.path.join(TOP, "crates")
@@ -57,51 +58,70 @@ def block_end(text, at):
 
 
 class Function:
-    """A function of the sources: its name with its crate and type, whether it is public, its clauses, and where it stands."""
+    """A function of the sources: its name with its crate and type, whether it is public, its clauses, and where it and its body stand."""
 
-    def __init__(self, crate, file, owner, name, public, clauses, span):
-        module = [] if owner else [os.path.basename(file)[:-3]]
-        self.crate, self.file, self.public, self.clauses, self.span = crate, file, public, clauses, span
-        self.name = (owner + "::" if owner else "") + name
-        self.path = "::".join([crate] + ([owner] if owner else []) + [name])
-        self.module_path = "::".join([crate] + module + [name])
+    def __init__(self, file, owner, name, head, clauses, span, body):
+        self.crate = file.split("/")[0]
+        self.file, self.clauses, self.span, self.body = file, clauses, span, body
+        self.public = not (owner and owner.trait) and (head.startswith("pub ") or bool(owner and owner.is_public))
+        self.is_const = "const " in head
+        of_type = [owner.name] if owner else []
+        self.name = "::".join([*of_type, name])
+        self.path = "::".join([self.crate, *of_type, name])
+        self.module_path = "::".join([self.crate, *([] if owner else [os.path.basename(file)[:-3]]), name])
+        self.owner, self.own_name = owner, name
+
+    def name_in_checks(self):
+        """The name that a check prints, below its crate: the path, of a method that of its type, with a trait's name behind the type's."""
+        file = TYPES[self.crate].get(self.owner.name, self.file) if self.owner else self.file
+        return "::".join([*modules_of(file), *([self.owner.name + self.owner.trait] if self.owner else []), self.own_name])
+
+
+def modules_of(file):
+    """The path of the module that is this file."""
+    return [it for it in file.split("/src/")[1].removesuffix(".rt").split("/") if it not in ("lib", "main")]
+
+
+def types_in(file):
+    """The types and traits that a file declares."""
+    return re.findall(r"^(?:pub(?:\([^)]*\))? )?(?:struct|enum|union|trait) (\w+)", bare(read(os.path.join(CRATES, file))), re.M)
+
+
+# A block of `impl` or `trait`: where it is, the names of the type and of the trait that it is for, and whether its functions are public by themselves.
+Owner = namedtuple("Owner", "begin end name trait is_public")
 
 
 def owners_in(text):
-    """Blocks of `impl` and `trait`: (from, to, the name of the type, whether its functions are public by themselves)."""
     found = []
     for at in re.finditer(r"^(pub )?(?:unsafe )?(impl|trait)\b([^{;]*)\{", text, re.M):
-        head = re.sub(r"<[^<>]*>", "", re.sub(r"<[^<>]*>", "", at.group(3)))
-        of_trait = " for " in head
-        name = re.search(r"&?(\w+)", head.split(" for ")[-1].replace("dyn ", "").strip().split("::")[-1])
-        found.append((at.start(), block_end(text, at.end() - 1), name.group(1) if name else "?",
-                      at.group(2) == "trait" and bool(at.group(1)), of_trait))
+        head = re.sub(r"<[^<>]*>", "", re.sub(r"<[^<>]*>", "", at.group(3))).split(" where ")[0]
+        trait, _, of = head.rpartition(" for ")
+        name, trait = [(re.findall(r"\w+", words.replace("dyn ", "").split(":")[0 if at.group(2) == "trait" else -1]) or [""])[-1] for words in (of, trait)]
+        found.append(Owner(at.start(), block_end(text, at.end() - 1), name, trait, at.group(2) == "trait" and bool(at.group(1))))
     return found
 
 
-def functions_in(crate, file):
+def functions_in(file):
     text = read(os.path.join(CRATES, file))
     plain = re.sub(r"\[([^\[\];{}]*);([^\[\];{}]*)\]", r"[\1,\2]", bare(text))  # `[u8; 4]` has no end of a signature
     owners = owners_in(plain)
     imports = imports_of_code(text)
     found = []
-    for at in re.finditer(r"^[ \t]*(pub(?:\([^)]*\))? )?(?:const )?(?:unsafe )?fn (\w+)", plain, re.M):
-        owner = next((o for o in owners if o[0] < at.start() < o[1]), None)
-        clauses, end = [], at.end()
+    for at in re.finditer(r"^[ \t]*((?:pub(?:\([^)]*\))? )?(?:const )?(?:unsafe )?(?:extern +)?)fn (\w+)", plain, re.M):
+        owner = next((o for o in owners if o.begin < at.start() < o.end), None)
+        clauses, end, body = [], at.end(), None
         while True:
-            part = re.compile(r"\b(requires|ensures)\b\s*(\w*)\s*\{|[{;]").search(plain, end)
+            part = re.compile(r"\b(requires|ensures|ghost)\b\*?\s*(\w*:?)\s*\{|[{;]").search(plain, end)
             if not part:
                 break
             if not part.group(1):
                 end = block_end(plain, part.start()) if part.group() == "{" else part.end()
+                body = (part.start(), end) if part.group() == "{" else None
                 break
             end = block_end(plain, part.end() - 1)
             words = [word for word in dict.fromkeys(re.findall(r"[^\W\d][\w'-]*", plain[part.end():end])) if word in imports]
             clauses.append((part.group(1), part.group(2), [(imports[word], word) for word in words]))
-        public = (at.group(1) or "").strip() == "pub" or bool(owner and owner[3])
-        if owner and owner[4]:
-            public = False
-        found.append(Function(crate, file, owner[2] if owner else "", at.group(2), public, clauses, (at.start(), end)))
+        found.append(Function(file, owner, at.group(2), at.group(1), clauses, (at.start(), end), body))
     return found
 
 
@@ -271,4 +291,5 @@ def about(crate):
 LISTED = crates_listed()
 ALL = [crate for _ring, crate, _uses in LISTED]
 SPECS = {file: Specs(file) for crate in ALL for file in files_of(crate, "specs", ".antt")}
-FUNCTIONS = {crate: [function for file in files_of(crate, "src", ".rt") for function in functions_in(crate, file)] for crate in ALL}
+TYPES = {crate: {name: file for file in files_of(crate, "src", ".rt") for name in types_in(file)} for crate in ALL}
+FUNCTIONS = {crate: [function for file in files_of(crate, "src", ".rt") for function in functions_in(file)] for crate in ALL}

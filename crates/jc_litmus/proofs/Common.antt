@@ -20,10 +20,10 @@ pub use Rattle.jc_litmus.specs.declared.program.LineFault.TheVariants.{BadReply}
 pub use Rattle.jc_litmus.specs.declared.reply_words.ReplyKind.{ReplyKind}
 pub use Rattle.jc_model.specs.Cache.{Bytes}
 pub use Rattle.jc_model.specs.declared.event.Reply.{Reply}
-pub use Rattle.jc_script.proofs.CallerLemmas.{no_dash, pieces_some, text_shown}
-pub use Rattle.jc_script.specs.ProcessWords.{call_text, fail_words, source_words}
-pub use Rattle.jc_script.specs.Spelled.{IsNumber, IsValue, NumbersReadBack, ValuesReadBack, flag_words, spelling}
-pub use Rattle.jc_script.specs.Transcript.{pieces_of}
-pub use Rattle.jc_script.specs.Words.{is_letter, number_of, some_value, value_or_none_of}
-pub use Rattle.jc_script.specs.declared.fault.Fault.{Fault}
+pub use Rattle.jc_text.proofs.CallerLemmas.{no_dash, pieces_some, text_shown}
+pub use Rattle.jc_text.specs.ProcessWords.{call_text, fail_words, source_words}
+pub use Rattle.jc_text.specs.Spelled.{IsNumber, IsValue, NumbersReadBack, ValuesReadBack, flag_words, spelling}
+pub use Rattle.jc_text.specs.Pieces.{pieces_of}
+pub use Rattle.jc_text.specs.Words.{is_letter, number_of, some_value, value_or_none_of}
+pub use Rattle.jc_text.specs.declared.fault.Fault.{Fault}
 pub use Rattle.jc_types.specs.declared.refusal.Refusal.TheVariants.{BadConfig, Busy, HistoryFull, LoaderFailed, NoLoader, NoWriter, OutOfMemory, ProcessorFailed, RepeatedKey, StillReserved, TooManyInFlight, TooManyJoiners, TooManyKeys, TooManySessions, WriterFailed}

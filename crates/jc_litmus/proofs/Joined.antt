@@ -7,8 +7,8 @@ use Rattle.jc_litmus.proofs.Common.{◌≡◌, ◌∙◌, sym, ap, ℕ, List, []
 use Rattle.jc_types.specs.declared.config.Config.{Config}
 use Rattle.jc_model.specs.declared.processor.EntryCall.{EntryCall}
 use Rattle.jc_world.specs.declared.process.LoadSource.{LoadSource}
-use Rattle.jc_script.specs.declared.read.line.ScriptAct.TheVariants.{Process}
-use Rattle.jc_script.specs.declared.read.line.Line.TheVariants.{OfCall, Open}
+use Rattle.jc_text.specs.declared.read.line.ScriptAct.TheVariants.{Process}
+use Rattle.jc_text.specs.declared.read.line.Line.TheVariants.{OfCall, Open}
 
 pub joined_spaced : (w : List ℕ) (ws : List (List ℕ)) → join_with_byte 32 (w ∷ ws) ≡ w ++ spaced ws
 joined_spaced w [] = sym (append-nil w)

@@ -9,7 +9,7 @@ use Rattle.std.proofs.lemmas.List.Folds.{list_all-append}
 use Rattle.std.proofs.Math.Seq.{drop-append-add}
 use Rattle.jc_types.specs.declared.limits.TheConstants.{VALUE_MAX}
 use Rattle.jc_model.specs.declared.event.Reply.TheVariants as reply
-use Rattle.jc_script.specs.Printing.{coded_text, value_text}
+use Rattle.jc_text.specs.Printing.{coded_text, value_text}
 
 -- 1. Words without a space and a colon.
 

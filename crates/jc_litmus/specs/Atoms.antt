@@ -16,10 +16,10 @@ use Rattle.std.specs.Prelude.{ℕ, List, [], ◌∷◌, ◌++◌, drop, codes, B
 use Rattle.std.specs.Str.{bytes_eq}
 use Rattle.std.specs.List.{list_all}
 use Rattle.jc_explore.specs.declared.program.Item.{Item}
-use Rattle.jc_script.specs.declared.fault.Fault.{Fault}
-use Rattle.jc_script.specs.declared.fault.Fault.TheVariants.{BadLine}
-use Rattle.jc_script.specs.Words.{number_of, key_of, value_or_none_of}
-use Rattle.jc_script.specs.ProcessWords.{begins_with}
+use Rattle.jc_text.specs.declared.fault.Fault.{Fault}
+use Rattle.jc_text.specs.declared.fault.Fault.TheVariants.{BadLine}
+use Rattle.jc_text.specs.Words.{number_of, key_of, value_or_none_of}
+use Rattle.jc_text.specs.ProcessWords.{begins_with}
 use Rattle.jc_litmus.specs.declared.program.LineFault.{LineFault}
 use Rattle.jc_litmus.specs.declared.program.LineFault.TheVariants.{Script}
 use Rattle.jc_litmus.specs.declared.program.Atom.{Atom}

@@ -19,15 +19,15 @@ use Rattle.jc_model.specs.declared.processor.EntryCall.{EntryCall}
 use Rattle.jc_world.specs.declared.process.LoadSource.{LoadSource}
 use Rattle.jc_world.specs.declared.process.LoadSource.TheVariants.{Store, Stated, Failing}
 use Rattle.jc_explore.specs.declared.program.Faults.{Faults}
-use Rattle.jc_script.specs.declared.fault.Fault.{Fault}
-use Rattle.jc_script.specs.declared.fault.Fault.TheVariants.{BadLine}
-use Rattle.jc_script.specs.declared.read.line.Line.{Line}
-use Rattle.jc_script.specs.declared.read.line.Line.TheVariants as line
-use Rattle.jc_script.specs.declared.read.line.ScriptAct.{ScriptAct}
-use Rattle.jc_script.specs.declared.read.line.ScriptAct.TheVariants as act
-use Rattle.jc_script.specs.declared.read.line.Operation.{Operation}
-use Rattle.jc_script.specs.Words.{number_of}
-use Rattle.jc_script.specs.Lines.{begin_of, read_line}
+use Rattle.jc_text.specs.declared.fault.Fault.{Fault}
+use Rattle.jc_text.specs.declared.fault.Fault.TheVariants.{BadLine}
+use Rattle.jc_text.specs.declared.read.line.Line.{Line}
+use Rattle.jc_text.specs.declared.read.line.Line.TheVariants as line
+use Rattle.jc_text.specs.declared.read.line.ScriptAct.{ScriptAct}
+use Rattle.jc_text.specs.declared.read.line.ScriptAct.TheVariants as act
+use Rattle.jc_text.specs.declared.read.line.Operation.{Operation}
+use Rattle.jc_text.specs.Words.{number_of}
+use Rattle.jc_text.specs.Lines.{begin_of, read_line}
 use Rattle.jc_litmus.specs.Atoms.{in_script}
 use Rattle.jc_litmus.specs.Then.{◌>>=◌}
 use Rattle.jc_litmus.specs.declared.program.LineFault.{LineFault}

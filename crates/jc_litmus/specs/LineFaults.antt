@@ -1,7 +1,7 @@
 -- The words of a fault of a program's line.
 --     line_fault_text      the words: a script's are those of scripts
 use Rattle.std.specs.Prelude.{ℕ, List, codes}
-use Rattle.jc_script.specs.Faults.{text_of}
+use Rattle.jc_text.specs.FaultTexts.{text_of}
 use Rattle.jc_litmus.specs.declared.program.LineFault.{LineFault}
 use Rattle.jc_litmus.specs.declared.program.LineFault.TheVariants as fault
 

@@ -2,8 +2,8 @@
 --     error_of    an error of a script's reader, as one of a program's
 --     ReadsAs     a function returned what the definition states, unless an allocation failed
 use Rattle.std.specs.Prelude.{◌≡◌, Result, Ok, Err}
-use Rattle.jc_script.specs.declared.fault.ReadError.{ReadError}
-use Rattle.jc_script.specs.declared.fault.ReadError.TheVariants as script
+use Rattle.jc_text.specs.declared.fault.ReadError.{ReadError}
+use Rattle.jc_text.specs.declared.fault.ReadError.TheVariants as script
 use Rattle.jc_litmus.specs.declared.program.LineFault.{LineFault}
 use Rattle.jc_litmus.specs.declared.program.LineFault.TheVariants as faults
 use Rattle.jc_litmus.specs.declared.line_error.LineError.{LineError}

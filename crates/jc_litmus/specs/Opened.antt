@@ -6,8 +6,8 @@ use Rattle.jc_types.specs.declared.config.Config.{Config}
 use Rattle.jc_types.specs.declared.refusal.Refusal.{Refusal}
 use Rattle.jc_types.specs.declared.refusal.Refusal.TheVariants as refusal
 use Rattle.jc_types.specs.Limits.{check}
-use Rattle.jc_script.specs.declared.fault.Fault.{Fault}
-use Rattle.jc_script.specs.declared.fault.Fault.TheVariants.{BadConfig, BadLine}
+use Rattle.jc_text.specs.declared.fault.Fault.{Fault}
+use Rattle.jc_text.specs.declared.fault.Fault.TheVariants.{BadConfig, BadLine}
 
 abbrev pub shape_fault : Refusal → Fault
 shape_fault (refusal.BadConfig field) = BadConfig field

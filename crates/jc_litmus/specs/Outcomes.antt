@@ -40,7 +40,7 @@ use Rattle.jc_explore.specs.declared.replies.ThreadReply.{ThreadReply}
 use Rattle.jc_explore.specs.declared.search.Explored.{Explored}
 use Rattle.jc_explore.specs.declared.search.Finding.{Finding}
 use Rattle.jc_explore.specs.declared.search.TheConstants.{OUTCOMES_MAX}
-use Rattle.jc_script.specs.Printing.{coherence_text, entries_line}
+use Rattle.jc_text.specs.Printing.{coherence_text, entries_line}
 use Rattle.jc_litmus.specs.declared.judge.Verdict.{Verdict}
 use Rattle.jc_litmus.specs.declared.judge.Verdict.TheVariants.{Holds, Fails, Open}
 use Rattle.jc_litmus.specs.declared.program.Expectation.{Expectation}

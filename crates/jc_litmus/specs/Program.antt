@@ -40,13 +40,13 @@ use Rattle.jc_model.specs.Cache.{Bytes}
 use Rattle.jc_explore.specs.declared.program.Faults.{Faults}
 use Rattle.jc_explore.specs.declared.program.Item.{Item}
 use Rattle.jc_explore.specs.declared.program.Item.TheVariants as item
-use Rattle.jc_script.specs.declared.fault.Fault.{Fault}
-use Rattle.jc_script.specs.declared.fault.Fault.TheVariants.{BadLine, CutLine, NotOpen, OpenTwice, SetTooLate}
-use Rattle.jc_script.specs.declared.read.line.Line.{Line}
-use Rattle.jc_script.specs.declared.read.line.Line.TheVariants as line
-use Rattle.jc_script.specs.Words.{key_of, words_of}
-use Rattle.jc_script.specs.Lines.{are_words, read_line}
-use Rattle.jc_script.specs.Transcript.{pieces_of}
+use Rattle.jc_text.specs.declared.fault.Fault.{Fault}
+use Rattle.jc_text.specs.declared.fault.Fault.TheVariants.{BadLine, CutLine, NotOpen, OpenTwice, SetTooLate}
+use Rattle.jc_text.specs.declared.read.line.Line.{Line}
+use Rattle.jc_text.specs.declared.read.line.Line.TheVariants as line
+use Rattle.jc_text.specs.Words.{key_of, words_of}
+use Rattle.jc_text.specs.Lines.{are_words, read_line}
+use Rattle.jc_text.specs.Pieces.{pieces_of}
 use Rattle.jc_litmus.specs.declared.line_error.LineError.{LineError}
 use Rattle.jc_litmus.specs.declared.line_error.LineError.TheVariants as errors
 use Rattle.jc_litmus.specs.declared.program.TheConstants.{ITEMS_MAX, THREADS_MAX}

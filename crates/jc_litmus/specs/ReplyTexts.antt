@@ -23,8 +23,8 @@ use Rattle.jc_model.specs.declared.event.Out.{Out}
 use Rattle.jc_model.specs.declared.event.Reply.{Reply}
 use Rattle.jc_model.specs.declared.event.Reply.TheVariants as reply
 use Rattle.jc_model.specs.Table.{answers_fit, reply_after}
-use Rattle.jc_script.specs.Printing.{refusal_text, reply_text}
-use Rattle.jc_script.specs.Spelled.{IsNumber, IsValueOrNone}
+use Rattle.jc_text.specs.Printing.{refusal_text, reply_text}
+use Rattle.jc_text.specs.Spelled.{IsNumber, IsValueOrNone}
 use Rattle.jc_litmus.specs.declared.reply_words.AnswerKind.TheVariants as answer
 use Rattle.jc_litmus.specs.declared.reply_words.ReplyKind.{ReplyKind}
 use Rattle.jc_litmus.specs.ReplyWords.{reply_kind, reply_said}

@@ -22,8 +22,8 @@ use Rattle.jc_model.specs.declared.event.Reply.{Reply}
 use Rattle.jc_model.specs.declared.event.Reply.TheVariants as reply
 use Rattle.jc_model.specs.Table.{op_kind, reply_after}
 use Rattle.jc_model.specs.Group.{nothing_said}
-use Rattle.jc_script.specs.declared.fault.Fault.{Fault}
-use Rattle.jc_script.specs.Words.{number_of, value_or_none_of}
+use Rattle.jc_text.specs.declared.fault.Fault.{Fault}
+use Rattle.jc_text.specs.Words.{number_of, value_or_none_of}
 use Rattle.jc_litmus.specs.declared.program.LineFault.{LineFault}
 use Rattle.jc_litmus.specs.declared.program.LineFault.TheVariants.{BadReply}
 use Rattle.jc_litmus.specs.WordParts.{halves_of}

@@ -11,7 +11,7 @@ use Rattle.std.specs.List.{All}
 use Rattle.std.specs.Io.KnownBytes.{Appends}
 use Rattle.jc_explore.specs.declared.search.Explored.{Explored}
 use Rattle.jc_explore.specs.Search.{HasExplored}
-use Rattle.jc_script.specs.Running.{ReadsAll}
+use Rattle.jc_text.specs.Input.{ReadsAll}
 use Rattle.jc_litmus.specs.declared.run.LitmusEnd.{LitmusEnd}
 use Rattle.jc_litmus.specs.declared.run.LitmusEnd.TheVariants.{LineFault}
 use Rattle.jc_litmus.specs.declared.program.LineFault as faulty

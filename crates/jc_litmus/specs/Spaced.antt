@@ -9,7 +9,7 @@
 use Rattle.std.specs.Prelude.{ℕ, List, [], ◌∷◌, ◌++◌, codes, decimal, Option, None, Some}
 use Rattle.std.specs.List.{flat_map, join_with_byte}
 use Rattle.jc_types.specs.declared.config.Config.{Config}
-use Rattle.jc_script.specs.Spelled.{session_text}
+use Rattle.jc_text.specs.Spelled.{session_text}
 
 abbrev pub spaced : List (List ℕ) → List ℕ
 spaced words = flat_map (λ word. 32 ∷ word) words

@@ -38,10 +38,10 @@ use Rattle.jc_explore.specs.declared.program.Item.TheVariants as item
 use Rattle.jc_explore.specs.declared.program.Program.{Program}
 use Rattle.jc_explore.specs.Moves.{is_begin}
 use Rattle.jc_explore.specs.Schedule.{item_at}
-use Rattle.jc_script.specs.declared.read.line.Line.{Line}
-use Rattle.jc_script.specs.declared.read.line.Line.TheVariants.{Open, Set, Begin, OfCall, Foreign, Audit}
-use Rattle.jc_script.specs.declared.read.line.ScriptAct.TheVariants as line
-use Rattle.jc_script.specs.Spelled.{spelling}
+use Rattle.jc_text.specs.declared.read.line.Line.{Line}
+use Rattle.jc_text.specs.declared.read.line.Line.TheVariants.{Open, Set, Begin, OfCall, Foreign, Audit}
+use Rattle.jc_text.specs.declared.read.line.ScriptAct.TheVariants as line
+use Rattle.jc_text.specs.Spelled.{spelling}
 use Rattle.jc_litmus.specs.declared.witness.Progress.{Progress}
 
 -- 1. The line of a move.

@@ -7,7 +7,7 @@ use crate::judge::{Verdict, verdict_on};
 use crate::outcome::put_outcomes;
 use crate::program::{Expectation, LineFault};
 use jc_explore::{Explored, OUTCOMES_MAX, Program};
-use jc_script::print::{Piece, put, put_pieces};
+use jc_text::print::{Piece, put, put_pieces};
 use std::alloc::{AllocError, Global};
 
 /// Appends the numbers of outcomes and of states.

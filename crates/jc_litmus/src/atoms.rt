@@ -1,8 +1,8 @@
 //! The atoms of an expectation, from its words.
 ghost use Rattle.std.specs.Prelude.{◌≡◌, ◌++◌, ◌∷◌, [], map, OnOk};
 ghost use Rattle.std.specs.List.{list_all};
-ghost use Rattle.jc_script.specs.Words.{key_of, value_or_none_of};
-ghost use Rattle.jc_script.specs.Lines.{ok_with};
+ghost use Rattle.jc_text.specs.Words.{key_of, value_or_none_of};
+ghost use Rattle.jc_text.specs.Lines.{ok_with};
 ghost use Rattle.jc_litmus.specs.LineResults.{ReadsAs};
 ghost use Rattle.jc_litmus.specs.Atoms.{number_or_bad, numbers_of, in_script, cached_of, stored_of, replied_of, pair_of, atom_of};
 ghost use Rattle.jc_litmus.specs.Atoms.{is_about, is_atom, are_atoms, atom_onto, atoms_from};
@@ -14,8 +14,8 @@ use crate::reply_words::reply_said;
 use crate::word_parts::{begins_with, behind, halves_of};
 use jc_explore::Item;
 use jc_model::Reply;
-use jc_script::fault::Fault;
-use jc_script::read::words::{is, key, number, value_or_none};
+use jc_text::Fault;
+use jc_text::read::words::{is, key, number, value_or_none};
 use jc_types::{Key, Value};
 use std::alloc::AllocError;
 

@@ -1,7 +1,7 @@
 //! Lines of a program that scripts spell in another way.
 ghost use Rattle.std.specs.Prelude.{◌≡◌, ◌++◌, codes, map, OnOk, IfOk};
 ghost use Rattle.std.specs.List.{flat_map};
-ghost use Rattle.jc_script.specs.Lines.{ok_with};
+ghost use Rattle.jc_text.specs.Lines.{ok_with};
 ghost use Rattle.jc_litmus.specs.LineResults.{ReadsAs};
 ghost use Rattle.jc_litmus.specs.Grammar.{after_space, begin_line, begin_words, process_text, made_line, operation_in, plain_calls, act_calls, line_calls, calls_of_text};
 ghost use Rattle.jc_litmus.specs.Grammar.{failing_named, may_fail, with_fault, quantifier_named};
@@ -9,11 +9,10 @@ ghost use Rattle.jc_litmus.specs.Grammar.{failing_named, may_fail, with_fault, q
 use crate::line_error::LineError;
 use crate::program::{LineFault, Quantifier};
 use jc_explore::Faults;
-use jc_script::fault::Fault;
-use jc_script::put;
-use jc_script::read::grammar::{begin, read};
-use jc_script::read::line::{Line, Operation, ScriptAct};
-use jc_script::read::words::{is, number};
+use jc_text::read::grammar::{begin, read};
+use jc_text::read::line::{Line, Operation, ScriptAct};
+use jc_text::read::words::{is, number};
+use jc_text::{Fault, put};
 use jc_world::process::{EntryCalls, LoadSource};
 use std::alloc::{AllocError, Global};
 

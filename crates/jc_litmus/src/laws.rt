@@ -1,7 +1,7 @@
 //! Laws of the words of programs and their answers. Each function does nothing: its contract is the law.
 ghost use Rattle.jc_litmus.specs.ReplyTexts.{RepliesAreOfKind, RepliesAreTold, RepliesOfTable, RepliesReadBack, SilenceIsTold};
 
-use jc_script::laws::words_read_back;
+use jc_text::laws::words_read_back;
 
 /// The text of a call in an outcome determines its reply: two replies that the call can have differ in their texts, and neither
 /// text is that of a call that is never answered. The word of a reply in an expectation is read as that reply.

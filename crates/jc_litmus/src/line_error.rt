@@ -5,7 +5,7 @@ ghost use Rattle.jc_litmus.specs.declared.program.LineFault.TheVariants as fault
 ghost use Rattle.jc_litmus.specs.LineResults.{error_of};
 
 use crate::program::LineFault;
-use jc_script::fault::{Fault, ReadError};
+use jc_text::{Fault, ReadError};
 use std::alloc::AllocError;
 
 /// Why a line of a program was not read.

@@ -9,8 +9,8 @@ use crate::judge::reply_of;
 use crate::witness::put_witness;
 use jc_explore::{FinalState, Finding, Item, Program, ThreadReply};
 use jc_model::Reply;
-use jc_script::print::audit::{put_coherence, put_entries_line};
-use jc_script::print::{Piece, put, put_pieces};
+use jc_text::print::audit::{put_coherence, put_entries_line};
+use jc_text::print::{Piece, put, put_pieces};
 use jc_types::Refusal;
 use std::alloc::{AllocError, Global};
 

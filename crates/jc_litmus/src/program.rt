@@ -4,7 +4,7 @@ ghost use Rattle.jc_litmus.specs.LineFaults.{line_fault_text};
 
 use jc_explore::Program;
 use jc_model::Reply;
-use jc_script::fault::{Fault, text};
+use jc_text::fault::{Fault, text};
 use jc_types::{Key, Value};
 
 /// The most threads of a program.

@@ -1,12 +1,12 @@
 //! A program, read line by line.
 ghost use Rattle.std.specs.Prelude.{◌≡◌, ◌≤◌, ◌<◌, ◌+◌, ◌++◌, ◌∷◌, [], true, Ok, None, Some, MatchOption, length, map, is_ok, IfOk, IfSome, OnOk};
 ghost use Rattle.jc_types.specs.Limits.{check};
-ghost use Rattle.jc_script.specs.Lines.{ok_with};
+ghost use Rattle.jc_text.specs.Lines.{ok_with};
 ghost use Rattle.jc_litmus.specs.Opened.{shape_fault};
 ghost use Rattle.jc_litmus.specs.LineResults.{ReadsAs};
 ghost use Rattle.jc_litmus.specs.Program.{after_item, after_open, after_set, expected, fault_at, if_open, is_blank, may_add, nothing_read, onto_last};
 ghost use Rattle.jc_litmus.specs.Program.{program_from, program_of, program_read, value_of_program, ReadsLines, ReadsProgram};
-ghost use Rattle.jc_script.specs.Transcript.{pieces_of};
+ghost use Rattle.jc_text.specs.Pieces.{pieces_of};
 ghost use Rattle.jc_litmus.specs.declared.program.TheConstants.{THREADS_MAX, ITEMS_MAX};
 ghost use Rattle.jc_explore.specs.declared.program.Item.TheVariants as items;
 
@@ -16,9 +16,9 @@ use crate::line_error::LineError;
 use crate::program::{Expectation, ITEMS_MAX, LineFault, Litmus, ProgramFault, THREADS_MAX};
 use jc_explore::{Faults, Item, Program};
 use jc_model::Op;
-use jc_script::fault::Fault;
-use jc_script::read::line::Line;
-use jc_script::run::first_line;
+use jc_text::Fault;
+use jc_text::lines::first_line;
+use jc_text::read::line::Line;
 use jc_types::{Config, Key, Refusal, Value};
 use jc_world::EntryCalls;
 use std::alloc::{AllocError, Global};

@@ -1,12 +1,12 @@
 //! Replies, as an expectation writes them.
 ghost use Rattle.std.specs.Prelude.{◌≡◌};
-ghost use Rattle.jc_script.specs.Words.{number_of};
+ghost use Rattle.jc_text.specs.Words.{number_of};
 ghost use Rattle.jc_litmus.specs.ReplyWords.{answer_kind_of, failure_with, fault_reply, loading, plain_reply, refusal_of, reply_kind, reply_said, silent, two_words, writing};
 
 use crate::program::LineFault;
 use crate::word_parts::halves_of;
 use jc_model::{Op, OpKind, Out, Reply};
-use jc_script::read::words::{is, number, value_or_none};
+use jc_text::read::words::{is, number, value_or_none};
 use jc_types::Refusal;
 
 /// The kind of answer of a call that is neither refused nor fails.

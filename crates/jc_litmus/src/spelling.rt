@@ -1,15 +1,15 @@
 //! Lines of scripts, as they are spelled.
 ghost use Rattle.std.specs.Prelude.{◌≡◌, ◌++◌, ◌∷◌, [], OnOk, map};
-ghost use Rattle.jc_script.specs.ProcessWords.{call_text, fail_words, source_words};
-ghost use Rattle.jc_script.specs.Spelled.{flag_words, operation_words, spelling};
-ghost use Rattle.jc_script.specs.Printing.{value_text};
-ghost use Rattle.jc_script.specs.declared.read.line.ScriptAct.TheVariants as act;
-ghost use Rattle.jc_script.specs.declared.read.line.Line.TheVariants as line;
+ghost use Rattle.jc_text.specs.ProcessWords.{call_text, fail_words, source_words};
+ghost use Rattle.jc_text.specs.Spelled.{flag_words, operation_words, spelling};
+ghost use Rattle.jc_text.specs.Printing.{value_text};
+ghost use Rattle.jc_text.specs.declared.read.line.ScriptAct.TheVariants as act;
+ghost use Rattle.jc_text.specs.declared.read.line.Line.TheVariants as line;
 ghost use Rattle.jc_litmus.specs.Spaced.{begin_text, coded_text, lone_text, open_text, spaced};
 
 use jc_model::{EntryCall, Op, OpValues};
-use jc_script::op_name;
-use jc_script::print::{Piece, put, put_pieces};
+use jc_text::op_name;
+use jc_text::print::{Piece, put, put_pieces};
 use jc_types::{Config, Key, Value};
 use jc_world::LoadSource;
 use std::alloc::AllocError;

@@ -2,7 +2,7 @@
 ghost use Rattle.std.specs.Prelude.{◌≡◌, ◌++◌, ◌+◌, ◌<◌, ◌^◌, codes, replicate, OnOk, IfOk, IfSome, option_copied, Some};
 ghost use Rattle.std.specs.List.{flat_map};
 ghost use Rattle.jc_types.specs.declared.limits.TheConstants.{NUMBER_MAX};
-ghost use Rattle.jc_script.specs.declared.read.line.Line.TheVariants as line;
+ghost use Rattle.jc_text.specs.declared.read.line.Line.TheVariants as line;
 ghost use Rattle.jc_explore.specs.Moves.{is_begin};
 ghost use Rattle.jc_litmus.specs.Spaced.{coded_line_text, lone_text};
 ghost use Rattle.jc_litmus.specs.Witness.{act_line, begin_line, begun_by, begun_item, call_line, last_after, last_at, last_by, line_at, line_of_move};
@@ -13,7 +13,7 @@ use crate::spelling::{
 };
 use jc_explore::{Act, Faults, Item, Move, Program};
 use jc_model::{EntryCall, Op};
-use jc_script::print::put;
+use jc_text::print::put;
 use jc_types::{Key, NUMBER_MAX, Value};
 use jc_world::LoadSource;
 use std::alloc::{AllocError, Global};

@@ -1,6 +1,6 @@
 //! Parts of a word.
 ghost use Rattle.std.specs.Prelude.{◌≡◌, ◌<◌, length, drop, Some, None, IfSome, MatchOption};
-ghost use Rattle.jc_script.specs.ProcessWords.{begins_with};
+ghost use Rattle.jc_text.specs.ProcessWords.{begins_with};
 ghost use Rattle.jc_litmus.specs.WordParts.{sign_at, halves_of};
 
 /// Whether a word begins with this text.

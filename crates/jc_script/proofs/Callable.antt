@@ -1,8 +1,7 @@
 -- What is read may be begun: a call's operation is a call by itself, and its session is one of the 32.
-use Rattle.jc_script.proofs.Common.{◌≡◌, ℕ, List, true, Option, None, Some, refl, IfOk, IfSome, and_from, Op, is_single, Line, Begin, BeginBulk, read_line, is_callable, IsOperation, SaysWords}
+use Rattle.jc_script.proofs.Common.{◌≡◌, ℕ, List, true, Option, None, Some, Result, Ok, Err, refl, IfOk, IfSome, and_from, Op, is_single, Fault, Line, Begin, BeginBulk, read_line, is_callable, IsOperation, SaysWords}
 use Rattle.jc_model.specs.declared.event.Op.TheVariants as op
-use Rattle.jc_script.proofs.Given.{ok_weaker}
-use Rattle.jc_script.proofs.ReadLines.{SaysText, text_read}
+use Rattle.jc_text.proofs.CallerLemmas.{line_spelled}
 
 -- each operation that has a name is a call by itself
 operation_single : (o : Op) → IsOperation o → is_single o ≡ true
@@ -22,8 +21,9 @@ MayBegin line = IfSome line (λ line. is_callable line ≡ true)
 
 -- the bytes of a line
 pub read_callable : (text : List ℕ) → IfOk (read_line text) MayBegin
-read_callable text = ok_weaker (read_line text) (λ line. IfSome line (SaysText text)) MayBegin (λ line known. some line known) (text_read text)
+read_callable text = given (read_line text) (λ line read. line_callable line (line_spelled text line read).0.0)
   where
-    some : (line : Option Line) → IfSome line (SaysText text) → MayBegin line
-    some None known = tt
-    some (Some line) known = line_callable line known.0.0
+    given : (r : Result (Option Line) Fault) → ((line : Line) → r ≡ Ok (Some line) → is_callable line ≡ true) → IfOk r MayBegin
+    given (Ok None) callable = tt
+    given (Ok (Some line)) callable = callable line refl
+    given (Err fault) callable = tt

@@ -1,57 +1,46 @@
 -- The names that most pages of this crate cite, passed on from one place. Declares nothing.
-pub use Rattle.std.proofs.Common.{Bool, Bor, Err, IfOk, IfSome, List, None, Ok, Option, Result, Some, [], ap, append-nil, append_assoc, arith, cond, drop, false, filter, find, get_or, if◌then◌else◌, inl, inr, is_none, is_some, length, ltb, map, not, option_copied, option_map, option_to_list, refl, rules, subst, subst₂, suc, sym, take, true, true≢false, vec_len, zero, ℕ, ◌%◌, ◌*◌, ◌++◌, ◌+◌, ◌-◌, ◌/◌, ◌<◌, ◌==◌, ◌^◌, ◌||◌, ◌∙◌, ◌∷◌, ◌≡◌, ◌≤◌}
-pub use Rattle.std.proofs.Math.Seq.{drop-append-add, drop-cons, take-add}
-pub use Rattle.std.proofs.lemmas.Bool.{and_from, and_left, and_parts, cases_lt, cond-false, cond-true, eqb-true, le-leb, le-ltb, leb-true, lt-ltb, ltb-false, ltb-true, not_from_false, not_from_true, or_parts}
-pub use Rattle.std.proofs.lemmas.Cmp.{nat_eq_equiv, nat_list_eq_equiv}
-pub use Rattle.std.proofs.lemmas.Fmt.{decimal-digits_value, decimal_by_steps, decimal_digit, decimal_nonempty, first_decimal}
-pub use Rattle.std.proofs.lemmas.Grind.{common_steps}
-pub use Rattle.std.proofs.lemmas.List.{drop-map, drop_all, length-append, length-drop, length-map, map-append, take_at, take_more, take_rest}
-pub use Rattle.std.proofs.lemmas.List.Elements.{All-cons, All-head, All-nil, All-same, All-tail, filter-append}
+pub use Rattle.std.proofs.Common.{Bool, Err, IfOk, IfSome, List, None, Ok, Option, Result, Some, [], ap, append-nil, append_assoc, arith, cond, false, filter, find, get_or, if◌then◌else◌, inl, inr, is_none, is_some, length, map, not, option_copied, option_map, option_to_list, refl, rules, subst, subst₂, suc, sym, take, true, true≢false, zero, ℕ, ◌++◌, ◌+◌, ◌<◌, ◌==◌, ◌||◌, ◌∙◌, ◌∷◌, ◌≡◌, ◌≤◌}
+pub use Rattle.std.proofs.lemmas.Bool.{and_from, and_parts, or_parts}
+pub use Rattle.std.proofs.lemmas.Cmp.{nat_list_eq_equiv}
+pub use Rattle.std.proofs.lemmas.List.{length-append, map-append, take_more}
+pub use Rattle.std.proofs.lemmas.List.Elements.{filter-append}
 pub use Rattle.std.proofs.lemmas.List.Folds.{list_all-append}
-pub use Rattle.std.proofs.lemmas.List.Splits.{join_with_byte-slice_split, slice_split_at, slice_split_first, slice_split_none}
-pub use Rattle.std.proofs.lemmas.List.Sums.{AllPass-from_list_all, position_or_len_is}
-pub use Rattle.std.proofs.lemmas.Map.Made.{is_some-lookup}
-pub use Rattle.std.proofs.lemmas.Slice.Eq.{bytes_eq-Decides}
 pub use Rattle.std.specs.Cmp.Lexicographic.{pointwise}
 pub use Rattle.std.specs.FinMap.{empty, entries, get, get-empty}
-pub use Rattle.std.specs.Io.KnownBytes.{Appends, Consumes}
-pub use Rattle.std.specs.List.{All, flat_map, join_with_byte, list_all, onto_first, position, position_or_len}
-pub use Rattle.std.specs.Prelude.{codes, decimal, min, nat_le, nat_lt, ◌&&◌, ◌⊎◌}
-pub use Rattle.std.specs.Str.{bytes_eq}
+pub use Rattle.std.specs.Prelude.{codes, ◌&&◌, ◌⊎◌}
 pub use Rattle.jc_model.specs.Batches.{is_among}
 pub use Rattle.jc_model.specs.Cache.{Bytes, Cache, key_cmp}
 pub use Rattle.jc_model.specs.Reader.{is_full_cause}
 pub use Rattle.jc_model.specs.Table.{is_load_given}
 pub use Rattle.jc_model.specs.declared.event.Op.{Op}
-pub use Rattle.jc_model.specs.declared.processor.EntryCall.{EntryCall}
 pub use Rattle.jc_script.specs.Determinism.{PrintedMemoryDetermines, RunsWriteTheSame, TellsOfMemory, shown_at_begin, shown_by_act, shown_by_line, shown_by_one, shown_by_read, shown_in}
-pub use Rattle.jc_script.specs.LineEvents.{bulk_call, end_of_act, event_at, events_of_act, is_left, is_meant, is_started, is_time, key_events, keys_of_act, leaves, left_keys, load_code, single, start_events}
-pub use Rattle.jc_script.specs.Lines.{are_words, is_callable, is_plain, read_line}
-pub use Rattle.jc_script.specs.Places.{Explains, bad_from, complaint, repeat_from, start_from}
-pub use Rattle.jc_script.specs.Printing.{answer_text, answers_text, audit_text, entry_text, event_text, fails_text, fault_line, key_text, piece_text, reported_line, texts, value_or_none_text, value_text}
-pub use Rattle.jc_script.specs.ProcessWords.{Calls, are_calls, are_calls_from, begins_with, call_of, call_text, calls_from, calls_of, fail_words, has_process_shape, is_call_word, is_fail, source_of, source_words, without_load}
-pub use Rattle.jc_script.specs.Spelled.{AreDistinctPairs, AreKeyWords, AreLeftKeys, HasKeys, IsAct, IsEntryCall, IsKey, IsNumber, IsOperation, IsOptionalCode, IsPair, IsSession, IsShape, IsSource, IsSpellable, IsValue, IsValueOrNone, LinesAreSpelled, LinesReadBack, SaysWords, act_words, bulk_words, flag_words, left_words, line_words, load_word, operation_words, pair_text, session_text, shape_words, spelling}
-pub use Rattle.jc_script.specs.Transcript.{Audited, EndsScript, IsTranscript, OpenedWorld, Plays, PlaysAct, PlaysBegin, PlaysEvents, PlaysOne, PlaysRead, Prints, Transcript, fault_of, fault_read, opened_world, pieces_of}
-pub use Rattle.jc_script.specs.Words.{Pairs, caller_of, digits_from, distinct_keys_of, distinct_pairs_from, distinct_pairs_of, is_digit, is_letter, is_text, key_of, keys_from, names_key, number_of, pairs_from, pairs_of, said, said_after, some_value, value_of, value_or_none_of, words_of, ◌>>=◌}
-pub use Rattle.jc_script.specs.declared.read.commands.Form.{Form}
-pub use Rattle.jc_script.specs.declared.fault.Fault.{Fault}
-pub use Rattle.jc_script.specs.declared.fault.Fault.TheVariants.{BadByte, BadCaller, BadKey, BadLine, BadNumber, BadValue, LineTooLong, RepeatedKey, SetTooLate}
-pub use Rattle.jc_script.specs.declared.read.line.ScriptAct.{ScriptAct}
-pub use Rattle.jc_script.specs.declared.read.line.ScriptAct.TheVariants.{Apply, ApplyFail, ApplyLie, Drop, End, More, Process, Read, ReadFail, Say, Take}
-pub use Rattle.jc_script.specs.declared.read.line.BulkLine.{BulkLine}
-pub use Rattle.jc_script.specs.declared.read.line.Line.{Line}
-pub use Rattle.jc_script.specs.declared.read.line.Line.TheVariants.{Audit, Begin, BeginBulk, Foreign, OfCall, Open, Reopen, Set}
+pub use Rattle.jc_script.specs.LineEvents.{bulk_call, end_of_act, event_at, events_of_act, is_left, is_meant, is_started, is_time, key_events, keys_of_act, leaves, left_keys, load_code, single, start_events, is_callable}
+pub use Rattle.jc_script.specs.Running.{Explains}
+pub use Rattle.jc_script.specs.Transcript.{Audited, EndsScript, IsTranscript, OpenedWorld, Plays, PlaysAct, PlaysBegin, PlaysEvents, PlaysOne, PlaysRead, Prints, Transcript, fault_of, fault_read, opened_world}
 pub use Rattle.jc_script.specs.declared.run.RunEnd.{RunEnd}
 pub use Rattle.jc_script.specs.declared.run.RunEnd.TheVariants.{Clean, LineFault}
+pub use Rattle.jc_text.specs.Lines.{read_line}
+pub use Rattle.jc_text.specs.Pieces.{pieces_of}
+pub use Rattle.jc_text.specs.Places.{complaint}
+pub use Rattle.jc_text.specs.Printing.{audit_text, event_text, fails_text, fault_line, texts}
+pub use Rattle.jc_text.specs.Spelled.{IsOperation, SaysWords}
+pub use Rattle.jc_text.specs.Words.{said_after}
+pub use Rattle.jc_text.specs.declared.fault.Fault.{Fault}
+pub use Rattle.jc_text.specs.declared.fault.Fault.TheVariants.{SetTooLate}
+pub use Rattle.jc_text.specs.declared.read.line.ScriptAct.{ScriptAct}
+pub use Rattle.jc_text.specs.declared.read.line.ScriptAct.TheVariants.{Apply, ApplyFail, ApplyLie, Drop, End, More, Process, Read, ReadFail, Say, Take}
+pub use Rattle.jc_text.specs.declared.read.line.BulkLine.{BulkLine}
+pub use Rattle.jc_text.specs.declared.read.line.Line.{Line}
+pub use Rattle.jc_text.specs.declared.read.line.Line.TheVariants.{Audit, Begin, BeginBulk, Foreign, OfCall, Open, Reopen, Set}
 pub use Rattle.jc_types.specs.Limits.{check, is_between, is_session}
 pub use Rattle.jc_types.specs.declared.config.Config.{Config}
-pub use Rattle.jc_types.specs.declared.limits.TheConstants.{CAPACITY_MAX, HISTORY_MAX, HISTORY_MIN, KEY_MAX, SESSIONS_MAX, STRIPES_MAX, VALUE_MAX}
+pub use Rattle.jc_types.specs.declared.limits.TheConstants.{CAPACITY_MAX, HISTORY_MAX, HISTORY_MIN, STRIPES_MAX}
 pub use Rattle.jc_types.specs.declared.refusal.Refusal.TheVariants.{BadConfig, TooManyKeys, WriterFailed}
 pub use Rattle.jc_world.specs.Calls.{CallState, SweepState, Task, at_each, has_number, has_too_many_keys, new_call, op_at, open_keys, over_of, put_each_of}
 pub use Rattle.jc_world.specs.Determinism.{RunsAreDetermined, eviction_has_memory, has_memory, have_memory}
 pub use Rattle.jc_world.specs.Events.{AllFit, Ends, Happens, Picks, Run, StartsAs, Step, after_report, after_reports, all_fit, is_fit, keys_reported, not_over, reported_at, reported_now, shown_begun, with_call, with_met_by}
 pub use Rattle.jc_world.specs.Fits.{fits, is_being_written, is_free, is_new, is_playable, is_single, may_change, may_leave, may_look, may_report, may_start}
-pub use Rattle.jc_world.specs.Together.{BeginFits, FitTogether, at_call, key_at, looks, looks_of, opening_events}
+pub use Rattle.jc_world.specs.Together.{BeginFits, FitTogether, key_at, looks, looks_of, opening_events}
 pub use Rattle.jc_world.specs.World.{WorldState, has_progress, is_all_answered, is_busy, is_joined, is_untouched, join_cmp, of_call, open_call, part_of, start, waits_for_load, waits_for_process, waits_for_report, with_stored}
 pub use Rattle.jc_world.specs.declared.command.Command.{Command}
 pub use Rattle.jc_world.specs.declared.event.Outcome.{Outcome}
@@ -59,4 +48,3 @@ pub use Rattle.jc_world.specs.declared.event.Part.{Part}
 pub use Rattle.jc_world.specs.declared.event.Shown.{Shown}
 pub use Rattle.jc_world.specs.declared.event.WorldEvent.{WorldEvent}
 pub use Rattle.jc_world.specs.declared.process.LoadSource.{LoadSource}
-pub use Rattle.jc_world.specs.declared.process.LoadSource.TheVariants.{Failing, Stated, Store}

@@ -13,9 +13,9 @@ use Rattle.jc_world.specs.declared.command.CallKind.{CallKind}
 use Rattle.jc_world.specs.declared.command.CallKind.TheVariants as kind
 use Rattle.jc_world.specs.declared.command.Command.TheVariants as command
 use Rattle.jc_world.specs.declared.event.WorldEvent.TheVariants as event
-use Rattle.jc_script.specs.declared.read.line.BulkLine.TheVariants as bulk
+use Rattle.jc_text.specs.declared.read.line.BulkLine.TheVariants as bulk
+use Rattle.jc_text.specs.Input.{ReadsAll}
 use Rattle.jc_script.proofs.PrintedMemory.{none_lack}
-use Rattle.jc_script.specs.Running.{ReadsAll}
 
 -- 1. Events.
 

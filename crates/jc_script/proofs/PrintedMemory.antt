@@ -9,7 +9,7 @@ use Rattle.jc_stripe.specs.declared.begun.Eviction.{Eviction}
 use Rattle.jc_world.specs.declared.event.Outcome.TheVariants as outcome
 use Rattle.jc_world.specs.declared.event.Stepped.{Stepped}
 use Rattle.jc_world.specs.declared.event.WorldEvent.TheVariants as event
-use Rattle.jc_script.specs.Printing.{end_text, event_text, evict_line, evicted_text, fails_text, outcome_text, process_outcome_text, shown_text, stepped_text, texts, told, victim_text}
+use Rattle.jc_text.specs.Printing.{end_text, event_text, evict_line, evicted_text, fails_text, outcome_text, process_outcome_text, shown_text, stepped_text, texts, told, victim_text}
 
 -- 1. Texts.
 

@@ -24,16 +24,17 @@ use Rattle.jc_world.specs.declared.event.WorldEvent.{WorldEvent}
 use Rattle.jc_world.specs.declared.event.WorldEvent.TheVariants as event
 use Rattle.jc_world.specs.Determinism.{have_memory}
 use Rattle.jc_world.specs.World.{WorldState, open_call}
-use Rattle.jc_script.specs.declared.fault.Fault.{Fault}
-use Rattle.jc_script.specs.declared.read.line.ScriptAct.{ScriptAct}
-use Rattle.jc_script.specs.declared.read.line.Line.{Line}
-use Rattle.jc_script.specs.declared.read.line.Line.TheVariants.{Open, Set, Begin, BeginBulk, OfCall, Foreign, Reopen, Audit}
+use Rattle.jc_text.specs.declared.fault.Fault.{Fault}
+use Rattle.jc_text.specs.declared.read.line.ScriptAct.{ScriptAct}
+use Rattle.jc_text.specs.declared.read.line.Line.{Line}
+use Rattle.jc_text.specs.declared.read.line.Line.TheVariants.{Open, Set, Begin, BeginBulk, OfCall, Foreign, Reopen, Audit}
+use Rattle.jc_text.specs.Lines.{read_line}
+use Rattle.jc_text.specs.Printing.{evict_line}
+use Rattle.jc_text.specs.Pieces.{pieces_of}
 use Rattle.jc_script.specs.declared.run.RunEnd.{RunEnd}
 use Rattle.jc_script.specs.LineEvents.{single}
-use Rattle.jc_script.specs.Lines.{read_line}
-use Rattle.jc_script.specs.Printing.{evict_line}
 use Rattle.jc_script.specs.Running.{RunsScript}
-use Rattle.jc_script.specs.Transcript.{OpenedWorld, Plays, PlaysAct, PlaysBegin, PlaysOne, PlaysRead, pieces_of, Transcript, IsTranscript}
+use Rattle.jc_script.specs.Transcript.{OpenedWorld, Plays, PlaysAct, PlaysBegin, PlaysOne, PlaysRead, Transcript, IsTranscript}
 
 -- 1. What lines have shown.
 

@@ -1,5 +1,4 @@
--- The faults of a line.
---     text_of          the words of a fault
+-- The faults that the state of a world gives a line.
 --     field_fault      the fault of a refused shape: it names the field
 --     config_fault     the fault of a world's shape: the first number out of its limits
 --     begin_fault      the fault of a `begin`: first the number, then the caller
@@ -7,42 +6,20 @@
 --                      can leave none alone, or it isn't the time for it
 --     reopen_fault     the fault of a `reopen`: first the new shape's, then that a call is under way
 --     state_fault      the fault that the state of the world gives a line, the first one in order
-use Rattle.std.specs.Prelude.{◌&&◌, ℕ, List, Bool, codes, not, Option, None, Some, Result, Ok, Err, if◌then◌else◌}
+use Rattle.std.specs.Prelude.{◌&&◌, ℕ, Bool, not, Option, None, Some, Result, Ok, Err, if◌then◌else◌}
 use Rattle.jc_types.specs.declared.refusal.Refusal.{Refusal}
 use Rattle.jc_types.specs.declared.refusal.Refusal.TheVariants as refusal
-use Rattle.jc_types.specs.declared.config.Field.TheVariants.{Stripes, Capacity, History}
 use Rattle.jc_types.specs.Limits.{check}
 use Rattle.jc_world.specs.declared.event.WorldEvent.TheVariants as event
 use Rattle.jc_world.specs.Calls.{CallState}
 use Rattle.jc_world.specs.World.{WorldState, open_call, is_busy}
 use Rattle.jc_world.specs.Fits.{fits, is_new}
+use Rattle.jc_text.specs.declared.fault.Fault.{Fault}
+use Rattle.jc_text.specs.declared.fault.Fault.TheVariants.{NotOpen, OpenTwice, BadConfig, SetTooLate, NotRising, CallerBusy, NoSuchCall, NotNow}
+use Rattle.jc_text.specs.declared.read.line.Line.{Line}
+use Rattle.jc_text.specs.declared.read.line.Line.TheVariants.{Open, Set, Begin, BeginBulk, OfCall, Foreign, Reopen, Audit}
+use Rattle.jc_text.specs.declared.read.line.ScriptAct.{ScriptAct}
 use Rattle.jc_script.specs.LineEvents.{is_time_for, allows_but, has_but}
-use Rattle.jc_script.specs.declared.fault.Fault.{Fault}
-use Rattle.jc_script.specs.declared.fault.Fault.TheVariants.{CutLine, LineTooLong, BadByte, BadLine, BadNumber, BadCaller, BadKey, BadValue, RepeatedKey, NotOpen, OpenTwice, BadConfig, SetTooLate, NotRising, CallerBusy, NoSuchCall, NotNow}
-use Rattle.jc_script.specs.declared.read.line.Line.{Line}
-use Rattle.jc_script.specs.declared.read.line.Line.TheVariants.{Open, Set, Begin, BeginBulk, OfCall, Foreign, Reopen, Audit}
-use Rattle.jc_script.specs.declared.read.line.ScriptAct.{ScriptAct}
-
-abbrev pub text_of : Fault → List ℕ
-text_of CutLine = codes "cut line"
-text_of LineTooLong = codes "line too long"
-text_of BadByte = codes "bad byte"
-text_of BadLine = codes "bad line"
-text_of BadNumber = codes "bad number"
-text_of BadCaller = codes "bad caller"
-text_of BadKey = codes "bad key"
-text_of BadValue = codes "bad value"
-text_of RepeatedKey = codes "repeated key"
-text_of NotOpen = codes "not open"
-text_of OpenTwice = codes "open twice"
-text_of (BadConfig Stripes) = codes "bad config stripes"
-text_of (BadConfig Capacity) = codes "bad config capacity"
-text_of (BadConfig History) = codes "bad config history"
-text_of SetTooLate = codes "set too late"
-text_of NotRising = codes "number not rising"
-text_of CallerBusy = codes "caller busy"
-text_of NoSuchCall = codes "no such call"
-text_of NotNow = codes "not now"
 
 -- a shape is refused for a field alone
 abbrev pub field_fault : Refusal → Option Fault

@@ -1,13 +1,6 @@
-pub mod Words
-pub mod ProcessWords
 pub mod LineEvents
 pub mod Faults
-pub mod Lines
-pub mod Printing
 pub mod Transcript
-pub mod Places
 pub mod ReachedWorlds
-pub mod Noting
 pub mod Running
 pub mod Determinism
-pub mod Spelled

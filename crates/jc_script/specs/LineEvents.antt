@@ -25,11 +25,12 @@
 --     has_but         an act names keys that the writer leaves
 --     allows_but      a call whose writer may leave some of its keys and not others: one of many keys
 --     load_code      the code with which an act says that the loader fails
+--     is_callable     what a line begins is a call of one of the 32 sessions, and its operation is a call by itself, if it has but one
 use Rattle.std.specs.Prelude.{◌&&◌, ℕ, List, [], ◌∷◌, ◌++◌, filter, map, Bool, true, false, not, Option, None, Some, find, is_some, option_to_list, if◌then◌else◌}
 use Rattle.std.specs.List.{list_all, list_any}
+use Rattle.jc_types.specs.Limits.{is_session}
 use Rattle.jc_model.specs.Cache.{Bytes}
 use Rattle.jc_model.specs.declared.event.LoadAnswer.TheVariants.{Failed}
-use Rattle.jc_script.specs.declared.read.line.Operation.{Operation}
 use Rattle.jc_world.specs.declared.command.Command.{Command}
 use Rattle.jc_world.specs.declared.command.Command.TheVariants as command
 use Rattle.jc_model.specs.Batches.{is_among}
@@ -37,12 +38,15 @@ use Rattle.jc_world.specs.Calls.{CallState, is_bulk, open_keys}
 use Rattle.jc_world.specs.declared.event.WorldEvent.{WorldEvent}
 use Rattle.jc_world.specs.declared.event.WorldEvent.TheVariants as event
 use Rattle.jc_world.specs.World.{WorldState, has_progress, is_joined, part_of, waits_for_load, waits_for_process}
-use Rattle.jc_world.specs.Fits.{fits, is_being_written, passes_in}
-use Rattle.jc_script.specs.declared.read.line.BulkLine.{BulkLine}
-use Rattle.jc_script.specs.declared.read.line.BulkLine.TheVariants as bulk
-use Rattle.jc_script.specs.declared.read.line.ScriptAct.{ScriptAct}
-use Rattle.jc_script.specs.declared.read.line.ScriptAct.TheVariants.{Read, ReadFail, Say, Apply, ApplyFail, ApplyLie, End, Drop, More, Take, Process}
-use Rattle.jc_script.specs.Words.{said}
+use Rattle.jc_world.specs.Fits.{fits, is_being_written, is_single, passes_in}
+use Rattle.jc_text.specs.declared.read.line.Operation.{Operation}
+use Rattle.jc_text.specs.declared.read.line.Line.{Line}
+use Rattle.jc_text.specs.declared.read.line.Line.TheVariants.{Open, Set, Begin, BeginBulk, OfCall, Foreign, Reopen, Audit}
+use Rattle.jc_text.specs.declared.read.line.BulkLine.{BulkLine}
+use Rattle.jc_text.specs.declared.read.line.BulkLine.TheVariants as bulk
+use Rattle.jc_text.specs.declared.read.line.ScriptAct.{ScriptAct}
+use Rattle.jc_text.specs.declared.read.line.ScriptAct.TheVariants.{Read, ReadFail, Say, Apply, ApplyFail, ApplyLie, End, Drop, More, Take, Process}
+use Rattle.jc_text.specs.Words.{said}
 
 abbrev pub single : Operation → Command
 single operation = command.Single operation.op operation.key
@@ -184,3 +188,15 @@ allows_but u = is_bulk u.kind
 abbrev pub load_code : ScriptAct → Option ℕ
 load_code (ReadFail code) = Some code
 load_code other = None
+
+-- 3. What may be begun. Each line that is read is so, and no contract of a public call cites this.
+
+abbrev pub is_callable : Line → Bool
+is_callable (Begin number session command) = is_single command.op && is_session session
+is_callable (BeginBulk number session call) = is_session session
+is_callable (Open config) = true
+is_callable (Set key value) = true
+is_callable (OfCall number act) = true
+is_callable (Foreign key value) = true
+is_callable (Reopen config) = true
+is_callable Audit = true

@@ -19,11 +19,12 @@ use Rattle.jc_world.specs.declared.event.WorldEvent.{WorldEvent}
 use Rattle.jc_world.specs.Events.{all_fit}
 use Rattle.jc_world.specs.Headline.{Reaches, start_with}
 use Rattle.jc_world.specs.World.{WorldState, start}
-use Rattle.jc_script.specs.declared.fault.Fault.{Fault}
+use Rattle.jc_text.specs.declared.fault.Fault.{Fault}
+use Rattle.jc_text.specs.Printing.{texts, fails_line, fault_line}
+use Rattle.jc_text.specs.Pieces.{pieces_of}
 use Rattle.jc_script.specs.declared.run.RunEnd.{RunEnd}
 use Rattle.jc_script.specs.declared.run.RunEnd.TheVariants.{LineFault}
-use Rattle.jc_script.specs.Printing.{texts, fails_line, fault_line}
-use Rattle.jc_script.specs.Transcript.{Audited, OpenedWorld, Prints, fault_of, pieces_of, EndsScript, IsTranscript}
+use Rattle.jc_script.specs.Transcript.{Audited, OpenedWorld, Prints, fault_of, EndsScript, IsTranscript}
 
 -- 1. Lines.
 

@@ -13,12 +13,10 @@
 --     PlaysRead, Prints        the same from what was read of a line, and from its bytes; a comment prints nothing and changes
 --                              nothing
 --     fault_read, fault_of     the fault of a line, if it has one, from what was read of it, and from its bytes
---     pieces_of                what is between the line feeds; the last piece has none after it
 --     EndsScript               what the last piece prints, and how the script ends: a piece with bytes is a cut line
 --     Transcript               from a state and a line on, the pieces print this and end so
 --     IsTranscript             the same of a whole script
-use Rattle.std.specs.Prelude.{◌≡◌, ◌==◌, ◌⊎◌, ℕ, ◌+◌, List, [], ◌∷◌, ◌++◌, Bool, true, IsTrue, Option, None, Some, Result, Ok, Err, codes}
-use Rattle.std.specs.List.{slice_split}
+use Rattle.std.specs.Prelude.{◌≡◌, ◌⊎◌, ℕ, ◌+◌, List, [], ◌∷◌, ◌++◌, Bool, true, IsTrue, Option, None, Some, Result, Ok, Err, codes}
 use Rattle.jc_model.specs.Cache.{Bytes}
 use Rattle.jc_world.specs.Calls.{CallState}
 use Rattle.jc_world.specs.declared.command.Command.{Command}
@@ -31,18 +29,19 @@ use Rattle.jc_world.specs.Events.{Run, all_fit}
 use Rattle.jc_world.specs.Together.{opening_events}
 use Rattle.jc_world.specs.Audit.{IsAudit}
 use Rattle.jc_world.specs.Coherent.{all_hold}
-use Rattle.jc_script.specs.declared.fault.Fault.{Fault}
-use Rattle.jc_script.specs.declared.fault.Fault.TheVariants.{CutLine}
-use Rattle.jc_script.specs.declared.read.line.Line.{Line}
-use Rattle.jc_script.specs.declared.read.line.Line.TheVariants.{Open, Set, Begin, BeginBulk, OfCall, Foreign, Reopen, Audit}
-use Rattle.jc_script.specs.declared.read.line.BulkLine.{BulkLine}
-use Rattle.jc_script.specs.declared.read.line.ScriptAct.{ScriptAct}
+use Rattle.jc_text.specs.declared.fault.Fault.{Fault}
+use Rattle.jc_text.specs.declared.fault.Fault.TheVariants.{CutLine}
+use Rattle.jc_text.specs.declared.read.line.Line.{Line}
+use Rattle.jc_text.specs.declared.read.line.Line.TheVariants.{Open, Set, Begin, BeginBulk, OfCall, Foreign, Reopen, Audit}
+use Rattle.jc_text.specs.declared.read.line.BulkLine.{BulkLine}
+use Rattle.jc_text.specs.declared.read.line.ScriptAct.{ScriptAct}
+use Rattle.jc_text.specs.Lines.{read_line}
+use Rattle.jc_text.specs.Pieces.{pieces_of}
+use Rattle.jc_text.specs.Printing.{texts, fails_text, audit_text, fault_line}
 use Rattle.jc_script.specs.declared.run.RunEnd.{RunEnd}
 use Rattle.jc_script.specs.declared.run.RunEnd.TheVariants.{Clean, LineFault}
-use Rattle.jc_script.specs.Lines.{read_line}
 use Rattle.jc_script.specs.Faults.{state_fault}
 use Rattle.jc_script.specs.LineEvents.{single, bulk_call, start_events, events_of_act, keys_of_act, load_code}
-use Rattle.jc_script.specs.Printing.{texts, fails_text, audit_text, fault_line}
 
 -- a world, once it was opened
 abbrev pub OpenedWorld : Type 0
@@ -141,9 +140,6 @@ abbrev pub fault_of : OpenedWorld → List ℕ → Option Fault
 fault_of old line = fault_read old (read_line line)
 
 -- 2. Whole scripts.
-
-abbrev pub pieces_of : List ℕ → List (List ℕ)
-pieces_of input = slice_split (λ b. b == 10) input
 
 -- a last piece with bytes is a cut line
 abbrev pub EndsScript : ℕ → List ℕ → List ℕ → RunEnd → Type 0

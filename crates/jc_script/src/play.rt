@@ -3,8 +3,8 @@ ghost use Rattle.std.specs.Prelude.{◌≡◌, ◌++◌, ◌∷◌, List, ℕ, [
 ghost use Rattle.jc_types.specs.Limits.{check};
 ghost use Rattle.jc_world.specs.World.{start};
 ghost use Rattle.jc_world.specs.Events.{AllFit};
-ghost use Rattle.jc_script.specs.declared.read.line.Line.TheVariants as lines;
-ghost use Rattle.jc_script.specs.Lines.{is_callable};
+ghost use Rattle.jc_text.specs.declared.read.line.Line.TheVariants as lines;
+ghost use Rattle.jc_script.specs.LineEvents.{is_callable};
 ghost use Rattle.jc_script.specs.Faults.{config_fault};
 ghost use Rattle.jc_script.specs.Transcript.{opened_world, PlaysEvents, PlaysCall, PlaysOne, Audited, PlaysLine, Prints, fault_of};
 
@@ -13,14 +13,14 @@ mod beginning;
 
 use self::acting::act_on;
 use self::beginning::{play_begin, play_bulk};
-use crate::fault::{Fault, ReadError};
-use crate::print::audit::put_audit;
-use crate::print::lines::put_fault_code;
-use crate::print::put;
-use crate::print::shown::put_texts;
-use crate::read::grammar::read;
-use crate::read::line::Line;
 use jc_model::{LoadAnswer, Op};
+use jc_text::print::audit::put_audit;
+use jc_text::print::lines::put_fault_code;
+use jc_text::print::put;
+use jc_text::print::shown::put_texts;
+use jc_text::read::grammar::read;
+use jc_text::read::line::Line;
+use jc_text::{Fault, ReadError};
 use jc_types::{Config, Key, Refusal};
 use jc_world::command::Command;
 use jc_world::event::{Shown, WorldEvent};

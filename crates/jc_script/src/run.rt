@@ -1,18 +1,15 @@
 //! A script's run, from the bytes that are read to the bytes that are written.
-ghost use Rattle.std.specs.Prelude.{◌≡◌, ◌≢◌, ◌↔◌, true, false, ◌<◌, ◌≤◌, ◌∷◌, ◌==◌, [], None, length, position, IfOk};
-ghost use Rattle.std.specs.Prelude.{IfErr, IfSome, MatchOption};
-ghost use Rattle.jc_script.specs.Transcript.{pieces_of, IsTranscript};
-ghost use Rattle.jc_script.specs.Places.{Explains};
-ghost use Rattle.jc_script.specs.Running.{RunsScript, BreaksOffScript};
+ghost use Rattle.std.specs.Prelude.{◌≡◌, ◌≢◌, ◌↔◌, true, false, ◌<◌, ◌≤◌, None, length, IfOk, IfErr, IfSome};
+ghost use Rattle.jc_script.specs.Transcript.{IsTranscript};
+ghost use Rattle.jc_script.specs.Running.{Explains, RunsScript, BreaksOffScript};
 
-use crate::fault::Fault;
-use crate::input::{InputFault, read_all, write_out};
-use crate::noted::Noted;
 use crate::play::Player;
-use crate::print::place::put_complaint;
-use crate::print::put_fault;
+use jc_text::input::{InputFault, read_all, write_out};
+use jc_text::lines::first_line;
+use jc_text::print::place::put_complaint;
+use jc_text::print::put_fault;
+use jc_text::{Fault, Noted};
 use jc_types::SCRIPT_MAX;
-use memchr::memchr;
 use std::alloc::{AllocError, Global};
 use std::io::{Read, Write};
 use thiserror::Error;
@@ -41,25 +38,6 @@ pub enum RunFault {
     /// The writer failed. A prefix of the transcript was written.
     #[error("write failed")]
     Write,
-}
-
-/// The place of the first line feed.
-fn line_feed(bytes: &[u8]) -> Option<usize>
-    ensures { result ≡ position (λ b. b == 10) bytes.now }
-{
-    memchr(b'\n', bytes)
-}
-
-/// The bytes before the first line feed, and those after it. None if there is no line feed.
-pub fn first_line(bytes: &[u8]) -> Option<(&[u8], &[u8])>
-    ensures { MatchOption result
-        (pieces_of bytes.now ≡ bytes.now ∷ [])
-        (λ x. (pieces_of bytes.now ≡ x.0.now ∷ pieces_of x.1.now) × (length x.1.now < length bytes.now)) }
-{
-    match line_feed(bytes) {
-        None => None,
-        Some(at) => Some((&bytes[..at], &bytes[at + 1..])),
-    }
 }
 
 /// The transcript of a script, by a player whose world is still to be opened. At a fault `told` gets what is to be said of it.

@@ -5,11 +5,12 @@ pub use Rattle.std.proofs.lemmas.Grind.{flat_map-append}
 pub use Rattle.std.proofs.lemmas.List.{length-append, take-append-le, take_rest}
 pub use Rattle.std.specs.Io.KnownBytes.{Appends, Consumes, IsAtEnd}
 pub use Rattle.std.specs.Prelude.{codes}
-pub use Rattle.jc_script.proofs.CallerLemmas.{appends-then, pieces_some}
-pub use Rattle.jc_script.specs.Places.{complaint}
-pub use Rattle.jc_script.specs.Printing.{fault_line}
-pub use Rattle.jc_script.specs.Transcript.{IsTranscript, OpenedWorld, Prints, Transcript, fault_of, opened_world, pieces_of}
-pub use Rattle.jc_script.specs.declared.fault.Fault.{Fault}
+pub use Rattle.jc_text.proofs.CallerLemmas.{appends-then, pieces_some}
+pub use Rattle.jc_text.specs.Places.{complaint}
+pub use Rattle.jc_text.specs.Printing.{fault_line}
+pub use Rattle.jc_text.specs.Pieces.{pieces_of}
+pub use Rattle.jc_text.specs.declared.fault.Fault.{Fault}
+pub use Rattle.jc_script.specs.Transcript.{IsTranscript, OpenedWorld, Prints, Transcript, fault_of, opened_world}
 pub use Rattle.jc_script.specs.declared.run.RunEnd.TheVariants.{Clean, LineFault}
 pub use Rattle.jc_shell.specs.Holding.{Holds, PlaysOn}
 pub use Rattle.jc_shell.specs.Saving.{Saved, Saves}

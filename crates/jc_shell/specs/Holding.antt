@@ -2,8 +2,9 @@
 --     PlaysOn   a script that begins with the accepted lines is played on from this world
 --     Holds     a session has the script of the accepted lines, the count of those lines, and such a world
 use Rattle.std.specs.Prelude.{◌≡◌, ℕ, List, ◌++◌, length}
+use Rattle.jc_text.specs.Pieces.{pieces_of}
 use Rattle.jc_script.specs.declared.run.RunEnd.{RunEnd}
-use Rattle.jc_script.specs.Transcript.{IsTranscript, OpenedWorld, Transcript, pieces_of}
+use Rattle.jc_script.specs.Transcript.{IsTranscript, OpenedWorld, Transcript}
 use Rattle.jc_shell.specs.Sessions.{Accepted, next_line_number, script_of}
 
 abbrev pub PlaysOn : Accepted → OpenedWorld → Type 0

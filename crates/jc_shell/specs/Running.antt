@@ -10,8 +10,8 @@
 --     Stopped        the same up to an error: the bytes that were read, and those of its lines that were answered
 use Rattle.std.specs.Prelude.{◌≡◌, ◌≤◌, ◌⊎◌, ℕ, List, [], ◌∷◌, ◌++◌, codes, false, length, take, Option}
 use Rattle.std.specs.Io.KnownBytes.{Appends, Consumes, IsAtEnd}
-use Rattle.jc_script.specs.declared.fault.Fault.TheVariants.{CutLine}
-use Rattle.jc_script.specs.Places.{complaint}
+use Rattle.jc_text.specs.declared.fault.Fault.TheVariants.{CutLine}
+use Rattle.jc_text.specs.Places.{complaint}
 use Rattle.jc_shell.specs.declared.run.ShellFault.{ShellFault}
 use Rattle.jc_shell.specs.declared.run.ShellFault.TheVariants.{Write}
 use Rattle.jc_shell.specs.Saving.{Saved, Saves}

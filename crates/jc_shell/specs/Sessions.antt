@@ -16,10 +16,10 @@
 --     TranscriptsAreShown    whatever is typed, the answers to the accepted lines are the transcript of their script
 use Rattle.std.specs.Prelude.{◌≡◌, ◌⊎◌, ◌==◌, ◌+◌, ℕ, List, [], ◌∷◌, ◌++◌, length, Bool, false}
 use Rattle.std.specs.List.{flat_map, list_any}
-use Rattle.jc_script.specs.declared.fault.Fault.{Fault}
+use Rattle.jc_text.specs.declared.fault.Fault.{Fault}
+use Rattle.jc_text.specs.Places.{complaint}
+use Rattle.jc_text.specs.Printing.{fault_line}
 use Rattle.jc_script.specs.declared.run.RunEnd.TheVariants.{Clean, LineFault}
-use Rattle.jc_script.specs.Places.{complaint}
-use Rattle.jc_script.specs.Printing.{fault_line}
 use Rattle.jc_script.specs.Transcript.{IsTranscript}
 use Rattle.jc_shell.specs.declared.words.Word.{Word}
 use Rattle.jc_shell.specs.declared.words.Word.TheVariants.{Help, Quit, Save, Line}

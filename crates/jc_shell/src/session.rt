@@ -1,6 +1,6 @@
 //! A session: the lines that were accepted so far, and the world that they have led to.
 ghost use Rattle.std.specs.Prelude.{◌≡◌, ◌≢◌, ◌⊎◌, ◌++◌, ◌∷◌, ◌+◌, ◌≤◌, [], List, ℕ, false, length, OnOk, OnErr};
-ghost use Rattle.jc_script.specs.Places.{complaint};
+ghost use Rattle.jc_text.specs.Places.{complaint};
 ghost use Rattle.jc_script.specs.Transcript.{opened_world};
 ghost use Rattle.jc_shell.specs.Holding.{Holds};
 ghost use Rattle.jc_shell.specs.Saving.{Saved, Saves};
@@ -10,10 +10,9 @@ ghost use Rattle.jc_shell.specs.declared.words.Word.TheVariants.{Quit};
 
 use crate::save::Save;
 use crate::words::{HELP, Word, name_in, word_of};
-use jc_script::fault::Fault;
 use jc_script::play::Player;
-use jc_script::print::place::put_complaint;
-use jc_script::put;
+use jc_text::print::place::put_complaint;
+use jc_text::{Fault, put};
 use std::alloc::{AllocError, Global};
 
 /// A dialogue with a shell: a player, and the script of the lines that it has played.

@@ -2,7 +2,7 @@
 ghost use Rattle.std.specs.Prelude.{◌≡◌};
 ghost use Rattle.jc_shell.specs.ShellWords.{name_in, word_of};
 
-use jc_script::read::words::is;
+use jc_text::read::words::is;
 
 /// The word of the shell that a line is.
 #[derive(Clone, Copy, Debug, PartialEq, Eq)]

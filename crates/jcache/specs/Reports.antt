@@ -13,7 +13,7 @@
 use Rattle.std.specs.Prelude.{◌≡◌, ◌==◌, ◌&&◌, ◌*◌, ◌++◌, ℕ, List, Bool, false, Option, None, Some, codes, decimal, length, ◌≤◌, All}
 use Rattle.std.specs.List.{flat_map, list_all}
 use Rattle.std.specs.Str.{bytes_eq}
-use Rattle.jc_script.specs.Printing.{flag_text}
+use Rattle.jc_text.specs.Printing.{flag_text}
 use Rattle.jc_commands.specs.declared.plan.Plan.{Plan}
 use Rattle.jcache.specs.declared.report.Report.{Report}
 

@@ -5,7 +5,7 @@ ghost use Rattle.jcache.specs.Reports.{is_right, is_count, plan_text, count_text
 
 use itoa::Buffer;
 use jc_commands::plan::Plan;
-use jc_script::{put, put_flag, put_number};
+use jc_text::{put, put_flag, put_number};
 use jc_types::Value;
 use std::alloc::{AllocError, Global};
 

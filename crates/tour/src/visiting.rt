@@ -10,11 +10,22 @@ use std::sync::Wait;
 pub fn visit(rt: &(impl Print + Wait), alloc: Global, guide: Client<'_>) -> anyhow::Result<()> {
     let mut client = guide;
     let mut increment: Box<dyn EntryProcessor + Send + Drop> = Box::new(alloc, Increment)?;
+    make_calls(rt, &mut client, &mut increment)
+}
+
+/// The calls, of a client that is lent: each `?` of a function that owns it would have to let it go.
+fn make_calls(
+    rt: &(impl Print + Wait),
+    client: &mut Client<'_>,
+    increment: &mut Box<dyn EntryProcessor + Send + Drop>,
+) -> anyhow::Result<()>
+    requires { Unit {0} }
+{
     let (apple, pear, two) = (Key::new(b"apple")?, Key::new(b"pear")?, Value::new(b"2")?);
-    read(rt, &mut client, &apple)?;
-    change(rt, &mut client, &apple, &pear, &two)?;
-    count(rt, &mut client, &apple, &pear, &mut increment)?;
-    try_both(rt, &mut client, &apple, &two)?;
+    read(rt, client, &apple)?;
+    change(rt, client, &apple, &pear, &two)?;
+    count(rt, client, &apple, &pear, increment)?;
+    try_both(rt, client, &apple, &two)?;
     println!(rt; "the guide has made {} steps", client.own())?;
     Ok(())
 }

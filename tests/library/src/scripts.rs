@@ -4,7 +4,8 @@ mod streams;
 
 use crate::common::is_at as is;
 use jc_script::run::run;
-use jc_script::{Noted, RunEnd, RunFault};
+use jc_script::{RunEnd, RunFault};
+use jc_text::Noted;
 use std::alloc::Global;
 use std::io;
 use std::process::Abort;

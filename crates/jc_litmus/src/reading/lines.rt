@@ -1,13 +1,13 @@
 //! The lines of a program, by their words.
 ghost use Rattle.std.specs.Prelude.{◌≡◌, ◌||◌, map};
-ghost use Rattle.jc_script.specs.Lines.{ok_with};
+ghost use Rattle.jc_text.specs.Lines.{ok_with};
 ghost use Rattle.jc_litmus.specs.LineResults.{ReadsAs};
 ghost use Rattle.jc_litmus.specs.Program.{after_call, after_expect, after_failing, after_invoke, after_line, after_other_line, after_own_line};
 ghost use Rattle.jc_litmus.specs.Program.{after_script_line, after_thread, invocation, is_outside};
 ghost use Rattle.jc_litmus.specs.Grammar.{quantifier_named};
 ghost use Rattle.jc_litmus.specs.declared.line_error.LineError.TheVariants as errors;
 ghost use Rattle.jc_litmus.specs.declared.program.LineFault.TheVariants as faults;
-ghost use Rattle.jc_script.specs.declared.fault.Fault.TheVariants as script_faults;
+ghost use Rattle.jc_text.specs.declared.fault.Fault.TheVariants as script_faults;
 
 use crate::atoms::{add_atoms, are_atoms};
 use crate::grammar::{
@@ -17,10 +17,10 @@ use crate::line_error::LineError;
 use crate::program::{Expectation, LineFault, Quantifier, THREADS_MAX};
 use crate::reading::{ProgramParts, ReadBuffers, push_expectation, push_thread};
 use jc_explore::Item;
-use jc_script::fault::{Fault, ReadError};
-use jc_script::read::grammar::{none_empty, read};
-use jc_script::read::line::{Line, Operation};
-use jc_script::read::words::{is, key, split};
+use jc_text::read::grammar::{none_empty, read};
+use jc_text::read::line::{Line, Operation};
+use jc_text::read::words::{is, key, split};
+use jc_text::{Fault, ReadError};
 use std::alloc::Global;
 
 fn bad_line() -> LineError

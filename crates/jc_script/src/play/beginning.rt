@@ -1,25 +1,24 @@
 //! The lines that begin a call.
-ghost use Rattle.std.specs.Prelude.{◌≡◌, ◌++◌, List, ℕ, Some, None, true, OnOk, IfOk};
+ghost use Rattle.std.specs.Prelude.{◌≡◌, ◌++◌, ◌∷◌, [], List, ℕ, Some, None, true, OnOk, IfOk};
 ghost use Rattle.jc_model.specs.Cache.{Bytes};
 ghost use Rattle.jc_world.specs.declared.event.WorldEvent.TheVariants as event;
 ghost use Rattle.jc_world.specs.World.{open_call};
 ghost use Rattle.jc_world.specs.Fits.{fits, is_free, is_playable};
 ghost use Rattle.jc_world.specs.Events.{AllFit};
 ghost use Rattle.jc_world.specs.Together.{looks, opening_events};
-ghost use Rattle.jc_script.specs.declared.read.line.Line.TheVariants as lines;
-ghost use Rattle.jc_script.specs.Lines.{is_callable};
+ghost use Rattle.jc_text.specs.declared.read.line.Line.TheVariants as lines;
 ghost use Rattle.jc_script.specs.Faults.{begin_fault};
-ghost use Rattle.jc_script.specs.LineEvents.{single, bulk_call, start_events};
-ghost use Rattle.jc_script.specs.Transcript.{PlaysBegin, PlaysLine};
+ghost use Rattle.jc_script.specs.LineEvents.{single, bulk_call, start_events, is_callable};
+ghost use Rattle.jc_script.specs.Transcript.{PlaysBegin, PlaysEvents, PlaysLine};
 
 use super::acting::put_key_events;
 use super::{LineBuffers, play_events};
-use crate::fault::Fault;
-use crate::read::line::{BulkLine, Operation, ScriptAct};
 use jc_model::{LoadAnswer, Op};
+use jc_text::Fault;
+use jc_text::read::line::{BulkLine, Operation, ScriptAct};
 use jc_types::{Key, Value};
 use jc_world::command::Command;
-use jc_world::event::WorldEvent;
+use jc_world::event::{Shown, WorldEvent};
 use jc_world::world::World;
 use std::alloc::{AllocError, Global};
 use std::slice;
@@ -111,8 +110,7 @@ fn command_of(call: &BulkLine) -> Result<Command, AllocError>
     }
 }
 
-/// A call of one key begins, and makes its first phase. Each is played where it is made: an event is large, and shouldn't be moved to a
-/// list.
+/// A call of one key begins, and makes its first phase.
 fn begin_single(
     world: &mut World,
     number: u32,
@@ -126,20 +124,54 @@ fn begin_single(
         × PlaysBegin world.old.world number session (single operation.now) text (Some world.new.world)
         × (out.new.items ≡ out.old.items ++ text)) }
 {
-    let call = number as u64;
-    let command = single(operation);
-    let begin = WorldEvent::Call {
-        call,
-        session,
-        command,
-    };
     world.lets_calls_begin();
-    play_events(world, slice::from_ref(&begin), &mut buffers.shown, out)?;
+    play_opening(world, number, session, operation, &mut buffers.shown, out)?;
     world.lets_keys_go_together();
-    let key = operation.key;
-    let start = WorldEvent::Start { call, key };
-    play_events(world, slice::from_ref(&start), &mut buffers.shown, out)?;
+    play_start(world, number, &operation.key, &mut buffers.shown, out)?;
     Ok(())
+}
+
+/// Plays the begin of a call of one key. An event is large, so it is played where it is made, and not moved to a list; and each is let go
+/// in one place.
+fn play_opening(
+    world: &mut World,
+    number: u32,
+    session: u32,
+    operation: &Operation,
+    shown: &mut Vec<Shown>,
+    out: &mut Vec<u8>,
+) -> Result<(), AllocError>
+    requires { AllFit world.old.world (event.Call number session (single operation.now) ∷ []) }
+    ensures { OnOk result ((text : List ℕ)
+        × PlaysEvents world.old.world (event.Call number session (single operation.now) ∷ []) text world.new.world
+        × (out.new.items ≡ out.old.items ++ text)) }
+{
+    let begin = WorldEvent::Call {
+        call: number as u64,
+        session,
+        command: single(operation),
+    };
+    play_events(world, slice::from_ref(&begin), shown, out)
+}
+
+/// Plays the first phase of a call at a key.
+fn play_start(
+    world: &mut World,
+    number: u32,
+    key: &Key,
+    shown: &mut Vec<Shown>,
+    out: &mut Vec<u8>,
+) -> Result<(), AllocError>
+    requires { AllFit world.old.world (event.Start number key.now ∷ []) }
+    ensures { OnOk result ((text : List ℕ)
+        × PlaysEvents world.old.world (event.Start number key.now ∷ []) text world.new.world
+        × (out.new.items ≡ out.old.items ++ text)) }
+{
+    let start = WorldEvent::Start {
+        call: number as u64,
+        key: *key,
+    };
+    play_events(world, slice::from_ref(&start), shown, out)
 }
 
 /// A call of many keys begins, looks at the stripes if it takes the keys that are cached, and starts each of the keys that it has

@@ -1,7 +1,8 @@
 //! Streams that fail at each read and at each write in turn, and a script that is cut after each byte.
 use super::is;
 use jc_script::run::run;
-use jc_script::{Noted, RunEnd, RunFault};
+use jc_script::{RunEnd, RunFault};
+use jc_text::Noted;
 use std::alloc::Global;
 use std::io;
 use std::process::Abort;

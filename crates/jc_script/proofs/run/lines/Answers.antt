@@ -1,5 +1,5 @@
 use Rattle.jc_script.proofs.Common.{◌≡◌, ◌∙◌, ap, ℕ, List, [], ◌++◌, length, rules, arith, append-nil, IsTranscript, pieces_of, opened_world, Clean, LineFault, fault_line}
-use Rattle.jc_script.proofs.Pieces.{at_fault, at_end, after_line, at_next, explains}
+use Rattle.jc_script.proofs.TranscriptLines.{at_fault, at_end, after_line, at_next, explains}
 use Rattle.jc_script.proofs.run.lines.Goals as goal
 
 pub loop-text-preserved : goal.loop-text-preserved

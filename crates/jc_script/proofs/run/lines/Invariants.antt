@@ -1,5 +1,5 @@
 use Rattle.jc_script.proofs.Common.{◌≡◌, ◌≤◌, ◌+◌, ◌++◌, ℕ, List, length, RunEnd, Transcript, IsTranscript, pieces_of, opened_world}
-use Rattle.jc_script.proofs.Pieces.{IsAt}
+use Rattle.jc_script.proofs.TranscriptLines.{IsAt}
 use Rattle.jc_script.proofs.run.lines.Given as goal
 
 -- whatever the rest prints completes what was printed so far

@@ -1,5 +1,0 @@
-use Rattle.jc_script.proofs.Common.{◌≡◌, ◌++◌, take, flat_map, entry_text}
-use Rattle.jc_script.proofs.print.audit.put_entries.Given as goal
-
-abbrev pub invariant-loop-entry : goal.invariant-loop-entry
-invariant-loop-entry l = l.out.items ≡ l.fn.out.items ++ flat_map entry_text (take l.entry-index l.entries)

@@ -1,5 +1,0 @@
-use Rattle.jc_script.proofs.Common.{◌≡◌, ◌++◌, take, flat_map, key_text}
-use Rattle.jc_script.proofs.print.lines.put_keys.Given as goal
-
-abbrev pub invariant-loop-key : goal.invariant-loop-key
-invariant-loop-key l = l.out.items ≡ l.fn.out.items ++ flat_map key_text (take l.key-index l.keys)

@@ -1,7 +1,0 @@
-use Rattle.jc_script.proofs.Common.{◌≡◌, ◌++◌, drop, answer_text, answers_text}
-use Rattle.jc_script.proofs.print.process.put_answers.Given as goal
-
-abbrev pub invariant-loop-answer : goal.invariant-loop-answer
-invariant-loop-answer l =
-    l.out.items ++ answers_text l.call (answer_text l.call l.key l.verb l.loaded) (drop l.answer-index l.answers)
-    ≡ l.fn.out.items ++ answers_text l.call (answer_text l.call l.key l.verb l.load) l.answers

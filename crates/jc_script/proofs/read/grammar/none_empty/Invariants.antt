@@ -1,5 +1,0 @@
-use Rattle.jc_script.proofs.Common.{◌≡◌, drop, map, are_words}
-use Rattle.jc_script.proofs.read.grammar.none_empty.Given as goal
-
-abbrev pub invariant-loop-w : goal.invariant-loop-w
-invariant-loop-w l = are_words (map (λ w. w.now) (drop l.w-index l.words)) ≡ are_words (map (λ w. w.now) l.words)

@@ -1,0 +1,16 @@
+pub mod Common
+pub mod Texts
+pub mod Pieces
+pub mod Spelling
+pub mod SpelledWords
+pub mod SpelledValues
+pub mod SpelledProcess
+pub mod SpelledPairs
+pub mod SpelledLines
+pub mod Given
+pub mod ReadWords
+pub mod AreKeyWords
+pub mod AreDistinctPairs
+pub mod ReadProcess
+pub mod ReadLines
+pub mod CallerLemmas

@@ -1,0 +1,10 @@
+pub mod Words
+pub mod ProcessWords
+pub mod FaultTexts
+pub mod Pieces
+pub mod Input
+pub mod Lines
+pub mod Printing
+pub mod Places
+pub mod Noting
+pub mod Spelled

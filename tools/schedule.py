@@ -1,0 +1,79 @@
+"""What the gate costs after a change, reckoned from what its parts took in one run (docs/matrix/costs.txt)."""
+import os
+
+from sources import ALL, LISTED, TOP, read
+
+COSTS = os.path.join(TOP, "docs", "matrix", "costs.txt")
+
+
+class Cost:
+    """The seconds of a processor that a crate took: its code's proof, its tests' and its wrong edits."""
+
+    def __init__(self, code=0, tests=0, edits=0):
+        self.code, self.tests, self.edits = code, tests, edits
+
+
+def read_costs():
+    """Of each crate its cost; and the seconds of the parts that run beside the proofs, and behind them."""
+    crates, parts = {}, {"beside": 0, "behind": 0}
+    for line in read(COSTS).split("\n"):
+        words = line.split()
+        if words and not line.startswith("#"):
+            if words[0] in parts:
+                parts[words[0]] += int(words[1])
+            else:
+                crates[words[0]] = Cost(*[int(word) for word in words[1:]])
+    return {name: crates.get(name, Cost()) for name in ALL}, parts["beside"], parts["behind"]
+
+
+def above(crate):
+    """The crates that use a crate, directly or through others, in the order of crates.txt."""
+    found = {crate}
+    for _ring, name, uses in LISTED:
+        if found & set(uses):
+            found.add(name)
+    return [name for name in ALL if name in found - {crate}]
+
+
+def chains(proofs):
+    """Of each crate the seconds of the longest chain of proofs that begins with it."""
+    uses = {name: used for _ring, name, used in LISTED}
+    behind = {}
+    for name in reversed(ALL):
+        behind[name] = proofs[name] + max((behind[other] for other in behind if name in uses[other]), default=0)
+    return behind
+
+
+def clock(proofs, edits, beside, behind, processors):
+    """The seconds by the clock, on this many processors: proofs as soon as their libraries are proved, those with the longest chain first; on idle
+    processors the edits of the crates that are proved, one processor a crate, and what is beside; and then what is behind."""
+    uses = {name: [it for it in used if it in proofs] for _ring, name, used in LISTED if name in proofs}
+    order, left, running, done = chains({**dict.fromkeys(ALL, 0), **proofs}), dict(proofs), {}, set()
+    fill, now = {"": beside}, 0.0
+    while left or running or any(fill.values()):
+        ready = sorted((it for it in left if all(below in done for below in uses[it])), key=lambda it: -order[it])
+        for name in ready[:processors - len(running)]:
+            running[name] = left.pop(name)
+        fillers = sorted((it for it in fill if fill[it] > 0), key=lambda it: -fill[it])[:processors - len(running)]
+        step = min([*running.values(), *(fill[it] for it in fillers)])
+        now += step
+        for it in fillers:
+            fill[it] -= step
+        for it in [*running]:
+            running[it] -= step
+            if running[it] <= 0:
+                del running[it]
+                done.add(it)
+                fill[it] = edits.get(it, 0)
+    return now + behind
+
+
+class Landing:
+    """What the gate costs if these crates are proved, and the edits of those are tried: seconds of a processor, and by the clock on four and on two."""
+
+    def __init__(self, proved, tried):
+        costs, beside, behind = read_costs()
+        proofs = {name: costs[name].code + costs[name].tests for name in proved}
+        edits = {name: costs[name].edits for name in tried}
+        self.processor = sum(proofs.values()) + sum(edits.values()) + beside + behind
+        self.clock = {count: clock(proofs, edits, beside, behind, count) for count in (4, 2)}
