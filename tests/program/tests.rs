@@ -1,7 +1,4 @@
 //! Each exit status, with the text on standard output and standard error.
-ghost use Rattle.std.specs.Prelude.{None, Result, IfOk};
-ghost use Rattle.jcache.specs.Reports.{IsReportOf};
-
 use crate::exec::{Console, exec};
 use crate::progress::ProgressLine;
 use crate::report::Report;
@@ -47,7 +44,7 @@ fn words(rt: &impl Abort, alloc: Global, text: &str) -> Vec<String> {
 struct Folder(Vec<u8>);
 
 impl Save for Folder {
-    ghost saved = { λ _. None };
+    ghost saved = { ? };
 
     fn save(&mut self, name: &[u8], script: &[u8]) -> Result<(), &'static str> {
         if name == b"full".as_slice() {
@@ -86,10 +83,7 @@ fn ends<F: FnOnce(&Plan) -> Result<Report, AllocError>>(
     text: &str,
     script: &[u8],
     wanted: Wanted<'_>,
-)
-    requires callable { (plan : _) → F.pre count plan }
-    requires reports { (plan : _) (r : _) → F.post count plan r → IfOk r (IsReportOf plan.now) }
-{
+) {
     let mut out = Vec::new(alloc);
     let mut console = unwatched(alloc);
     let status = exec(
@@ -107,9 +101,7 @@ fn ends<F: FnOnce(&Plan) -> Result<Report, AllocError>>(
 
 /// As [`ends`], for words that don't let threads count.
 fn ends_alone(rt: &impl Abort, alloc: Global, text: &str, script: &[u8], wanted: Wanted<'_>) {
-    let count = |plan: &Plan| -> Result<Report, AllocError>
-        ensures { IfOk result (IsReportOf plan.entry.now) }
-    { Err(AllocError) };
+    let count = |plan: &Plan| -> Result<Report, AllocError> { Err(AllocError) };
     ends(rt, alloc, count, text, script, wanted);
 }
 
@@ -151,9 +143,7 @@ fn answers(
     shown: &str,
     console: &mut Console<'_, Vec<u8>, Unwatched, Folder>,
 ) {
-    let count = |plan: &Plan| -> Result<Report, AllocError>
-        ensures { IfOk result (IsReportOf plan.entry.now) }
-    { Err(AllocError) };
+    let count = |plan: &Plan| -> Result<Report, AllocError> { Err(AllocError) };
     let mut out = Vec::new(alloc);
     console.prompt = "> ";
     let status = exec(
@@ -256,9 +246,7 @@ fn is_told(
     input: &[u8],
     wanted: ((u64, u64, u64), u64, u64),
 ) {
-    let count = |plan: &Plan| -> Result<Report, AllocError>
-        ensures { IfOk result (IsReportOf plan.entry.now) }
-    { Err(AllocError) };
+    let count = |plan: &Plan| -> Result<Report, AllocError> { Err(AllocError) };
     let mut out = Vec::new(alloc);
     let mut console = Console {
         err: Vec::new(alloc),
@@ -389,9 +377,7 @@ impl io::Write for Broken {
 fn says_why_a_read_failed(rt: HostRuntime) {
     let alloc = rt.alloc();
     let (mut out, mut console) = (Vec::new(alloc), unwatched(alloc));
-    let count = |plan: &Plan| -> Result<Report, AllocError>
-        ensures { IfOk result (IsReportOf plan.entry.now) }
-    { Err(AllocError) };
+    let count = |plan: &Plan| -> Result<Report, AllocError> { Err(AllocError) };
     let status = exec(
         alloc,
         count,
@@ -409,9 +395,7 @@ fn says_why_a_read_failed(rt: HostRuntime) {
 /// Shows the version on a standard output that fails with this kind of error.
 fn write_fails(rt: &impl Abort, alloc: Global, why: io::ErrorKind, said: &str) {
     let mut console = unwatched(alloc);
-    let count = |plan: &Plan| -> Result<Report, AllocError>
-        ensures { IfOk result (IsReportOf plan.entry.now) }
-    { Err(AllocError) };
+    let count = |plan: &Plan| -> Result<Report, AllocError> { Err(AllocError) };
     let status = exec(
         alloc,
         count,
@@ -438,9 +422,7 @@ fn says_nothing_to_a_closed_pipe(rt: HostRuntime) {
 /// The command line without its words.
 fn has_no_words(rt: &impl Abort, alloc: Global, why: io::ErrorKind, status: u8, said: &str) {
     let (mut out, mut console) = (Vec::new(alloc), unwatched(alloc));
-    let count = |plan: &Plan| -> Result<Report, AllocError>
-        ensures { IfOk result (IsReportOf plan.entry.now) }
-    { Err(AllocError) };
+    let count = |plan: &Plan| -> Result<Report, AllocError> { Err(AllocError) };
     let found = exec(
         alloc,
         count,
@@ -500,9 +482,9 @@ fn counts_on_threads(rt: HostRuntime) {
         outfits.push(outfit).expect(&rt, "memory");
     }
     let crew = Crew { store, outfits };
-    let count = move |plan: &Plan| -> Result<Report, AllocError>
-        ensures { IfOk result (IsReportOf plan.entry.now) }
-    { count_on_threads(&rt, alloc, crew, plan) };
+    let count = move |plan: &Plan| -> Result<Report, AllocError> {
+        count_on_threads(&rt, alloc, crew, plan)
+    };
     let wanted = Wanted {
         status: 0,
         out: "workers 4 rounds 100\ncounter 400\nstore 400\nown 100 100 100 100\nlegal true\n",
@@ -512,9 +494,7 @@ fn counts_on_threads(rt: HostRuntime) {
 }
 
 /// A report on a plan with one worker, in which the cache counts one more than the store.
-fn false_report(alloc: Global, plan: &Plan) -> Result<Report, AllocError>
-    ensures { IfOk result (IsReportOf plan.now) }
-{
+fn false_report(alloc: Global, plan: &Plan) -> Result<Report, AllocError> {
     let (Ok(counter), Ok(store)) = (Value::new(b"2"), Value::new(b"1")) else {
         return Err(AllocError);
     };
@@ -535,9 +515,7 @@ fn false_report(alloc: Global, plan: &Plan) -> Result<Report, AllocError>
 #[test]
 fn tells_a_wrong_count(rt: HostRuntime) {
     let alloc = rt.alloc();
-    let count = move |plan: &Plan| -> Result<Report, AllocError>
-        ensures { IfOk result (IsReportOf plan.entry.now) }
-    { false_report(alloc, plan) };
+    let count = move |plan: &Plan| -> Result<Report, AllocError> { false_report(alloc, plan) };
     let wanted = Wanted {
         status: 5,
         out: "workers 1 rounds 1\ncounter 2\nstore 1\nown 1\nlegal true\n",

@@ -3,14 +3,6 @@
 //!
 //!     get a = 1 | 1 0 0
 
-/// A loader or a writer, in a box. Only a test itself can make it.
-macro_rules! boxed {
-    ($rt:expr, $kind:ty, $inner:expr) => {{
-        let inner: $kind = Some(Box::new($rt.alloc(), $inner).ok().expect(&$rt, "memory"));
-        inner
-    }};
-}
-
 /// One more session on a stage, whose loader and writer call those of a desk, and behave as these manners say.
 macro_rules! enter {
     ($rt:expr, $stage:expr, $desk:expr, $manners:expr) => {{
@@ -18,7 +10,7 @@ macro_rules! enter {
         let loader = $desk.actor(&$rt, manners.loader, $desk.loader($rt));
         let writer = $desk.actor(&$rt, manners.writer, $desk.writer($rt));
         let (loader, writer) = (boxed!($rt, Loader, loader), boxed!($rt, Writer, writer));
-        $stage.enter(&$rt, $rt.alloc(), loader, writer)
+        $stage.enter(&$rt, $rt.alloc(), Some(loader), Some(writer))
     }};
 }
 
@@ -54,27 +46,19 @@ mod stage;
 mod stores;
 mod trying;
 
-use answers::{Answer, answer_of, called, first_word, key, value};
+use crate::common::words::{first_word, key, value};
+use crate::common::{Loader, Writer, is, is_at};
+use answers::{Answer, answer_of, called};
 use desk::Desk;
 use jc_cache::{Cache, CacheOwner, Session};
 use jc_outside::{CacheLoader, CacheWriter};
 use jc_types::{Config, Key, Refusal, Value};
 use manners::{Manner, Manners};
-use stage::{Loader, Stage, Writer};
+use stage::Stage;
 use std::alloc::Global;
-use std::fmt::Debug;
 use std::process::Abort;
 use std::sync::Wait;
 use std::test::Fail;
-
-fn is<T: Copy + Debug + PartialEq>(rt: &impl Abort, found: T, want: T) {
-    assert_eq!(rt; found, want);
-}
-
-/// Asserts what the call of a line answers.
-fn is_at(rt: &impl Abort, line: &str, found: Answer, want: Answer) {
-    assert_eq!(rt; found, want, "{line}");
-}
 
 /// One stripe of four entries.
 fn config(history: usize, read_through: bool, write_through: bool) -> Config {

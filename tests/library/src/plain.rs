@@ -1,14 +1,6 @@
 //! Each default method and each wrapper, on the normal path, at its limits and with its errors; and each wrapper in its box, as a
 //! cache calls it.
 
-/// An object in a box. Only a test itself can make it.
-macro_rules! boxed {
-    ($rt:expr, $kind:ty, $inner:expr) => {{
-        let inner: $kind = Box::new($rt.alloc(), $inner).ok().expect(&$rt, "memory");
-        inner
-    }};
-}
-
 mod letters;
 mod listens;
 mod loads;
@@ -16,15 +8,10 @@ mod noting;
 mod updates;
 mod writes;
 
+use crate::common::is_at as is;
 use jc_model::LoadAnswer;
 use jc_types::{Key, Value};
-use std::fmt::Debug;
 use std::process::Abort;
-
-/// Asserts a value.
-fn is<T: Copy + Debug + PartialEq>(rt: &impl Abort, at: &str, found: T, want: T) {
-    assert_eq!(rt; found, want, "{at}");
-}
 
 fn key(rt: &impl Abort, byte: u8) -> Key {
     Key::new(&[byte]).ok().expect(rt, "a key")

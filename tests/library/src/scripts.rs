@@ -2,19 +2,14 @@
 mod faults;
 mod streams;
 
+use crate::common::is_at as is;
 use jc_script::run::run;
 use jc_script::{RunEnd, RunFault};
 use jc_text::Noted;
 use std::alloc::Global;
-use std::fmt::Debug;
 use std::io;
 use std::process::Abort;
 use std::str::from_utf8;
-
-/// Asserts a value.
-fn is<T: Copy + Debug + PartialEq>(rt: &impl Abort, at: &str, found: T, want: T) {
-    assert_eq!(rt; found, want, "{at}");
-}
 
 // The lines of a text that separates them by `; `, each with a line feed.
 fn lines(rt: &impl Abort, alloc: Global, text: &str) -> Vec<u8> {

@@ -1,8 +1,4 @@
 //! Tests of the stripe and of the crates below it: a file for each type or table.
-//!
-//! Some habits keep the proof of these tests cheap. Tables of values are constants, and long ones are texts, since a table in a
-//! function's body takes long to prove. Most assertions are calls of `is`, since each assertion in its own place takes long, too.
-//! And where an allocation may fail, `expect` is called, since each `?` after a value that has to be dropped adds a branch.
 mod batches;
 mod beside_lists;
 mod callers;
@@ -25,15 +21,10 @@ mod stripes;
 mod table;
 mod values;
 
+use crate::common::is_at as is;
 use jc_types::{Config, Key, Value};
 use std::alloc::Global;
-use std::fmt::Debug;
 use std::process::Abort;
-
-/// Asserts a value.
-fn is<T: Copy + Debug + PartialEq>(rt: &impl Abort, at: &str, found: T, want: T) {
-    assert_eq!(rt; found, want, "{at}");
-}
 
 fn key(rt: &impl Abort, bytes: &[u8]) -> Key {
     Key::new(bytes).ok().expect(rt, "a key")

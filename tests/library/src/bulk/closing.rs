@@ -6,12 +6,9 @@
 //!     coherent                    what is cached is what the store has
 //!     counts 0 1 0 1 0 0          as in the lines of a session
 //!     stored a=1
-ghost use Rattle.std.specs.Prelude.{All};
-ghost use Rattle.jc_cache.specs.Sessions.{IsOf};
-
 use super::outside::{Outside, are_entries};
-use super::words::first_word;
 use super::*;
+use crate::common::words::first_word;
 use jc_cache::{Closed, ClosedStripe, Event};
 use jc_model::legal;
 
@@ -99,9 +96,7 @@ pub fn closed(
     alloc: Global,
     owner: CacheOwner,
     sessions: Vec<Session>,
-) -> Vec<ClosedStripe>
-    requires { All (λ s. IsOf owner.cache s) sessions.items }
-{
+) -> Vec<ClosedStripe> {
     let own = own_of(rt, alloc, &sessions);
     let config = *owner.cache().config();
     let closed = owner.close(alloc, sessions).ok();

@@ -6,14 +6,13 @@
 //!     own 2                       how many steps the session has made
 //!     await                       waits for the first signal
 //!     random 2                    makes random calls as the session at this place, counted from 0
-ghost use Rattle.jc_cache.specs.Sessions.{MayCall};
-
 use super::outside::Outside;
 use super::processors::processor_of;
 use super::random::call_often;
 use super::results::{ended, got, invoked};
-use super::words::{first_word, key, keys_of, many, pairs_of, value};
+use super::words::many;
 use super::*;
+use crate::common::words::{first_word, key, keys_of, pairs_of, value};
 use indexmap::IndexSet;
 use jc_bulk::{BulkFault, clear, get_all, load_keys, put_all, remove_all, remove_every};
 use jc_invoke::invoke_all;
@@ -26,10 +25,7 @@ fn called<R: Abort + Wait>(
     session: &mut Session,
     word: &str,
     words: &str,
-) -> Result<(), BulkFault>
-    requires { MayCall cache.now session.old }
-    ensures { MayCall cache.now session.new }
-{
+) -> Result<(), BulkFault> {
     match word {
         "putall" => put_all(alloc, rt, cache, session, &pairs_of(rt, alloc, words)),
         "removeall" => remove_all(alloc, rt, cache, session, &keys_of(rt, alloc, words)),
@@ -48,10 +44,7 @@ fn called_at_key<R: Abort + Wait>(
     session: &mut Session,
     word: &str,
     words: &str,
-) -> Option<Value>
-    requires { MayCall cache.now session.old }
-    ensures { MayCall cache.now session.new }
-{
+) -> Option<Value> {
     let (at, rest) = first_word(words);
     if word == "put" {
         cache
@@ -75,20 +68,14 @@ fn invoke_each<R: Abort + Wait>(
     word: &str,
     keys: &IndexSet<Key>,
     wanted: &str,
-)
-    requires { MayCall cache.now session.old }
-    ensures { MayCall cache.now session.new }
-{
+) {
     let mut processor = processor_of(rt, alloc, word);
     let results = invoke_all(alloc, rt, cache, session, keys, &mut processor, &[]);
     invoked(rt, results, wanted);
 }
 
 /// Makes the call that a line says. It is to return what the line says.
-fn call<R: Abort + Wait>(rt: &R, alloc: Global, cache: &Cache, session: &mut Session, line: &str)
-    requires { MayCall cache.now session.old }
-    ensures { MayCall cache.now session.new }
-{
+fn call<R: Abort + Wait>(rt: &R, alloc: Global, cache: &Cache, session: &mut Session, line: &str) {
     let (called_words, wanted) = line.split_once(" = ").expect(rt, line);
     let (word, words) = first_word(called_words);
     match word {
@@ -129,10 +116,7 @@ pub fn play<R: Abort + Wait>(
     cache: &Cache,
     session: &mut Session,
     line: &str,
-)
-    requires { MayCall cache.now session.old }
-    ensures { MayCall cache.now session.new }
-{
+) {
     let (word, rest) = first_word(line);
     match word {
         "#" => {}
@@ -154,10 +138,7 @@ pub fn plays<R: Abort + Wait>(
     cache: &Cache,
     session: &mut Session,
     text: &str,
-)
-    requires { MayCall cache.now session.old }
-    ensures { MayCall cache.now session.new }
-{
+) {
     for line in text.split_terminator(';') {
         play(rt, alloc, outside, cache, session, line);
     }

@@ -1,7 +1,4 @@
 //! Workers on threads, each of which notes the pieces of a job that it was given.
-ghost use Rattle.std.specs.Prelude.{◌≡◌, ℕ, ◌+◌, ◌^◌, ◌<◌, ◌≤◌, ◌++◌, [], ◌∷◌, All, vec_len, vec_capacity};
-ghost use Rattle.jc_pool.specs.Shares.{CanDoAll};
-
 use super::*;
 use jc_pool::{Work, WorkWith, run_pieces, run_pieces_with};
 use std::thread::Threads;
@@ -15,13 +12,13 @@ struct Tally {
 impl Work for Tally {
     type Job = ();
 
-    ghost did = { λ t. t.done.items };
+    ghost did = { ? };
 
-    ghost job = { λ _. tt };
+    ghost job = { ? };
 
-    ghost can_do = { λ t piece. (vec_len t.done ≤ piece) × (piece < vec_capacity t.done) };
+    ghost can_do = { ? };
 
-    ghost does = { λ old piece new. new.done.items ≡ old.done.items ++ piece ∷ [] };
+    ghost does = { ? };
 
     fn piece(&mut self, piece: usize) {
         self.done.push_reserved(piece);
@@ -32,13 +29,13 @@ impl Work for Tally {
 impl WorkWith<u64> for Tally {
     type Job = ();
 
-    ghost did = { λ both. both.0.done.items };
+    ghost did = { ? };
 
-    ghost job = { λ _. tt };
+    ghost job = { ? };
 
-    ghost can_do = { λ both piece. (vec_len both.0.done ≤ piece) × (piece < vec_capacity both.0.done) };
+    ghost can_do = { ? };
 
-    ghost does = { λ old piece new. new.0.done.items ≡ old.0.done.items ++ piece ∷ [] };
+    ghost does = { ? };
 
     fn piece_with(&mut self, turns: &mut u64, piece: usize) {
         *turns = turns.saturating_add(1);
@@ -46,31 +43,23 @@ impl WorkWith<u64> for Tally {
     }
 }
 
-fn idle(rt: &impl Abort, alloc: Global, pieces: usize) -> Tally
-    ensures { CanDoAll (λ t piece. (vec_len t.done ≤ piece) × (piece < vec_capacity t.done)) pieces result }
-{
+fn idle(rt: &impl Abort, alloc: Global, pieces: usize) -> Tally {
     Tally {
         done: Vec::with_capacity(alloc, pieces).expect(rt, "memory"),
     }
 }
 
 /// Creates the workers, each with room for all pieces.
-fn team(rt: &impl Abort, alloc: Global, workers: usize, pieces: usize) -> Vec<Tally>
-    ensures len { vec_len result ≡ workers }
-    ensures able { All (CanDoAll (λ t piece. (vec_len t.done ≤ piece) × (piece < vec_capacity t.done)) pieces) result.items }
-{
+fn team(rt: &impl Abort, alloc: Global, workers: usize, pieces: usize) -> Vec<Tally> {
     let mut team = Vec::new(alloc);
-    'making: while team.len() < workers {
+    while team.len() < workers {
         team.push(idle(rt, alloc, pieces)).expect(rt, "memory");
     }
     team
 }
 
 /// Runs the pieces, and looks whether each of them was done by one worker, once.
-fn share<R: Abort + Threads + Sync>(rt: &R, alloc: Global, workers: usize, pieces: usize)
-    requires some { 0 < workers }
-    requires fits { pieces + workers < 2 ^ 64 }
-{
+fn share<R: Abort + Threads + Sync>(rt: &R, alloc: Global, workers: usize, pieces: usize) {
     let mut team = team(rt, alloc, workers, pieces);
     run_pieces(alloc, rt, team.as_mut_slice(), pieces).expect(rt, "memory");
     for piece in 0..pieces {
@@ -84,10 +73,12 @@ fn share<R: Abort + Threads + Sync>(rt: &R, alloc: Global, workers: usize, piece
 }
 
 /// The same with a tool for each worker.
-fn share_with_tools<R: Abort + Threads + Sync>(rt: &R, alloc: Global, workers: usize, pieces: usize)
-    requires some { 0 < workers }
-    requires fits { pieces + workers < 2 ^ 64 }
-{
+fn share_with_tools<R: Abort + Threads + Sync>(
+    rt: &R,
+    alloc: Global,
+    workers: usize,
+    pieces: usize,
+) {
     let mut team = team(rt, alloc, workers, pieces);
     let mut turns = vec![in alloc; 0u64; workers].expect(rt, "memory");
     run_pieces_with(alloc, rt, team.as_mut_slice(), turns.as_mut_slice(), pieces).expect(

@@ -1,11 +1,8 @@
 //! All scenes, each with a cache of its own.
-ghost use Rattle.std.specs.Prelude.{All};
-ghost use Rattle.jc_cache.specs.Sessions.{MayCall};
-
 use super::closing::are_so;
 use super::outside::Outside;
 use super::random::{LIVING, RELIABLE, UNRELIABLE};
-use super::scene::{Scene, scene_of};
+use super::scene::scene_of;
 use super::side_by_side::{
     FAILED_FIRST, GIVEN_UP, HANDED_ON, JOINED, LOADED, MET, RESERVED, by_phases,
 };
@@ -41,13 +38,6 @@ const SCENES: [&str; 20] = [
     LIVING,
 ];
 
-const COUNT: usize = SCENES.len();
-
-/// The scene at a place. A body that has much to drop doesn't name the table itself: its proof would be dear.
-fn scene_at(rt: &impl Abort, at: usize) -> Scene<'static> {
-    scene_of(rt, *SCENES.get(at).expect(rt, "a scene"))
-}
-
 /// Plays the lines of a scene, and ends its cache.
 fn played<R: Abort + Wait + Threads + Sync>(
     rt: &R,
@@ -55,9 +45,7 @@ fn played<R: Abort + Wait + Threads + Sync>(
     outside: &Outside,
     lines: &str,
     stage: Stage,
-) -> Vec<ClosedStripe>
-    requires { All (MayCall stage.owner.cache) stage.sessions.items }
-{
+) -> Vec<ClosedStripe> {
     if lines.starts_with("putlate ") || lines.starts_with("withdraw ") {
         return by_phases(rt, alloc, outside, stage, lines.trim_end());
     }
@@ -69,11 +57,11 @@ fn played<R: Abort + Wait + Threads + Sync>(
 #[test]
 fn plays_each_scene(rt: HostRuntime) {
     let alloc = rt.alloc();
-    for at in 0..COUNT {
-        let scene = scene_at(&rt, at);
+    for text in SCENES {
+        let scene = scene_of(&rt, text);
         let outside = Outside::of(&rt, alloc, scene.before);
         let mut stage = Stage::new(&rt, alloc, &scene.shape, scene.lives);
-        'entering: for place in 0..scene.sessions {
+        for place in 0..scene.sessions {
             let loader = boxed!(rt, Loader, outside.loader(rt, alloc, &scene, place));
             let writer = boxed!(rt, Writer, outside.writer(rt, alloc, &scene, place));
             stage.enter(&rt, alloc, loader, writer);

@@ -4,8 +4,9 @@
 //!     changeall a c = a 7, c 7            sets 7 and returns it; at `c` it removes, and returns 7
 //!     idleall a b = -                     makes no call on the entry, and returns none
 //!     failall a = a ProcessorFailed 3     sets 7 and fails with 3
-use super::words::{key, value};
 use super::*;
+use crate::common::increment;
+use crate::common::words::{key, value};
 use jc_cache::MutableEntry;
 use jc_store::Increment;
 
@@ -17,11 +18,9 @@ const FAILED: u32 = 3;
 struct Idle;
 
 impl EntryProcessor for Idle {
-    ghost use Rattle.std.specs.Prelude.{◌≡◌, [], Ok, None};
+    ghost process_state = { ? };
 
-    ghost process_state = { λ p. [] };
-
-    ghost processes = { λ p key args calls answers answer after. (calls ≡ []) × (answer ≡ Ok None) };
+    ghost processes = { ? };
 
     fn process(
         &mut self,
@@ -40,11 +39,9 @@ struct Failing {
 }
 
 impl EntryProcessor for Failing {
-    ghost use Rattle.std.specs.Prelude.{[]};
+    ghost process_state = { ? };
 
-    ghost process_state = { λ p. [] };
-
-    ghost processes = { λ p key args calls answers answer after. Unit {0} };
+    ghost processes = { ? };
 
     fn process(
         &mut self,
@@ -65,11 +62,9 @@ struct Changing {
 }
 
 impl EntryProcessor for Changing {
-    ghost use Rattle.std.specs.Prelude.{[]};
+    ghost process_state = { ? };
 
-    ghost process_state = { λ p. [] };
-
-    ghost processes = { λ p key args calls answers answer after. Unit {0} };
+    ghost processes = { ? };
 
     fn process(
         &mut self,
@@ -87,10 +82,6 @@ impl EntryProcessor for Changing {
 }
 
 /// A processor that counts in its entry.
-pub fn increment(rt: &impl Abort, alloc: Global) -> Processor {
-    Box::new(alloc, Increment).ok().expect(rt, "memory")
-}
-
 fn idle_processor(rt: &impl Abort, alloc: Global) -> Processor {
     Box::new(alloc, Idle).ok().expect(rt, "memory")
 }

@@ -1,12 +1,9 @@
 //! Random calls with many keys of four sessions, each on a thread of its own, on a cache that is too small for their keys, before
 //! loaders and writers that fail now and then.
-ghost use Rattle.std.specs.Prelude.{◌<◌};
-ghost use Rattle.jc_cache.specs.Sessions.{MayCall};
-
 use super::outside::Outside;
-use super::processors::increment;
 use super::unreliable::{Failures, Keys, is_failure_code};
 use super::*;
+use crate::common::increment;
 use indexmap::{IndexMap, IndexSet};
 use jc_bulk::{BulkFault, clear, get_all, load_keys, put_all, remove_all, remove_every};
 use jc_invoke::invoke_all;
@@ -25,10 +22,7 @@ struct Random(u64);
 
 impl Random {
     /// A number below this one.
-    fn below(&mut self, end: u64) -> u64
-        requires { 0 < end }
-        ensures { result < end }
-    {
+    fn below(&mut self, end: u64) -> u64 {
         self.0 = self
             .0
             .wrapping_mul(6_364_136_223_846_793_005)
@@ -188,10 +182,7 @@ fn put_some<R: Abort + Wait>(
     session: &mut Session,
     failures: &Failures,
     random: &mut Random,
-)
-    requires { MayCall cache.now session.old }
-    ensures { MayCall cache.now session.new }
-{
+) {
     let entries = drawn_entries(rt, alloc, random);
     let own = session.own();
     let returned = put_all(alloc, rt, cache, session, &entries);
@@ -206,10 +197,7 @@ fn remove_some<R: Abort + Wait>(
     session: &mut Session,
     failures: &Failures,
     random: &mut Random,
-)
-    requires { MayCall cache.now session.old }
-    ensures { MayCall cache.now session.new }
-{
+) {
     let keys = drawn_keys(rt, alloc, random);
     let own = session.own();
     let returned = remove_all(alloc, rt, cache, session, &keys);
@@ -248,10 +236,7 @@ fn get_some<R: Abort + Wait>(
     session: &mut Session,
     failures: &Failures,
     random: &mut Random,
-)
-    requires { MayCall cache.now session.old }
-    ensures { MayCall cache.now session.new }
-{
+) {
     let keys = drawn_keys(rt, alloc, random);
     let own = session.own();
     let returned = get_all(alloc, rt, cache, session, &keys);
@@ -266,10 +251,7 @@ fn load_some<R: Abort + Wait>(
     session: &mut Session,
     failures: &Failures,
     random: &mut Random,
-)
-    requires { MayCall cache.now session.old }
-    ensures { MayCall cache.now session.new }
-{
+) {
     let keys = drawn_keys(rt, alloc, random);
     let replace = random.below(2) == 0;
     let own = session.own();
@@ -309,10 +291,7 @@ fn invoke_some<R: Abort + Wait>(
     session: &mut Session,
     failures: &Failures,
     random: &mut Random,
-)
-    requires { MayCall cache.now session.old }
-    ensures { MayCall cache.now session.new }
-{
+) {
     let keys = drawn_keys(rt, alloc, random);
     let mut processor = increment(rt, alloc);
     let own = session.own();
@@ -329,10 +308,7 @@ fn sweep<R: Abort + Wait>(
     session: &mut Session,
     failures: &Failures,
     random: &mut Random,
-)
-    requires { MayCall cache.now session.old }
-    ensures { MayCall cache.now session.new }
-{
+) {
     if random.below(2) == 0 {
         let returned = clear(alloc, rt, cache, session);
         is_written(rt, returned, OwnFaults::of(failures));
@@ -350,10 +326,7 @@ fn call_once<R: Abort + Wait>(
     session: &mut Session,
     failures: &Failures,
     random: &mut Random,
-)
-    requires { MayCall cache.now session.old }
-    ensures { MayCall cache.now session.new }
-{
+) {
     match random.below(16) {
         0..=3 => put_some(rt, alloc, cache, session, failures, random),
         4..=7 => get_some(rt, alloc, cache, session, failures, random),
@@ -372,14 +345,11 @@ pub fn call_often<R: Abort + Wait>(
     session: &mut Session,
     outside: &Outside,
     place: &str,
-)
-    requires { MayCall cache.now session.old }
-    ensures { MayCall cache.now session.new }
-{
+) {
     let place: u32 = place.parse().ok().expect(rt, "a place");
     let failures = outside.failures(rt, place as usize);
     let mut random = Random(u64::from(place));
-    'calling: for _ in 0..CALLS {
+    for _ in 0..CALLS {
         call_once(rt, alloc, cache, session, failures, &mut random);
     }
 }

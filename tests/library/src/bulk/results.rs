@@ -1,6 +1,7 @@
 //! What calls with many keys return, compared with words.
-use super::words::{first_word, key, pair, refusal};
+use super::words::refusal;
 use super::*;
+use crate::common::words::{first_word, key, pair};
 use indexmap::IndexMap;
 use jc_bulk::BulkFault;
 

@@ -9,8 +9,8 @@
 //!     fault 1 4 b                 the fault of each writer: at its first call it fails with 4, leaves b and adds z=9; or, `answers
 //!                                 z=9 c=8`, what each loader answers at its first call, too
 //!     end stripes 6 a=1, 6        what there is once the cache has ended, with `;` between
-use super::words::first_word;
 use super::*;
+use crate::common::words::first_word;
 
 /// What a text says of a cache, of what is outside it, and of what its sessions do.
 #[derive(Clone, Copy)]

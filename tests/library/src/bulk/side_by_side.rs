@@ -1,17 +1,11 @@
 //! Sessions side by side, on threads of their own.
-ghost use Rattle.std.specs.Prelude.{◌≡◌, true, false, All};
-ghost use Rattle.jc_cache.specs.Sessions.{IsOf, MayCall};
-ghost use Rattle.jc_outside.specs.declared.done.Origin.TheVariants.{Live};
-ghost use Rattle.jc_stripe.specs.Tickets.{asks_writer, claim_of};
-
 use super::closing::closed;
 use super::lines::plays;
 use super::outside::Outside;
 use super::stage::Stage;
-use super::words::{first_word, key, value};
 use super::*;
+use crate::common::words::{first_word, key, value};
 use jc_cache::{Ask, ClosedStripe, First, Op, Reply, Started, Ticket, WriteDone};
-use jc_stripe::phase_laws::own_numbers;
 use std::thread;
 use std::thread::Threads;
 
@@ -108,9 +102,7 @@ end counts 0 2 0 0 0 0;shared 0;stripes 3 c=3 b=2 a=1
 withdraw await;getall a b c = a=1 b=2 c=3;own 3
 ";
 
-fn is_writer(first: &First) -> bool
-    ensures { result ≡ asks_writer first.now }
-{
+fn is_writer(first: &First) -> bool {
     match first {
         First::Writer(_) => true,
         First::Nobody | First::Loader | First::Processor { .. } => false,
@@ -124,13 +116,7 @@ fn reserve<R: Abort + Wait>(
     session: &mut Session,
     key: &Key,
     op: &Op,
-) -> Ticket
-    requires { MayCall cache.now session.old }
-    ensures own { IsOf cache.now session.new }
-    ensures caller { result.reservation.caller.session ≡ session.new.agent.caller.session }
-    ensures unasked { result.asked ≡ false }
-{
-    own_numbers();
+) -> Ticket {
     session.next_call();
     match cache.start(rt, session, key, op, &mut Reply::Unit) {
         Started::Asks(ticket) => ticket,
@@ -144,25 +130,14 @@ fn ask_writer<R: Abort + Wait>(
     cache: &Cache,
     session: &mut Session,
     ticket: &mut Ticket,
-) -> WriteDone<Ask>
-    requires own { IsOf cache.now session.old }
-    requires unasked { ticket.old.asked ≡ false }
-    ensures own { IsOf cache.now session.new }
-    ensures caller { session.new.agent.caller ≡ session.old.agent.caller }
-    ensures ticket { ticket.new.reservation ≡ ticket.old.reservation }
-    ensures first { asks_writer ticket.new.reservation.first ≡ true }
-    ensures done { (result.ask ≡ claim_of ticket.new.reservation) × (result.origin ≡ Live) }
-{
+) -> WriteDone<Ask> {
     assert!(rt; cache.config().write_through, "write-through");
     assert!(rt; is_writer(&ticket.reservation().first), "a write");
     session.agent.ask_writer(rt, ticket.ask())
 }
 
 /// A put of `c`, phase by phase. It says that it has reserved its key, and holds it until the second session's writer was called.
-fn put_late<R: Abort + Wait>(rt: &R, outside: &Outside, cache: &Cache, session: &mut Session)
-    requires { MayCall cache.now session.old }
-    ensures { IsOf cache.now session.new }
-{
+fn put_late<R: Abort + Wait>(rt: &R, outside: &Outside, cache: &Cache, session: &mut Session) {
     let put = Op::Put(value(rt, "9"));
     let mut ticket = reserve(rt, cache, session, &key(rt, "c"), &put);
     outside.signals.raise_first();
@@ -172,10 +147,7 @@ fn put_late<R: Abort + Wait>(rt: &R, outside: &Outside, cache: &Cache, session: 
 }
 
 /// A get of `c`, phase by phase. It says that it has reserved its key, and is given up once the second session's loader was called.
-fn get_in_vain<R: Abort + Wait>(rt: &R, outside: &Outside, cache: &Cache, session: &mut Session)
-    requires { MayCall cache.now session.old }
-    ensures { IsOf cache.now session.new }
-{
+fn get_in_vain<R: Abort + Wait>(rt: &R, outside: &Outside, cache: &Cache, session: &mut Session) {
     let ticket = reserve(rt, cache, session, &key(rt, "c"), &Op::Get);
     outside.signals.raise_first();
     outside.signals.wait_for_second(rt);
@@ -191,10 +163,7 @@ fn act<R: Abort + Wait>(
     place: usize,
     session: &mut Session,
     text: &str,
-)
-    requires { MayCall cache.now session.old }
-    ensures { IsOf cache.now session.new }
-{
+) {
     let (word, lines) = first_word(text);
     if place > 0 {
         plays(rt, alloc, outside, cache, session, lines);
@@ -213,20 +182,14 @@ fn act_beside<R: Abort + Wait + Threads + Sync>(
     cache: &Cache,
     sessions: &mut Vec<Session>,
     text: &str,
-)
-    requires { All (MayCall cache.now) sessions.old.items }
-    ensures { All (λ s. IsOf cache.now s) sessions.new.items }
-{
+) {
     let threads = sessions.len();
     assert!(rt; threads > 0, "no session");
     thread::for_each_mut(
         rt,
         sessions.as_mut_slice(),
         threads,
-        &|place, session: &mut Session|
-            requires { MayCall cache.now session.old }
-            ensures { IsOf cache.entry.now session.new }
-        { act(rt, alloc, outside, cache, place, session, text) },
+        &|place, session: &mut Session| { act(rt, alloc, outside, cache, place, session, text) },
     );
 }
 
@@ -238,9 +201,7 @@ pub fn by_phases<R: Abort + Wait + Threads + Sync>(
     outside: &Outside,
     stage: Stage,
     text: &str,
-) -> Vec<ClosedStripe>
-    requires { All (MayCall stage.owner.cache) stage.sessions.items }
-{
+) -> Vec<ClosedStripe> {
     let (owner, mut sessions) = stage.into_parts();
     act_beside(rt, alloc, outside, owner.cache(), &mut sessions, text);
     closed(rt, alloc, owner, sessions)

@@ -5,16 +5,14 @@
 //!     loadmany 32 = ok            the same with so many keys
 //!     meet                        the first session tells the last one what it has seen
 //!     beside get a = 1 | own 0    what each session does, on a thread of its own, with `;` between its lines
-ghost use Rattle.std.specs.Prelude.{◌≡◌, ◌++◌, ◌∷◌, [], All};
-ghost use Rattle.jc_cache.specs.Meeting.{TellEach};
-ghost use Rattle.jc_cache.specs.Sessions.{MayCall};
-
 use super::closing::closed;
 use super::lines::{play, plays};
 use super::outside::Outside;
 use super::results::ended;
-use super::words::{first_word, keys_of, many};
+use super::words::many;
 use super::*;
+use crate::common::push;
+use crate::common::words::{first_word, keys_of};
 use indexmap::IndexSet;
 use jc_cache::ClosedStripe;
 use jc_loadall::load_all;
@@ -47,10 +45,7 @@ fn play_at<R: Abort + Wait>(
     sessions: &mut Vec<Session>,
     at: usize,
     line: &str,
-)
-    requires { All (MayCall cache.now) sessions.old.items }
-    ensures { All (MayCall cache.now) sessions.new.items }
-{
+) {
     assert!(rt; at < sessions.len(), "{line}");
     play(rt, alloc, outside, cache, &mut sessions[at], line);
 }
@@ -64,10 +59,7 @@ fn load<R: Abort + Wait + Threads + Sync>(
     sessions: &mut Vec<Session>,
     keys: &IndexSet<Key>,
     wanted: &str,
-)
-    requires { All (MayCall cache.now) sessions.old.items }
-    ensures { All (MayCall cache.now) sessions.new.items }
-{
+) {
     assert!(rt; sessions.len() > 0, "no session");
     let mut listener = outside.listener(rt, alloc);
     let all = sessions.as_mut_slice();
@@ -76,40 +68,26 @@ fn load<R: Abort + Wait + Threads + Sync>(
 }
 
 /// A session tells another one what it has seen. No run shows what that is good for: each call looks at the stripe itself, and finds
-/// the same without it. The check shows it: without a meeting nothing is told.
-fn hold_meeting<R: Abort + Wait>(rt: &R, cache: &Cache, teller: &mut Session, hearer: &mut Session)
-    requires teller { MayCall cache.now teller.old }
-    requires hearer { MayCall cache.now hearer.old }
-    ensures teller { MayCall cache.now teller.new }
-    ensures hearer { MayCall cache.now hearer.new }
-    ensures told { TellEach teller.old.seats.items hearer.old.seats.items
-        teller.new.seats.items hearer.new.seats.items }
-{
+/// the same without it.
+fn hold_meeting<R: Abort + Wait>(
+    rt: &R,
+    cache: &Cache,
+    teller: &mut Session,
+    hearer: &mut Session,
+) {
     let own = (teller.own(), hearer.own());
     cache.meet(rt, teller, hearer);
     is(rt, (teller.own(), hearer.own()), own);
 }
 
 /// The first session tells the last one what it has seen.
-fn tell_last<R: Abort + Wait>(rt: &R, cache: &Cache, sessions: &mut Vec<Session>)
-    requires { All (MayCall cache.now) sessions.old.items }
-    ensures { All (MayCall cache.now) sessions.new.items }
-{
+fn tell_last<R: Abort + Wait>(rt: &R, cache: &Cache, sessions: &mut Vec<Session>) {
     let Some(mut last) = sessions.pop() else {
         panic!(rt; "no session");
     };
     assert!(rt; 0 < sessions.len(), "one session alone");
     hold_meeting(rt, cache, &mut sessions[0], &mut last);
     push(rt, sessions, last);
-}
-
-fn push(rt: &impl Abort, sessions: &mut Vec<Session>, session: Session)
-    ensures { sessions.new.items ≡ sessions.old.items ++ session ∷ [] }
-{
-    match sessions.push(session) {
-        Ok(()) => {}
-        Err(_failed) => panic!(rt; "memory"),
-    }
 }
 
 /// The part at a place of a text whose parts have ` | ` between, or nothing.
@@ -129,20 +107,14 @@ fn play_beside<R: Abort + Wait + Threads + Sync>(
     cache: &Cache,
     sessions: &mut Vec<Session>,
     texts: &str,
-)
-    requires { All (MayCall cache.now) sessions.old.items }
-    ensures { All (MayCall cache.now) sessions.new.items }
-{
+) {
     let threads = sessions.len();
     assert!(rt; threads > 0, "no session");
     thread::for_each_mut(
         rt,
         sessions.as_mut_slice(),
         threads,
-        &|i, session: &mut Session|
-            requires { MayCall cache.now session.old }
-            ensures { MayCall cache.entry.now session.new }
-        {
+        &|i, session: &mut Session| {
             let text = part_of(texts, i);
             plays(rt, alloc, outside, cache, session, text);
         },
@@ -157,10 +129,7 @@ fn play_line<R: Abort + Wait + Threads + Sync>(
     cache: &Cache,
     sessions: &mut Vec<Session>,
     line: &str,
-)
-    requires { All (MayCall cache.now) sessions.old.items }
-    ensures { All (MayCall cache.now) sessions.new.items }
-{
+) {
     let (called, wanted) = line.split_once(" = ").unwrap_or((line, ""));
     let (word, rest) = first_word(called);
     match word {
@@ -192,10 +161,7 @@ fn play_lines<R: Abort + Wait + Threads + Sync>(
     cache: &Cache,
     sessions: &mut Vec<Session>,
     text: &str,
-)
-    requires { All (MayCall cache.now) sessions.old.items }
-    ensures { All (MayCall cache.now) sessions.new.items }
-{
+) {
     for line in text.split_terminator('\n') {
         play_line(rt, alloc, outside, cache, sessions, line);
     }
@@ -203,9 +169,7 @@ fn play_lines<R: Abort + Wait + Threads + Sync>(
 
 impl Stage {
     /// A cache of this shape, which lives on or doesn't, without sessions.
-    pub fn new(rt: &impl Abort, alloc: Global, config: &Config, lives: bool) -> Stage
-        ensures { All (MayCall result.owner.cache) result.sessions.items }
-    {
+    pub fn new(rt: &impl Abort, alloc: Global, config: &Config, lives: bool) -> Stage {
         let owner = if lives {
             CacheOwner::living(alloc, config)
         } else {
@@ -218,10 +182,7 @@ impl Stage {
     }
 
     /// One more session, with this loader and this writer.
-    pub fn enter(&mut self, rt: &impl Abort, alloc: Global, loader: Loader, writer: Writer)
-        requires { All (MayCall self.old.owner.cache) self.old.sessions.items }
-        ensures { All (MayCall self.new.owner.cache) self.new.sessions.items }
-    {
+    pub fn enter(&mut self, rt: &impl Abort, alloc: Global, loader: Loader, writer: Writer) {
         let Ok(session) = self.owner.session(alloc, Some(loader), Some(writer)) else {
             panic!(rt; "no session");
         };
@@ -235,27 +196,19 @@ impl Stage {
         alloc: Global,
         outside: &Outside,
         text: &str,
-    )
-        requires { All (MayCall self.old.owner.cache) self.old.sessions.items }
-        ensures { All (MayCall self.new.owner.cache) self.new.sessions.items }
-    {
+    ) {
         let sessions = &mut self.sessions;
         play_lines(rt, alloc, outside, self.owner.cache(), sessions, text);
     }
 
     /// The owner of the cache, and its sessions.
-    pub fn into_parts(self) -> (CacheOwner, Vec<Session>)
-        requires { All (MayCall self.owner.cache) self.sessions.items }
-        ensures { All (MayCall result.0.cache) result.1.items }
-    {
+    pub fn into_parts(self) -> (CacheOwner, Vec<Session>) {
         let Stage { owner, sessions } = self;
         (owner, sessions)
     }
 
     /// Ends the cache with all of its sessions.
-    pub fn close(self, rt: &impl Abort, alloc: Global) -> Vec<ClosedStripe>
-        requires { All (MayCall self.owner.cache) self.sessions.items }
-    {
+    pub fn close(self, rt: &impl Abort, alloc: Global) -> Vec<ClosedStripe> {
         let Stage { owner, sessions } = self;
         closed(rt, alloc, owner, sessions)
     }

@@ -176,11 +176,11 @@ impl<T> Unreliable<T> {
 }
 
 impl<L: CacheLoader> CacheLoader for Unreliable<L> {
-    ghost load_state = { λ l. L.load_state l.inner };
+    ghost load_state = { ? };
 
-    ghost loads = { λ l key answer after. Unit {0} };
+    ghost loads = { ? };
 
-    ghost loads_all = { λ l keys answer answers after. Unit {0} };
+    ghost loads_all = { ? };
 
     fn load(&mut self, key: &Key) -> Result<Option<Value>, u32> {
         if let Some(code) = self.begin() {
@@ -224,13 +224,13 @@ fn delete_half<W: CacheWriter>(inner: &mut W, keys: &[Key]) -> usize {
 }
 
 impl<W: CacheWriter> CacheWriter for Unreliable<W> {
-    ghost write_state = { λ w. W.write_state w.inner };
+    ghost write_state = { ? };
 
-    ghost writes = { λ w key change answer after. Unit {0} };
+    ghost writes = { ? };
 
-    ghost writes_all = { λ w entries answer left after. Unit {0} };
+    ghost writes_all = { ? };
 
-    ghost deletes_all = { λ w keys answer left after. Unit {0} };
+    ghost deletes_all = { ? };
 
     fn write(&mut self, key: &Key, value: &Value) -> Result<(), u32> {
         if let Some(code) = self.begin() {

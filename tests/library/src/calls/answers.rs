@@ -1,9 +1,6 @@
 //! Calls and their answers, as words.
-ghost use Rattle.std.specs.Prelude.{◌≡◌, false};
-ghost use Rattle.jc_model.specs.Table.{is_invoke};
-ghost use Rattle.jc_cache.specs.Sessions.{MayCall};
-
 use super::invoking::invoked;
+use crate::common::words::{code, first_word, key, value};
 use jc_cache::{Cache, Session};
 use jc_model::{Op, Reply};
 use jc_types::{Key, Refusal, Value};
@@ -13,23 +10,6 @@ use std::sync::Wait;
 
 /// What a call answers, in the words of the operation table.
 pub type Answer = Result<Reply, Refusal>;
-
-pub fn key(rt: &impl Abort, word: &str) -> Key {
-    Key::new(word.as_bytes()).expect(rt, "a key")
-}
-
-pub fn value(rt: &impl Abort, word: &str) -> Value {
-    Value::new(word.as_bytes()).expect(rt, "a value")
-}
-
-/// The first word, and what follows it, if anything.
-pub fn first_word(text: &str) -> (&str, &str) {
-    text.split_once(' ').unwrap_or((text, ""))
-}
-
-fn code(rt: &impl Abort, word: &str) -> u32 {
-    word.parse().ok().expect(rt, "a code")
-}
 
 /// The answer that a text says.
 pub fn answer_of(rt: &impl Abort, text: &str) -> Answer {
@@ -57,9 +37,7 @@ pub fn replied_as(reply: Reply) -> Answer {
 }
 
 /// The operation that a text says, with its value if it takes one.
-pub fn op_of(rt: &impl Abort, op: &str, text: &str) -> Op
-    ensures { is_invoke result ≡ false }
-{
+pub fn op_of(rt: &impl Abort, op: &str, text: &str) -> Op {
     match op {
         "get" => Op::Get,
         "remove" => Op::Remove,
@@ -83,10 +61,7 @@ fn unit(answer: Result<(), Refusal>) -> Answer {
 }
 
 /// A `get` that writes the value to a room.
-fn read_into<R: Wait>(rt: &R, cache: &Cache, session: &mut Session, key: &Key) -> Answer
-    requires { MayCall cache.now session.old }
-    ensures { MayCall cache.now session.new }
-{
+fn read_into<R: Wait>(rt: &R, cache: &Cache, session: &mut Session, key: &Key) -> Answer {
     let mut room = Value::default();
     let is_there = cache.get_into(rt, session, key, &mut room)?;
     Ok(Reply::Value(if is_there { Some(room) } else { None }))
@@ -99,10 +74,7 @@ pub fn called_bare<R: Wait>(
     session: &mut Session,
     op: &str,
     key: &Key,
-) -> Option<Answer>
-    requires { MayCall cache.now session.old }
-    ensures { MayCall cache.now session.new }
-{
+) -> Option<Answer> {
     match op {
         "get" => Some(entry(cache.get(rt, session, key))),
         "getinto" => Some(read_into(rt, cache, session, key)),
@@ -123,10 +95,7 @@ pub fn called_valued<R: Wait>(
     op: &str,
     key: &Key,
     value: &Value,
-) -> Option<Answer>
-    requires { MayCall cache.now session.old }
-    ensures { MayCall cache.now session.new }
-{
+) -> Option<Answer> {
     match op {
         "put" => Some(unit(cache.put(rt, session, key, value))),
         "getput" => Some(entry(cache.get_and_put(rt, session, key, value))),
@@ -146,10 +115,7 @@ pub fn called<R: Abort + Wait>(
     cache: &Cache,
     session: &mut Session,
     text: &str,
-) -> Answer
-    requires { MayCall cache.now session.old }
-    ensures { MayCall cache.now session.new }
-{
+) -> Answer {
     let (op, rest) = first_word(text);
     let (at, values) = first_word(rest);
     let key = key(rt, at);

@@ -1,6 +1,4 @@
 //! Each call once, with a loader, a writer and a listener that count how often they were called.
-ghost use Rattle.std.specs.Prelude.{◌≡◌, IsSome};
-
 use super::bytes::{key, value};
 use super::is;
 use indexmap::{IndexMap, IndexSet};
@@ -32,13 +30,11 @@ impl Counting {
 }
 
 impl CacheLoader for Counting {
-    ghost use Rattle.std.specs.Prelude.{[], ◌∷◌};
+    ghost load_state = { ? };
 
-    ghost load_state = { λ l. l.calls ∷ [] };
+    ghost loads = { ? };
 
-    ghost loads = { λ l key answer after. Unit {0} };
-
-    ghost loads_all = { λ l keys answer answers after. Unit {0} };
+    ghost loads_all = { ? };
 
     fn load(&mut self, key: &Key) -> Result<Option<Value>, u32> {
         self.call(key)
@@ -55,15 +51,13 @@ impl CacheLoader for Counting {
 }
 
 impl CacheWriter for Counting {
-    ghost use Rattle.std.specs.Prelude.{[], ◌∷◌};
+    ghost write_state = { ? };
 
-    ghost write_state = { λ w. w.calls ∷ [] };
+    ghost writes = { ? };
 
-    ghost writes = { λ w key change answer after. Unit {0} };
+    ghost writes_all = { ? };
 
-    ghost writes_all = { λ w entries answer left after. Unit {0} };
-
-    ghost deletes_all = { λ w keys answer left after. Unit {0} };
+    ghost deletes_all = { ? };
 
     fn write(&mut self, key: &Key, _value: &Value) -> Result<(), u32> {
         self.call(key)?;
@@ -100,7 +94,7 @@ pub struct Question {
 }
 
 impl Ask for Question {
-    ghost key = { λ q. q.key };
+    ghost key = { ? };
 
     fn key(&self) -> &Key {
         &self.key
@@ -112,9 +106,7 @@ impl Ask for Question {
 }
 
 impl AskWrite for Question {
-    ghost use Rattle.std.specs.Prelude.{Some};
-
-    ghost change = { λ q. Some q.change };
+    ghost change = { ? };
 
     fn change(&self) -> Change {
         self.change
@@ -128,10 +120,7 @@ fn about(rt: &impl Abort, byte: u8, change: Change) -> Question {
     }
 }
 
-fn load<R: Abort + Wait>(rt: &R, hands: &mut Hands<Outside>, byte: u8, want: LoadAnswer)
-    requires { hands.old.held ≡ 0 }
-    ensures { hands.new.held ≡ 0 }
-{
+fn load<R: Abort + Wait>(rt: &R, hands: &mut Hands<Outside>, byte: u8, want: LoadAnswer) {
     let ask = about(rt, byte, Change::Delete);
     is(rt, call_loader(rt, hands, ask).into_answer(), want);
 }
@@ -142,12 +131,7 @@ fn write<R: Abort + Wait>(
     byte: u8,
     change: Change,
     want: WriteAnswer,
-)
-    requires held { hands.old.held ≡ 0 }
-    requires writer { IsSome hands.old.outside.writer }
-    ensures held { hands.new.held ≡ 0 }
-    ensures writer { IsSome hands.new.outside.writer }
-{
+) {
     let ask = about(rt, byte, change);
     is(rt, call_writer(rt, hands, ask).into_answer(), want);
 }
@@ -236,11 +220,9 @@ struct Keeping {
 }
 
 impl CompletionListener for Keeping {
-    ghost use Rattle.std.specs.Prelude.{◌≡◌, [], Some, None, Ok, Err};
+    ghost listener_state = { ? };
 
-    ghost listener_state = { λ l. [] };
-
-    ghost hears = { λ l end after. Unit {0} };
+    ghost hears = { ? };
 
     fn on_completion(&mut self) {
         self.heard = None;

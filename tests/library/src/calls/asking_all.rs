@@ -1,6 +1,4 @@
 //! Each call for many keys once, with a loader and a writer that count how often they were called.
-ghost use Rattle.std.specs.Prelude.{◌≡◌, IsSome};
-
 use super::asking::{Counting, Question};
 use super::bytes::{key, value};
 use super::is;
@@ -15,10 +13,7 @@ use std::alloc::Global;
 use std::process::Abort;
 use std::sync::Wait;
 
-fn about(key: Key, change: Change) -> Question
-    ensures key { result.key ≡ key }
-    ensures change { result.change ≡ change }
-{
+fn about(key: Key, change: Change) -> Question {
     Question { key, change }
 }
 
@@ -53,10 +48,7 @@ fn loads<R: Abort + Wait>(
     hands: &mut Hands<Outside>,
     keys: [u8; 2],
     want: [LoadAnswer; 2],
-)
-    requires { hands.old.held ≡ 0 }
-    ensures { hands.new.held ≡ 0 }
-{
+) {
     let [first, second] = keys;
     let (a, b) = (key(rt, first), key(rt, second));
     let mut done = Vec::with_capacity(alloc, 2).expect(rt, "memory");
@@ -93,12 +85,7 @@ fn calls_the_loader_once_for_all(rt: HostRuntime) {
 }
 
 /// Asks to write two keys in one call. The writer leaves the first one.
-fn writes<R: Abort + Wait>(rt: &R, alloc: Global, hands: &mut Hands<Outside>)
-    requires held { hands.old.held ≡ 0 }
-    requires writer { IsSome hands.old.outside.writer }
-    ensures held { hands.new.held ≡ 0 }
-    ensures writer { IsSome hands.new.outside.writer }
-{
+fn writes<R: Abort + Wait>(rt: &R, alloc: Global, hands: &mut Hands<Outside>) {
     let (a, b, v) = (key(rt, b'a'), key(rt, b'b'), value(rt, 9));
     let mut done = Vec::with_capacity(alloc, 2).expect(rt, "memory");
     let mut asks = Vec::with_capacity(alloc, 2).expect(rt, "memory");
@@ -114,12 +101,7 @@ fn writes<R: Abort + Wait>(rt: &R, alloc: Global, hands: &mut Hands<Outside>)
 }
 
 /// Asks to delete two keys in one call. The writer leaves the first one.
-fn deletes<R: Abort + Wait>(rt: &R, alloc: Global, hands: &mut Hands<Outside>)
-    requires held { hands.old.held ≡ 0 }
-    requires writer { IsSome hands.old.outside.writer }
-    ensures held { hands.new.held ≡ 0 }
-    ensures writer { IsSome hands.new.outside.writer }
-{
+fn deletes<R: Abort + Wait>(rt: &R, alloc: Global, hands: &mut Hands<Outside>) {
     let (a, b) = (key(rt, b'a'), key(rt, b'b'));
     let mut done = Vec::with_capacity(alloc, 2).expect(rt, "memory");
     let mut asks = Vec::with_capacity(alloc, 2).expect(rt, "memory");
@@ -135,12 +117,7 @@ fn deletes<R: Abort + Wait>(rt: &R, alloc: Global, hands: &mut Hands<Outside>)
 }
 
 /// Asks for no change in one call. The writer fails, and says with which of its calls.
-fn changes_nothing<R: Abort + Wait>(rt: &R, alloc: Global, hands: &mut Hands<Outside>, call: u32)
-    requires held { hands.old.held ≡ 0 }
-    requires writer { IsSome hands.old.outside.writer }
-    ensures held { hands.new.held ≡ 0 }
-    ensures writer { IsSome hands.new.outside.writer }
-{
+fn changes_nothing<R: Abort + Wait>(rt: &R, alloc: Global, hands: &mut Hands<Outside>, call: u32) {
     let mut done = Vec::with_capacity(alloc, 0).expect(rt, "memory");
     let asks: Vec<Question> = Vec::with_capacity(alloc, 0).expect(rt, "memory");
     let batch = DeleteBatch::with_capacity(alloc, 0).expect(rt, "memory");

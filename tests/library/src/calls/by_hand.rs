@@ -1,7 +1,4 @@
 //! Calls that a session makes phase by phase, with other sessions' calls between the phases.
-ghost use Rattle.std.specs.Prelude.{◌≡◌, ◌∷◌, [], All};
-ghost use Rattle.jc_cache.specs.Sessions.{IsOf, MayCall};
-
 use super::closing::closed;
 use super::histories::are_steps;
 use super::phases::{
@@ -9,8 +6,8 @@ use super::phases::{
     report, reserve, run, sees,
 };
 use super::scripted::processor_of;
-use super::stage::push;
 use super::*;
+use crate::common::push;
 use jc_cache::{Op, Reply};
 
 /// Three sessions, each by itself.
@@ -53,14 +50,7 @@ fn load<R: Abort + Wait>(
     cache: &Cache,
     sessions: &mut Three,
     story: &str,
-)
-    requires first { MayCall cache.now sessions.old.first }
-    requires second { MayCall cache.now sessions.old.second }
-    requires third { MayCall cache.now sessions.old.third }
-    ensures first { IsOf cache.now sessions.new.first }
-    ensures second { IsOf cache.now sessions.new.second }
-    ensures third { IsOf cache.now sessions.new.third }
-{
+) {
     let Three {
         first,
         second,
@@ -70,7 +60,7 @@ fn load<R: Abort + Wait>(
     let mut ticket = reserve(rt, cache, first, &a, &Op::Get);
     let join = join_load(rt, cache, second, &a);
     desk.plays(rt, alloc, cache, third, part(story, "between"));
-    let done = ask_loader(rt, cache, first, &mut ticket);
+    let done = ask_loader(rt, first, &mut ticket);
     let join = not_yet(rt, cache, second, join);
     sees(rt, alloc, cache, first, 1);
     let mut reply = Reply::Unit;
@@ -90,14 +80,7 @@ fn withdraw<R: Abort + Wait>(
     cache: &Cache,
     sessions: &mut Three,
     story: &str,
-)
-    requires first { MayCall cache.now sessions.old.first }
-    requires second { MayCall cache.now sessions.old.second }
-    requires third { MayCall cache.now sessions.old.third }
-    ensures first { IsOf cache.now sessions.new.first }
-    ensures second { IsOf cache.now sessions.new.second }
-    ensures third { IsOf cache.now sessions.new.third }
-{
+) {
     let Three {
         first,
         second,
@@ -125,14 +108,7 @@ fn write<R: Abort + Wait>(
     cache: &Cache,
     sessions: &mut Three,
     story: &str,
-)
-    requires first { MayCall cache.now sessions.old.first }
-    requires second { MayCall cache.now sessions.old.second }
-    requires third { MayCall cache.now sessions.old.third }
-    ensures first { IsOf cache.now sessions.new.first }
-    ensures second { IsOf cache.now sessions.new.second }
-    ensures third { IsOf cache.now sessions.new.third }
-{
+) {
     let Three {
         first,
         second,
@@ -159,14 +135,7 @@ fn process<R: Abort + Wait>(
     sessions: &mut Three,
     story: &str,
     calls: &str,
-)
-    requires first { MayCall cache.now sessions.old.first }
-    requires second { MayCall cache.now sessions.old.second }
-    requires third { MayCall cache.now sessions.old.third }
-    ensures first { IsOf cache.now sessions.new.first }
-    ensures second { IsOf cache.now sessions.new.second }
-    ensures third { IsOf cache.now sessions.new.third }
-{
+) {
     let Three {
         first,
         second,
@@ -177,7 +146,7 @@ fn process<R: Abort + Wait>(
     let mut ticket = reserve(rt, cache, first, &a, &Op::Invoke);
     is_busy(rt, cache, second, &a, &Op::Put(value(rt, "5")));
     let mut processor = processor_of(rt, alloc, calls);
-    let done = run(rt, cache, first, &mut ticket, &mut processor);
+    let done = run(rt, first, &mut ticket, &mut processor);
     let report = report(rt, cache, first, &mut ticket, &done);
     desk.plays(rt, alloc, cache, third, part(story, "between"));
     let mut reply = Reply::Unit;
@@ -194,14 +163,7 @@ fn play<R: Abort + Wait>(
     cache: &Cache,
     sessions: &mut Three,
     story: &str,
-)
-    requires first { MayCall cache.now sessions.old.first }
-    requires second { MayCall cache.now sessions.old.second }
-    requires third { MayCall cache.now sessions.old.third }
-    ensures first { IsOf cache.now sessions.new.first }
-    ensures second { IsOf cache.now sessions.new.second }
-    ensures third { IsOf cache.now sessions.new.third }
-{
+) {
     match first_word(part(story, "call")) {
         ("get", _) => load(rt, alloc, desk, cache, sessions, story),
         ("withdraw", _) => withdraw(rt, alloc, desk, cache, sessions, story),
@@ -212,12 +174,7 @@ fn play<R: Abort + Wait>(
 }
 
 /// The three sessions of a list.
-fn three_of(rt: &impl Abort, _cache: &Cache, sessions: Vec<Session>) -> Three
-    requires { All (MayCall _cache.now) sessions.items }
-    ensures first { MayCall _cache.now result.first }
-    ensures second { MayCall _cache.now result.second }
-    ensures third { MayCall _cache.now result.third }
-{
+fn three_of(rt: &impl Abort, sessions: Vec<Session>) -> Three {
     let mut sessions = sessions;
     let Some(third) = sessions.pop() else {
         panic!(rt; "no session");
@@ -236,12 +193,7 @@ fn three_of(rt: &impl Abort, _cache: &Cache, sessions: Vec<Session>) -> Three
 }
 
 /// A list of them.
-fn listed(rt: &impl Abort, alloc: Global, _cache: &Cache, sessions: Three) -> Vec<Session>
-    requires first { IsOf _cache.now sessions.first }
-    requires second { IsOf _cache.now sessions.second }
-    requires third { IsOf _cache.now sessions.third }
-    ensures { All (λ s. IsOf _cache.now s) result.items }
-{
+fn listed(rt: &impl Abort, alloc: Global, sessions: Three) -> Vec<Session> {
     let Three {
         first,
         second,
@@ -262,19 +214,14 @@ fn played<R: Abort + Wait>(
     cache: &Cache,
     sessions: Vec<Session>,
     story: &str,
-) -> Vec<Session>
-    requires { All (MayCall cache.now) sessions.items }
-    ensures { All (λ s. IsOf cache.now s) result.items }
-{
-    let mut three = three_of(rt, cache, sessions);
+) -> Vec<Session> {
+    let mut three = three_of(rt, sessions);
     play(rt, alloc, desk, cache, &mut three, story);
-    listed(rt, alloc, cache, three)
+    listed(rt, alloc, three)
 }
 
 /// Plays a story on a stage of three sessions, and ends the cache.
-fn tell<R: Abort + Wait>(rt: &R, alloc: Global, desk: &Desk, stage: Stage, story: &str)
-    requires { All (MayCall stage.owner.cache) stage.sessions.items }
-{
+fn tell<R: Abort + Wait>(rt: &R, alloc: Global, desk: &Desk, stage: Stage, story: &str) {
     let (owner, sessions) = stage.into_parts();
     let sessions = played(rt, alloc, desk, owner.cache(), sessions, story);
     let stripes = closed(rt, alloc, owner, sessions);
@@ -287,9 +234,7 @@ fn tell<R: Abort + Wait>(rt: &R, alloc: Global, desk: &Desk, stage: Stage, story
 }
 
 /// A stage for a story, without sessions.
-fn stage_of(rt: &impl Abort, alloc: Global, story: &str) -> Stage
-    ensures { All (MayCall result.owner.cache) result.sessions.items }
-{
+fn stage_of(rt: &impl Abort, alloc: Global, story: &str) -> Stage {
     match part(story, "lives").parse().ok() {
         Some(history) => {
             let owner = CacheOwner::living(alloc, &config(history, true, true)).ok();
@@ -402,7 +347,7 @@ fn makes_calls_by_hand(rt: HostRuntime) {
     for story in &STORIES {
         let desk = Desk::of(&rt, alloc, "a=1 b=2");
         let mut stage = stage_of(&rt, alloc, story);
-        'entering: for place in 0..3 {
+        for place in 0..3 {
             enter!(rt, stage, desk, manners(&rt, story, place));
         }
         tell(&rt, alloc, &desk, stage, story);

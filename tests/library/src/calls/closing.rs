@@ -1,7 +1,4 @@
 //! The end of a cache: what it is refused for, and what the histories of a closed cache are.
-ghost use Rattle.std.specs.Prelude.{All};
-ghost use Rattle.jc_cache.specs.Sessions.{IsOf};
-
 use super::histories::events;
 use super::*;
 use jc_cache::{Closed, ClosedStripe};
@@ -61,10 +58,7 @@ fn cached<R: Abort + Wait>(
     alloc: Global,
     cache: &Cache,
     sessions: &mut Vec<Session>,
-) -> Vec<Key>
-    requires { All (λ s. IsOf cache.now s) sessions.old.items }
-    ensures { All (λ s. IsOf cache.now s) sessions.new.items }
-{
+) -> Vec<Key> {
     let config = *cache.config();
     assert!(rt; config.stripes > 0);
     assert!(rt; 0 < sessions.len(), "no session");
@@ -110,9 +104,7 @@ pub fn closed<R: Abort + Wait>(
     alloc: Global,
     owner: CacheOwner,
     sessions: Vec<Session>,
-) -> Vec<ClosedStripe>
-    requires { All (λ s. IsOf owner.cache s) sessions.items }
-{
+) -> Vec<ClosedStripe> {
     let mut sessions = sessions;
     let own = own_of(rt, alloc, &sessions);
     let keys = cached(rt, alloc, owner.cache(), &mut sessions);

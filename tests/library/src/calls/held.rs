@@ -1,8 +1,4 @@
 //! Calls that wait for nobody, while somebody else holds the stripe.
-ghost use Rattle.std.specs.Prelude.{◌≡◌, [], false, Some};
-ghost use Rattle.jc_outside.specs.declared.done.Origin.TheVariants.{Live};
-ghost use Rattle.jc_lock.specs.Views.{after_split};
-
 use super::*;
 use jc_engine::Access;
 use jc_lock::{HistLock, Seat};
@@ -11,13 +7,7 @@ use jc_session::Agent;
 use jc_stripe::{Origin, Stripe};
 
 /// A lock round a new stripe, and its first seat, which gives seats out.
-fn locked(rt: &impl Abort, alloc: Global) -> (HistLock, Seat)
-    ensures lock { result.1.0 ≡ result.0 }
-    ensures free { result.1.1.holds ≡ false }
-    ensures none { result.1.1.session ≡ None }
-    ensures gives { result.1.1.next_session ≡ Some 0 }
-    ensures live { result.1.1.noted.origin ≡ Live }
-{
+fn locked(rt: &impl Abort, alloc: Global) -> (HistLock, Seat) {
     let config = config(100, false, false);
     config.check().expect(rt, "a shape");
     let stripe = Stripe::new(alloc, &config, 0, Origin::Live).expect(rt, "memory");
@@ -32,14 +22,7 @@ fn tried(
     agent: &mut Agent,
     key: &Key,
     op: &Op,
-) -> Result<Reply, Refusal>
-    requires lock { seat.old.0 ≡ lock.now }
-    requires free { seat.old.1.holds ≡ false }
-    requires session { seat.old.1.session ≡ Some agent.old.caller.session }
-    requires new { seat.old.1.own ≡ [] }
-    requires live { seat.old.1.noted.origin ≡ Live }
-    requires held { agent.old.hands.held ≡ 0 }
-{
+) -> Result<Reply, Refusal> {
     let mut gate = lock;
     let mut access = Access {
         gate: &mut gate,
@@ -52,13 +35,14 @@ fn tried(
 }
 
 /// The first call of the next session, if it waits for nobody, is answered so.
-fn is_tried(rt: &impl Abort, lock: &HistLock, first: &mut Seat, session: u32, op: &Op, want: Answer)
-    requires lock { first.old.0 ≡ lock.now }
-    requires gives { first.old.1.next_session ≡ Some session }
-    requires live { first.old.1.noted.origin ≡ Live }
-    ensures lock { first.new.0 ≡ lock.now }
-    ensures seat { first.new.1 ≡ after_split first.old.1 }
-{
+fn is_tried(
+    rt: &impl Abort,
+    lock: &HistLock,
+    first: &mut Seat,
+    session: u32,
+    op: &Op,
+    want: Answer,
+) {
     let mut seat = lock.split(first);
     let mut agent = Agent::new(session, None, None);
     agent.next_call();

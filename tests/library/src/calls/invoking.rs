@@ -2,8 +2,6 @@
 //! call is to answer, and how often, by then, the loader was called, and the writer to write and to delete.
 //!
 //!     invoke a get set=2 get = 2 | 1 1 0
-ghost use Rattle.jc_cache.specs.Sessions.{MayCall};
-
 use super::answers::entry;
 use super::scripted::processor_of;
 use super::*;
@@ -16,10 +14,7 @@ pub fn invoked<R: Abort + Wait>(
     session: &mut Session,
     key: &Key,
     words: &str,
-) -> Answer
-    requires { MayCall cache.now session.old }
-    ensures { MayCall cache.now session.new }
-{
+) -> Answer {
     let mut processor = processor_of(rt, alloc, words);
     entry(cache.invoke(rt, session, key, &mut processor, &[]))
 }

@@ -56,8 +56,8 @@ fn is_given(
     rt: &impl Abort,
     alloc: Global,
     owner: &mut CacheOwner,
-    loader: Loader,
-    writer: Writer,
+    loader: Option<Loader>,
+    writer: Option<Writer>,
     number: u32,
 ) {
     let given = owner.session(alloc, loader, writer).ok();
@@ -77,8 +77,8 @@ fn is_refused(
     rt: &impl Abort,
     alloc: Global,
     owner: &mut CacheOwner,
-    loader: Loader,
-    writer: Writer,
+    loader: Option<Loader>,
+    writer: Option<Writer>,
     why: Refusal,
 ) {
     let brought = (loader.is_some(), writer.is_some());
@@ -95,9 +95,9 @@ fn wants_a_loader_and_a_writer(rt: HostRuntime) {
     let desk = Desk::of(&rt, alloc, "a=1");
     let mut owner = opened(&rt, alloc, &config(100, true, true));
     is_refused(&rt, alloc, &mut owner, None, None, Refusal::NoLoader);
-    let writer = boxed!(rt, Writer, desk.writer(rt));
+    let writer = Some(boxed!(rt, Writer, desk.writer(rt)));
     is_refused(&rt, alloc, &mut owner, None, writer, Refusal::NoLoader);
-    let loader = boxed!(rt, Loader, desk.loader(rt));
+    let loader = Some(boxed!(rt, Loader, desk.loader(rt)));
     is_refused(&rt, alloc, &mut owner, loader, None, Refusal::NoWriter);
     let mut owner = opened(&rt, alloc, &config(100, false, true));
     is_refused(&rt, alloc, &mut owner, None, None, Refusal::NoWriter);
@@ -110,12 +110,12 @@ fn gives_out_so_many_sessions(rt: HostRuntime) {
     let desk = Desk::of(&rt, alloc, "a=1");
     let mut owner = opened(&rt, alloc, &config(100, true, true));
     for session in 0..SESSIONS_MAX {
-        let loader = boxed!(rt, Loader, desk.loader(rt));
-        let writer = boxed!(rt, Writer, desk.writer(rt));
+        let loader = Some(boxed!(rt, Loader, desk.loader(rt)));
+        let writer = Some(boxed!(rt, Writer, desk.writer(rt)));
         is_given(&rt, alloc, &mut owner, loader, writer, session);
     }
-    let loader = boxed!(rt, Loader, desk.loader(rt));
-    let writer = boxed!(rt, Writer, desk.writer(rt));
+    let loader = Some(boxed!(rt, Loader, desk.loader(rt)));
+    let writer = Some(boxed!(rt, Writer, desk.writer(rt)));
     let why = Refusal::TooManySessions;
     is_refused(&rt, alloc, &mut owner, loader, writer, why);
     is_refused(&rt, alloc, &mut owner, None, None, why);

@@ -15,9 +15,7 @@
 //!
 //! Between threads: `await` waits until a loader or a writer that waits was asked, `raise` lets it answer, and `rest` lets other
 //! threads go on.
-ghost use Rattle.jc_cache.specs.Sessions.{MayCall};
-
-use super::answers::{first_word, op_of};
+use super::answers::op_of;
 use super::phases::{gives_up, reserve};
 use super::*;
 use jc_cache::Statistics;
@@ -55,10 +53,7 @@ pub fn statistics(rt: &impl Abort, text: &str) -> Statistics {
 }
 
 /// Ends the generation of the first stripe, which has so many events, and so many before it; or none may end.
-fn ends<R: Abort + Wait>(rt: &R, alloc: Global, cache: &Cache, session: &mut Session, text: &str)
-    requires { MayCall cache.now session.old }
-    ensures { MayCall cache.now session.new }
-{
+fn ends<R: Abort + Wait>(rt: &R, alloc: Global, cache: &Cache, session: &mut Session, text: &str) {
     let (events, before) = number(rt, text);
     assert!(rt; 0 < cache.config().stripes);
     let mut found = Vec::new(alloc);
@@ -76,10 +71,7 @@ impl Desk {
         cache: &Cache,
         session: &mut Session,
         line: &str,
-    )
-        requires { MayCall cache.now session.old }
-        ensures { MayCall cache.now session.new }
-    {
+    ) {
         let (call, answer, counts) = parts(rt, line);
         let found = called(rt, alloc, cache, session, call);
         is_at(rt, line, found, answer_of(rt, answer));
@@ -89,10 +81,7 @@ impl Desk {
     }
 
     /// Begins a call, and gives it up when loaders that wait may answer. A text says its operation, its key, and perhaps a value.
-    fn withdraw<R: Abort + Wait>(&self, rt: &R, cache: &Cache, session: &mut Session, text: &str)
-        requires { MayCall cache.now session.old }
-        ensures { MayCall cache.now session.new }
-    {
+    fn withdraw<R: Abort + Wait>(&self, rt: &R, cache: &Cache, session: &mut Session, text: &str) {
         let (op, rest) = first_word(text);
         let (at, value) = first_word(rest);
         let op = op_of(rt, op, value);
@@ -109,10 +98,7 @@ impl Desk {
         cache: &Cache,
         session: &mut Session,
         line: &str,
-    )
-        requires { MayCall cache.now session.old }
-        ensures { MayCall cache.now session.new }
-    {
+    ) {
         let (word, rest) = first_word(line);
         match word {
             "" => {}
@@ -137,10 +123,7 @@ impl Desk {
         cache: &Cache,
         session: &mut Session,
         text: &str,
-    )
-        requires { MayCall cache.now session.old }
-        ensures { MayCall cache.now session.new }
-    {
+    ) {
         for line in text.split("; ") {
             self.play(rt, alloc, cache, session, line);
         }

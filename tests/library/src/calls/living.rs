@@ -1,7 +1,4 @@
 //! A cache that lives on: many more calls than its histories have places for, by four sessions, each on a thread of its own.
-ghost use Rattle.std.specs.Prelude.{All};
-ghost use Rattle.jc_cache.specs.Sessions.{MayCall};
-
 use super::lines::statistics;
 use super::*;
 use jc_cache::{Closed, Reopened};
@@ -96,9 +93,7 @@ macro_rules! four_of {
 }
 
 /// Ends a cache with all of its sessions. Each history is short, and each entry is the store's.
-fn closed<R: Abort + Wait>(rt: &R, alloc: Global, desk: &Desk, stage: Stage) -> Closed
-    requires { All (MayCall stage.owner.cache) stage.sessions.items }
-{
+fn closed<R: Abort + Wait>(rt: &R, alloc: Global, desk: &Desk, stage: Stage) -> Closed {
     let (owner, sessions) = stage.into_parts();
     let closed = owner.close(alloc, sessions).ok();
     let closed = closed.expect(rt, "a closed cache");

@@ -1,6 +1,4 @@
 //! A lock round a stripe, which threads share.
-ghost use Rattle.std.specs.Prelude.{◌≡◌, true, false, Some};
-
 use super::*;
 use jc_lock::{HistLock, Seat};
 use jc_model::{Op, Reply};
@@ -13,11 +11,7 @@ use std::thread;
 const CALLS: u64 = 300;
 
 /// A lock round a new stripe, and its first seat.
-fn open(rt: &impl Abort, alloc: Global) -> (HistLock, Seat)
-    ensures lock { result.1.0 ≡ result.0 }
-    ensures free { result.1.1.holds ≡ false }
-    ensures gives { result.1.1.next_session ≡ Some 0 }
-{
+fn open(rt: &impl Abort, alloc: Global) -> (HistLock, Seat) {
     let stripe = new_stripe(rt, alloc, &config(2_000, false, false));
     HistLock::new(alloc, stripe).expect(rt, "memory")
 }
@@ -30,14 +24,7 @@ fn put_once<R: Abort + Wait>(
     caller: Caller,
     key: &Key,
     value: &Value,
-)
-    requires lock { seat.old.0 ≡ lock.now }
-    requires free { seat.old.1.holds ≡ false }
-    requires session { seat.old.1.session ≡ Some caller.session }
-    ensures lock { seat.new.0 ≡ lock.now }
-    ensures free { seat.new.1.holds ≡ false }
-    ensures session { seat.new.1.session ≡ Some caller.session }
-{
+) {
     let mut stripe = lock.take(rt, seat);
     assert!(rt; stripe.admits(caller, key), "{caller:?} may begin");
     match stripe.begin(caller, key, &Op::Put(*value), &mut Reply::Unit) {
@@ -48,13 +35,7 @@ fn put_once<R: Abort + Wait>(
 }
 
 /// Puts a session's values, one after the other: each put is a take, a phase and a give.
-fn put_often<R: Abort + Wait>(rt: &R, lock: &HistLock, mut seat: Seat, session: u32) -> Seat
-    requires lock { seat.0 ≡ lock.now }
-    requires free { seat.1.holds ≡ false }
-    requires session { seat.1.session ≡ Some session }
-    ensures lock { result.0 ≡ lock.now }
-    ensures free { result.1.holds ≡ false }
-{
+fn put_often<R: Abort + Wait>(rt: &R, lock: &HistLock, mut seat: Seat, session: u32) -> Seat {
     let (key, value) = (key(rt, "k"), value(rt, "v"));
     for call in 0..CALLS {
         put_once(rt, lock, &mut seat, Caller { session, call }, &key, &value);
@@ -70,14 +51,8 @@ fn two_threads_put_beside_each_other(rt: HostRuntime) {
     let lent = &lock;
     let (one, two) = thread::join(
         &rt,
-        move ||
-            requires { (one.0 ≡ lent.now) × (one.1.holds ≡ false) × (one.1.session ≡ Some 0) }
-            ensures { (result.0 ≡ lent.entry.now) × (result.1.holds ≡ false) }
-        { put_often(&rt, lent, one, 0) },
-        move ||
-            requires { (two.0 ≡ lent.now) × (two.1.holds ≡ false) × (two.1.session ≡ Some 1) }
-            ensures { (result.0 ≡ lent.entry.now) × (result.1.holds ≡ false) }
-        { put_often(&rt, lent, two, 1) },
+        move || { put_often(&rt, lent, one, 0) },
+        move || { put_often(&rt, lent, two, 1) },
     );
     lock.join(&mut first, one);
     lock.join(&mut first, two);

@@ -113,11 +113,11 @@ impl<T> Actor<T> {
 }
 
 impl<L: CacheLoader> CacheLoader for Actor<L> {
-    ghost load_state = { λ l. L.load_state l.inner };
+    ghost load_state = { ? };
 
-    ghost loads = { λ l key answer after. Unit {0} };
+    ghost loads = { ? };
 
-    ghost loads_all = { λ l keys answer answers after. Unit {0} };
+    ghost loads_all = { ? };
 
     fn load(&mut self, key: &Key) -> Result<Option<Value>, u32> {
         self.act()?;
@@ -134,13 +134,13 @@ impl<L: CacheLoader> CacheLoader for Actor<L> {
 }
 
 impl<W: CacheWriter> CacheWriter for Actor<W> {
-    ghost write_state = { λ w. W.write_state w.inner };
+    ghost write_state = { ? };
 
-    ghost writes = { λ w key change answer after. Unit {0} };
+    ghost writes = { ? };
 
-    ghost writes_all = { λ w entries answer left after. Unit {0} };
+    ghost writes_all = { ? };
 
-    ghost deletes_all = { λ w keys answer left after. Unit {0} };
+    ghost deletes_all = { ? };
 
     fn write(&mut self, key: &Key, value: &Value) -> Result<(), u32> {
         self.act()?;

@@ -1,7 +1,4 @@
 //! A stripe under a `Mutex`, whose threads make calls of phases of their own.
-ghost use Rattle.std.specs.Prelude.{◌≡◌, []};
-ghost use Rattle.jc_stripe.specs.Generations.{whole_history};
-
 use super::histories::events_of;
 use super::*;
 use jc_gate::{Gate, MutexGate};
@@ -14,9 +11,7 @@ use std::thread;
 const CALLS: u64 = 300;
 
 /// A stripe of this shape, with nothing in it.
-pub fn new_stripe(rt: &impl Abort, alloc: Global, config: &Config) -> Box<Stripe>
-    ensures { whole_history result.value ≡ [] }
-{
+pub fn new_stripe(rt: &impl Abort, alloc: Global, config: &Config) -> Box<Stripe> {
     config.check().expect(rt, "a shape");
     let stripe = Stripe::new(alloc, config, 0, Origin::Live).expect(rt, "memory");
     Box::new(alloc, stripe).expect(rt, "memory")

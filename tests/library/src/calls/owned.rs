@@ -3,9 +3,6 @@
 //!
 //!     cached b=3 c=5      what is cached, the most recently used first
 //!     steps 0 a 1 < 1     the steps of the history, as in `scenes.rt`
-ghost use Rattle.std.specs.Prelude.{◌≡◌, false, IsSome};
-ghost use Rattle.jc_model.specs.Table.{is_invoke};
-
 use super::answers::op_of;
 use super::desk::entries_of;
 use super::histories::{are_events, events_of};
@@ -61,15 +58,13 @@ fn ended_as(ended: Result<(), Refusal>, reply: Reply) -> Answer {
 }
 
 /// Makes the agent's next call.
-fn call<R: Abort + Wait>(rt: &R, owner: &mut Owner, agent: &mut Agent, key: &Key, op: &Op) -> Answer
-    requires here { IsSome owner.old.here }
-    requires held { agent.old.hands.held ≡ 0 }
-    requires writer { IsSome agent.old.hands.outside.writer }
-    requires op { is_invoke op.now ≡ false }
-    ensures here { IsSome owner.new.here }
-    ensures held { agent.new.hands.held ≡ 0 }
-    ensures writer { IsSome agent.new.hands.outside.writer }
-{
+fn call<R: Abort + Wait>(
+    rt: &R,
+    owner: &mut Owner,
+    agent: &mut Agent,
+    key: &Key,
+    op: &Op,
+) -> Answer {
     let caller = agent.next_call();
     let counts = agent.counts();
     assert!(rt; counts.reservations == 0);
@@ -89,14 +84,13 @@ fn call<R: Abort + Wait>(rt: &R, owner: &mut Owner, agent: &mut Agent, key: &Key
 }
 
 /// Makes the call that a line says. It is to answer what the line says, and the counts are to be these afterwards.
-fn call_line<R: Abort + Wait>(rt: &R, desk: &Desk, owner: &mut Owner, agent: &mut Agent, line: &str)
-    requires here { IsSome owner.old.here }
-    requires held { agent.old.hands.held ≡ 0 }
-    requires writer { IsSome agent.old.hands.outside.writer }
-    ensures here { IsSome owner.new.here }
-    ensures held { agent.new.hands.held ≡ 0 }
-    ensures writer { IsSome agent.new.hands.outside.writer }
-{
+fn call_line<R: Abort + Wait>(
+    rt: &R,
+    desk: &Desk,
+    owner: &mut Owner,
+    agent: &mut Agent,
+    line: &str,
+) {
     let (text, answer, counts) = parts(rt, line);
     let (word, rest) = first_word(text);
     let (at, value) = first_word(rest);
@@ -133,14 +127,7 @@ fn play<R: Abort + Wait>(
     owner: &mut Owner,
     agent: &mut Agent,
     line: &str,
-)
-    requires here { IsSome owner.old.here }
-    requires held { agent.old.hands.held ≡ 0 }
-    requires writer { IsSome agent.old.hands.outside.writer }
-    ensures here { IsSome owner.new.here }
-    ensures held { agent.new.hands.held ≡ 0 }
-    ensures writer { IsSome agent.new.hands.outside.writer }
-{
+) {
     let (word, rest) = first_word(line);
     match word {
         "stored" => desk.holds(rt, alloc, rest),
@@ -159,11 +146,7 @@ fn plays<R: Abort + Wait>(
     owner: &mut Owner,
     agent: &mut Agent,
     text: &str,
-)
-    requires here { IsSome owner.old.here }
-    requires held { agent.old.hands.held ≡ 0 }
-    requires writer { IsSome agent.old.hands.outside.writer }
-{
+) {
     for line in text.split_terminator('\n') {
         play(rt, alloc, desk, owner, agent, line);
     }
@@ -174,8 +157,8 @@ fn calls_on_a_stripe_of_its_own(rt: HostRuntime) {
     let alloc = rt.alloc();
     let desk = Desk::of(&rt, alloc, "a=1");
     let mut owner = Owner::new(new_stripe(&rt, alloc, &config(16, true, true)));
-    let loader = boxed!(rt, Loader, desk.loader(rt));
-    let writer = boxed!(rt, Writer, desk.writer(rt));
+    let loader = Some(boxed!(rt, Loader, desk.loader(rt)));
+    let writer = Some(boxed!(rt, Writer, desk.writer(rt)));
     let mut agent = Agent::new(0, loader, writer);
     plays(&rt, alloc, &desk, &mut owner, &mut agent, CALLS);
 }

@@ -1,18 +1,10 @@
 //! Phases of calls by hand: each makes one phase of a session, and says what is to come of it.
-ghost use Rattle.std.specs.Prelude.{◌≡◌, true, false};
-ghost use Rattle.jc_outside.specs.declared.done.Origin.TheVariants.{Live};
-ghost use Rattle.jc_stripe.specs.Effects.{HasReport, change_due};
-ghost use Rattle.jc_stripe.specs.Tickets.{asks_loader, asks_processor, asks_writer, claim_of};
-ghost use Rattle.jc_cache.specs.Sessions.{IsOf, MayCall};
-ghost use Rattle.jc_call_tests.specs.Between.{HasOut};
-
 use super::answers::replied_as;
 use super::*;
 use jc_cache::{
     Ask, EntryProcessor, First, Join, LoadDone, Op, Picked, ProcDone, Started, Ticket, WriteDone,
 };
 use jc_model::Reply;
-use jc_stripe::phase_laws::{own_numbers, own_steps};
 
 // 1. First phases.
 
@@ -23,15 +15,7 @@ pub fn reserve<R: Abort + Wait>(
     session: &mut Session,
     key: &Key,
     op: &Op,
-) -> Ticket
-    requires { MayCall cache.now session.old }
-    ensures own { IsOf cache.now session.new }
-    ensures out { HasOut cache.now session.new 1 0 }
-    ensures caller { result.reservation.caller.session ≡ session.new.agent.caller.session }
-    ensures unasked { (result.asked ≡ false) × (result.writer_asked ≡ false) }
-{
-    own_numbers();
-    own_steps();
+) -> Ticket {
     session.next_call();
     match cache.start(rt, session, key, op, &mut Reply::Unit) {
         Started::Asks(ticket) => ticket,
@@ -40,14 +24,7 @@ pub fn reserve<R: Abort + Wait>(
 }
 
 /// The first phase of the session's next call, a `get` that joins another session's load.
-pub fn join_load<R: Abort + Wait>(rt: &R, cache: &Cache, session: &mut Session, key: &Key) -> Join
-    requires { MayCall cache.now session.old }
-    ensures own { IsOf cache.now session.new }
-    ensures out { HasOut cache.now session.new 0 1 }
-    ensures caller { result.caller.session ≡ session.new.agent.caller.session }
-{
-    own_numbers();
-    own_steps();
+pub fn join_load<R: Abort + Wait>(rt: &R, cache: &Cache, session: &mut Session, key: &Key) -> Join {
     session.next_call();
     match cache.start(rt, session, key, &Op::Get, &mut Reply::Unit) {
         Started::Joined(join) => join,
@@ -56,11 +33,7 @@ pub fn join_load<R: Abort + Wait>(rt: &R, cache: &Cache, session: &mut Session, 
 }
 
 /// The first phase of the session's next call, which is refused since another session has reserved the key.
-pub fn is_busy<R: Abort + Wait>(rt: &R, cache: &Cache, session: &mut Session, key: &Key, op: &Op)
-    requires { MayCall cache.now session.old }
-    ensures { IsOf cache.now session.new }
-{
-    own_numbers();
+pub fn is_busy<R: Abort + Wait>(rt: &R, cache: &Cache, session: &mut Session, key: &Key, op: &Op) {
     session.next_call();
     match cache.start(rt, session, key, op, &mut Reply::Unit) {
         Started::Refused(why) => is(rt, why, Refusal::Busy),
@@ -70,27 +43,21 @@ pub fn is_busy<R: Abort + Wait>(rt: &R, cache: &Cache, session: &mut Session, ke
 
 // 2. Calls outside, with no stripe held.
 
-fn is_loader(first: &First) -> bool
-    ensures { result ≡ asks_loader first.now }
-{
+fn is_loader(first: &First) -> bool {
     match first {
         First::Loader => true,
         First::Nobody | First::Writer(_) | First::Processor { .. } => false,
     }
 }
 
-fn is_writer(first: &First) -> bool
-    ensures { result ≡ asks_writer first.now }
-{
+fn is_writer(first: &First) -> bool {
     match first {
         First::Writer(_) => true,
         First::Nobody | First::Loader | First::Processor { .. } => false,
     }
 }
 
-fn is_processor(first: &First) -> bool
-    ensures { result ≡ asks_processor first.now }
-{
+fn is_processor(first: &First) -> bool {
     match first {
         First::Processor { .. } => true,
         First::Nobody | First::Loader | First::Writer(_) => false,
@@ -100,18 +67,9 @@ fn is_processor(first: &First) -> bool
 /// The session's loader is called for a reservation.
 pub fn ask_loader<R: Abort + Wait>(
     rt: &R,
-    _cache: &Cache,
     session: &mut Session,
     ticket: &mut Ticket,
-) -> LoadDone<Ask>
-    requires own { IsOf _cache.now session.old }
-    requires unasked { ticket.old.asked ≡ false }
-    ensures own { IsOf _cache.now session.new }
-    ensures caller { session.new.agent.caller ≡ session.old.agent.caller }
-    ensures ticket { ticket.new.reservation ≡ ticket.old.reservation }
-    ensures first { asks_loader ticket.new.reservation.first ≡ true }
-    ensures done { (result.ask ≡ claim_of ticket.new.reservation) × (result.origin ≡ Live) }
-{
+) -> LoadDone<Ask> {
     assert!(rt; is_loader(&ticket.reservation().first), "a load");
     session.agent.ask_loader(rt, ticket.ask())
 }
@@ -122,15 +80,7 @@ pub fn ask_writer<R: Abort + Wait>(
     cache: &Cache,
     session: &mut Session,
     ticket: &mut Ticket,
-) -> WriteDone<Ask>
-    requires own { IsOf cache.now session.old }
-    requires unasked { ticket.old.asked ≡ false }
-    ensures own { IsOf cache.now session.new }
-    ensures caller { session.new.agent.caller ≡ session.old.agent.caller }
-    ensures ticket { ticket.new.reservation ≡ ticket.old.reservation }
-    ensures first { asks_writer ticket.new.reservation.first ≡ true }
-    ensures done { (result.ask ≡ claim_of ticket.new.reservation) × (result.origin ≡ Live) }
-{
+) -> WriteDone<Ask> {
     assert!(rt; cache.config().write_through, "write-through");
     assert!(rt; is_writer(&ticket.reservation().first), "a write");
     session.agent.ask_writer(rt, ticket.ask())
@@ -139,20 +89,10 @@ pub fn ask_writer<R: Abort + Wait>(
 /// A processor runs for a reservation.
 pub fn run<R: Abort + Wait>(
     rt: &R,
-    _cache: &Cache,
     session: &mut Session,
     ticket: &mut Ticket,
     processor: &mut Box<dyn EntryProcessor + Send + Drop>,
-) -> ProcDone<Ask>
-    requires own { IsOf _cache.now session.old }
-    requires unasked { (ticket.old.asked ≡ false) × (ticket.old.writer_asked ≡ false) }
-    ensures own { IsOf _cache.now session.new }
-    ensures caller { session.new.agent.caller ≡ session.old.agent.caller }
-    ensures ticket { ticket.new.reservation ≡ ticket.old.reservation }
-    ensures asked { (ticket.new.asked ≡ true) × (ticket.new.writer_asked ≡ false) }
-    ensures first { asks_processor ticket.new.reservation.first ≡ true }
-    ensures done { (result.ask ≡ claim_of ticket.new.reservation) × (result.origin ≡ Live) }
-{
+) -> ProcDone<Ask> {
     assert!(rt; is_processor(&ticket.reservation().first), "a processor");
     session
         .agent
@@ -166,15 +106,7 @@ pub fn report<R: Abort + Wait>(
     session: &mut Session,
     ticket: &mut Ticket,
     done: &ProcDone<Ask>,
-) -> Option<WriteDone<Ask>>
-    requires own { IsOf cache.now session.old }
-    requires asked { (ticket.old.asked ≡ true) × (ticket.old.writer_asked ≡ false) }
-    requires claim { done.now.ask ≡ claim_of ticket.old.reservation }
-    ensures own { IsOf cache.now session.new }
-    ensures caller { session.new.agent.caller ≡ session.old.agent.caller }
-    ensures ticket { ticket.new.reservation ≡ ticket.old.reservation }
-    ensures report { HasReport Live ticket.new.reservation (change_due cache.now.config done.now) result }
-{
+) -> Option<WriteDone<Ask>> {
     if !cache.config().write_through {
         return None;
     }
@@ -187,23 +119,12 @@ pub fn report<R: Abort + Wait>(
 // 3. Calls that are given up.
 
 /// A session gives up a call that has reserved its key and asked nobody. It may call again.
-pub fn gives_up<R: Abort + Wait>(rt: &R, cache: &Cache, session: &mut Session, ticket: Ticket)
-    requires out { HasOut cache.now session.old 1 0 }
-    requires caller { ticket.reservation.caller.session ≡ session.old.agent.caller.session }
-    requires unasked { ticket.asked ≡ false }
-    ensures { MayCall cache.now session.new }
-{
-    own_steps();
+pub fn gives_up<R: Abort + Wait>(rt: &R, cache: &Cache, session: &mut Session, ticket: Ticket) {
     cache.withdraw(rt, session, ticket);
 }
 
 /// A session is told to retry, since the load that it has joined was given up. It may call again.
-pub fn is_to_retry<R: Abort + Wait>(rt: &R, cache: &Cache, session: &mut Session, join: Join)
-    requires out { HasOut cache.now session.old 0 1 }
-    requires caller { join.caller.session ≡ session.old.agent.caller.session }
-    ensures { MayCall cache.now session.new }
-{
-    own_steps();
+pub fn is_to_retry<R: Abort + Wait>(rt: &R, cache: &Cache, session: &mut Session, join: Join) {
     let mut reply = Reply::Unit;
     match cache.pick_up(rt, session, join, &mut reply) {
         Picked::Again => {}
@@ -214,12 +135,7 @@ pub fn is_to_retry<R: Abort + Wait>(rt: &R, cache: &Cache, session: &mut Session
 // 4. Pick-ups, replies, and what is cached.
 
 /// The load that a session has joined isn't over.
-pub fn not_yet<R: Abort + Wait>(rt: &R, cache: &Cache, session: &mut Session, join: Join) -> Join
-    requires own { IsOf cache.now session.old }
-    requires caller { join.caller.session ≡ session.old.agent.caller.session }
-    ensures own { IsOf cache.now session.new }
-    ensures caller { result.caller.session ≡ session.new.agent.caller.session }
-{
+pub fn not_yet<R: Abort + Wait>(rt: &R, cache: &Cache, session: &mut Session, join: Join) -> Join {
     match cache.pick_up(rt, session, join, &mut Reply::Unit) {
         Picked::NotYet(join) => join,
         Picked::Answer { .. } | Picked::Again => panic!(rt; "the load is over"),
@@ -234,11 +150,7 @@ pub fn picks<R: Abort + Wait>(
     join: Join,
     place: u32,
     want: &str,
-)
-    requires own { IsOf cache.now session.old }
-    requires caller { join.caller.session ≡ session.old.agent.caller.session }
-    ensures { IsOf cache.now session.new }
-{
+) {
     let mut reply = Reply::Unit;
     match cache.pick_up(rt, session, join, &mut reply) {
         Picked::Answer {
@@ -264,11 +176,7 @@ pub fn sees<R: Abort + Wait>(
     cache: &Cache,
     session: &mut Session,
     keys: usize,
-)
-    requires own { IsOf cache.now session.old }
-    ensures own { IsOf cache.now session.new }
-    ensures caller { session.new.agent.caller ≡ session.old.agent.caller }
-{
+) {
     let config = *cache.config();
     assert!(rt; config.stripes > 0);
     let mut found = Vec::with_capacity(alloc, config.capacity).expect(rt, "memory");

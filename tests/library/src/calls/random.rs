@@ -1,8 +1,5 @@
 //! Random calls of four sessions, each on a thread of its own, on a cache that is too small for their keys, before a loader and a
 //! writer that fail now and then.
-ghost use Rattle.std.specs.Prelude.{◌<◌};
-ghost use Rattle.jc_cache.specs.Sessions.{MayCall};
-
 use super::answers::{called_bare, called_valued};
 use super::manners::DOWN;
 use super::real_time::Times;
@@ -32,9 +29,7 @@ struct Random(u64);
 
 impl Random {
     /// A number below 8.
-    fn next(&mut self) -> usize
-        ensures { result < 8 }
-    {
+    fn next(&mut self) -> usize {
         self.0 = self
             .0
             .wrapping_mul(6_364_136_223_846_793_005)
@@ -44,10 +39,7 @@ impl Random {
 }
 
 /// Makes a random call. It answers, or the loader or the writer was down.
-fn call_once<R: Abort + Wait>(rt: &R, cache: &Cache, session: &mut Session, random: &mut Random)
-    requires { MayCall cache.now session.old }
-    ensures { MayCall cache.now session.new }
-{
+fn call_once<R: Abort + Wait>(rt: &R, cache: &Cache, session: &mut Session, random: &mut Random) {
     let key = key(rt, WORDS[random.next()]);
     let op = random.next() % 6;
     if random.next() < 5 {
@@ -74,12 +66,9 @@ pub fn call_often<R: Abort + Wait>(
     cache: &Cache,
     session: &mut Session,
     seed: u64,
-)
-    requires { MayCall cache.now session.old }
-    ensures { MayCall cache.now session.new }
-{
+) {
     let mut random = Random(seed);
-    'calling: for _ in 0..CALLS {
+    for _ in 0..CALLS {
         let began = times.now();
         call_once(rt, cache, session, &mut random);
         times.note(rt, session.caller(), began);

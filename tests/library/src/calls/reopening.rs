@@ -4,9 +4,6 @@
 //!     reopen 1 2 100 read drops a=1
 //!
 //! The new sessions bring the loaders and the writers of the former ones.
-ghost use Rattle.std.specs.Prelude.{All};
-ghost use Rattle.jc_cache.specs.Sessions.{MayCall};
-
 use super::desk::entries_of;
 use super::histories::events;
 use super::scenes::{Scene, shape_of};
@@ -74,9 +71,7 @@ s2 own 1
 ";
 
 /// Ends a cache with all of its sessions.
-fn closed(rt: &impl Abort, alloc: Global, stage: Stage) -> Closed
-    requires { All (MayCall stage.owner.cache) stage.sessions.items }
-{
+fn closed(rt: &impl Abort, alloc: Global, stage: Stage) -> Closed {
     let (owner, sessions) = stage.into_parts();
     owner
         .close(alloc, sessions)
@@ -91,9 +86,7 @@ fn opened_again(
     closed: Closed,
     shape: &Config,
     dropped: &str,
-) -> Stage
-    ensures { All (MayCall result.owner.cache) result.sessions.items }
-{
+) -> Stage {
     let reopened = CacheOwner::reopen(alloc, closed, shape).ok();
     let Reopened {
         owner,
@@ -103,7 +96,7 @@ fn opened_again(
     let wanted = entries_of(rt, alloc, dropped);
     assert!(rt; rest.as_slice() == wanted.as_slice(), "dropped");
     let mut stage = Stage::of(alloc, owner);
-    'entering: for brought in outside {
+    for brought in outside {
         stage.enter(rt, alloc, brought.loader, brought.writer);
     }
     stage
@@ -132,7 +125,7 @@ fn opens_again(rt: HostRuntime) {
         let scene = Scene::of(&rt, text);
         let desk = Desk::of(&rt, alloc, scene.stored);
         let mut stage = two_of!(rt, desk, scene);
-        'playing: for line in scene.lines.split_terminator('\n') {
+        for line in scene.lines.split_terminator('\n') {
             if !line.starts_with("reopen ") {
                 stage.plays(&rt, alloc, &desk, line);
                 continue;
@@ -151,7 +144,7 @@ fn opens_ten_times(rt: HostRuntime) {
     let scene = Scene::of(&rt, "open 1 4 100 read write\n");
     let desk = Desk::of(&rt, alloc, scene.stored);
     let mut stage = two_of!(rt, desk, scene);
-    'reopening: for _ in 0..10 {
+    for _ in 0..10 {
         stage.plays(&rt, alloc, &desk, GENERATION);
         let closed = closed(&rt, alloc, stage);
         stage = opened_again(&rt, alloc, closed, &scene.shape, "");

@@ -14,9 +14,6 @@
 //! Of random calls it may say that the steps of each stripe are in the order of real time (`real_time.rt`):
 //!
 //!     steps in real time
-ghost use Rattle.std.specs.Prelude.{All};
-ghost use Rattle.jc_cache.specs.Sessions.{MayCall};
-
 use super::histories::are_steps;
 use super::real_time::are_in_real_time;
 use super::{
@@ -127,10 +124,7 @@ fn played<R: Abort + Wait + Threads + Sync>(
     desk: &Desk,
     stage: Stage,
     lines: &str,
-) -> Stage
-    requires { All (MayCall stage.owner.cache) stage.sessions.items }
-    ensures { All (MayCall result.owner.cache) result.sessions.items }
-{
+) -> Stage {
     let mut stage = stage;
     let Some((before, after)) = lines.split_once("reopen\n") else {
         stage.plays(rt, alloc, desk, lines);
@@ -156,9 +150,7 @@ fn plays<R: Abort + Wait + Threads + Sync>(
     desk: &Desk,
     stage: Stage,
     scene: &Scene,
-)
-    requires { All (MayCall stage.owner.cache) stage.sessions.items }
-{
+) {
     let stage = played(rt, alloc, desk, stage, scene.lines);
     let stripes = stage.close(rt, alloc);
     is(rt, stripes.len(), scene.shape.stripes);
@@ -179,7 +171,7 @@ fn plays_before_a_store(rt: HostRuntime) {
         let scene = Scene::of(&rt, text);
         let desk = Desk::of(&rt, alloc, scene.stored);
         let mut stage = Stage::new(&rt, alloc, &scene.shape);
-        'entering: for place in 0..SESSIONS {
+        for place in 0..SESSIONS {
             enter!(rt, stage, desk, scene.manners(&rt, place));
         }
         plays(&rt, alloc, &desk, stage, &scene);

@@ -1,9 +1,5 @@
 //! An entry processor that makes the calls which it is told.
-ghost use Rattle.std.specs.Prelude.{◌≡◌};
-ghost use Rattle.jc_model.specs.declared.processor.EntryAnswer.{EntryAnswer};
-ghost use Rattle.jc_mutentry.specs.Entries.{Makes, LoadsOn};
-
-use super::answers::value;
+use crate::common::words::value;
 use jc_model::EntryCall;
 use jc_mutentry::{EntryProcessor, MutableEntry};
 use jc_outside::CacheLoader;
@@ -49,11 +45,9 @@ impl Scripted {
 pub struct Silent;
 
 impl EntryProcessor for Silent {
-    ghost use Rattle.std.specs.Prelude.{◌≡◌, [], Ok, None};
+    ghost process_state = { ? };
 
-    ghost process_state = { λ p. [] };
-
-    ghost processes = { λ p key args calls answers answer after. (calls ≡ []) × (answer ≡ Ok None) };
+    ghost processes = { ? };
 
     fn process(
         &mut self,
@@ -112,12 +106,7 @@ fn make_call(
     loader: &mut dyn CacheLoader,
     call: &EntryCall,
     last: &mut Option<Value>,
-)
-    ensures key { entry.new.key ≡ entry.old.key }
-    ensures made { (answer : EntryAnswer) × Makes entry.old.entry call.now answer entry.new.entry }
-    ensures loader { LoadsOn loads load_state entry.old.key
-        entry.old.entry.load entry.new.entry.load loader.old loader.new }
-{
+) {
     match call {
         EntryCall::GetValue => *last = entry.get_value(loader).ok().flatten(),
         EntryCall::Exists => {
@@ -129,11 +118,9 @@ fn make_call(
 }
 
 impl EntryProcessor for Scripted {
-    ghost use Rattle.std.specs.Prelude.{[]};
+    ghost process_state = { ? };
 
-    ghost process_state = { λ p. [] };
-
-    ghost processes = { λ p key args calls answers answer after. Unit {0} };
+    ghost processes = { ? };
 
     fn process(
         &mut self,

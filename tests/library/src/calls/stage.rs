@@ -4,20 +4,13 @@
 //!     beside get a = 1 / await; get b = 2     what sessions do beside each other, each on a thread of its own
 //!     random                                  random calls of all sessions beside each other
 //!     meet                                    the first session tells the last one what it has seen
-ghost use Rattle.std.specs.Prelude.{◌≡◌, ◌++◌, ◌∷◌, [], All};
-ghost use Rattle.jc_cache.specs.Sessions.{MayCall};
-
 use super::closing::closed;
 use super::random::call_often;
 use super::*;
+use crate::common::push;
 use jc_cache::{CloseFault, ClosedStripe};
 use std::thread;
 use std::thread::Threads;
-
-/// What a session brings.
-pub type Loader = Option<Box<dyn CacheLoader + Send + Drop>>;
-
-pub type Writer = Option<Box<dyn CacheWriter + Send + Drop>>;
 
 /// The owner of a cache, and sessions that may call it.
 #[derive(Drop)]
@@ -47,10 +40,7 @@ fn play_at<R: Abort + Wait>(
     sessions: &mut Vec<Session>,
     at: usize,
     line: &str,
-)
-    requires { All (MayCall cache.now) sessions.old.items }
-    ensures { All (MayCall cache.now) sessions.new.items }
-{
+) {
     assert!(rt; at < sessions.len(), "{line}");
     desk.play(rt, alloc, cache, &mut sessions[at], line);
 }
@@ -72,28 +62,19 @@ fn play_beside<R: Abort + Wait + Threads + Sync>(
     cache: &Cache,
     sessions: &mut Vec<Session>,
     line: &str,
-)
-    requires { All (MayCall cache.now) sessions.old.items }
-    ensures { All (MayCall cache.now) sessions.new.items }
-{
+) {
     let threads = sessions.len();
     assert!(rt; threads > 0, "no session");
     thread::for_each_mut(
         rt,
         sessions.as_mut_slice(),
         threads,
-        &|i, session: &mut Session|
-            requires { MayCall cache.now session.old }
-            ensures { MayCall cache.entry.now session.new }
-        { desk.plays(rt, alloc, cache, session, part_at(line, i)) },
+        &|i, session: &mut Session| { desk.plays(rt, alloc, cache, session, part_at(line, i)) },
     );
 }
 
 /// The first session tells the last one what it has seen.
-fn tell_last<R: Abort + Wait>(rt: &R, cache: &Cache, sessions: &mut Vec<Session>)
-    requires { All (MayCall cache.now) sessions.old.items }
-    ensures { All (MayCall cache.now) sessions.new.items }
-{
+fn tell_last<R: Abort + Wait>(rt: &R, cache: &Cache, sessions: &mut Vec<Session>) {
     let Some(mut last) = sessions.pop() else {
         panic!(rt; "no session");
     };
@@ -108,20 +89,14 @@ fn call_beside<R: Abort + Wait + Threads + Sync>(
     desk: &Desk,
     cache: &Cache,
     sessions: &mut Vec<Session>,
-)
-    requires { All (MayCall cache.now) sessions.old.items }
-    ensures { All (MayCall cache.now) sessions.new.items }
-{
+) {
     let threads = sessions.len();
     assert!(rt; threads > 0, "no session");
     thread::for_each_mut(
         rt,
         sessions.as_mut_slice(),
         threads,
-        &|seed, session: &mut Session|
-            requires { MayCall cache.now session.old }
-            ensures { MayCall cache.entry.now session.new }
-        { call_often(rt, &desk.times, cache, session, seed as u64) },
+        &|seed, session: &mut Session| { call_often(rt, &desk.times, cache, session, seed as u64) },
     );
 }
 
@@ -133,10 +108,7 @@ fn play_line<R: Abort + Wait + Threads + Sync>(
     cache: &Cache,
     sessions: &mut Vec<Session>,
     line: &str,
-)
-    requires { All (MayCall cache.now) sessions.old.items }
-    ensures { All (MayCall cache.now) sessions.new.items }
-{
+) {
     let (word, rest) = first_word(line);
     match word {
         "beside" => play_beside(rt, alloc, desk, cache, sessions, rest),
@@ -157,37 +129,21 @@ fn play_lines<R: Abort + Wait + Threads + Sync>(
     cache: &Cache,
     sessions: &mut Vec<Session>,
     text: &str,
-)
-    requires { All (MayCall cache.now) sessions.old.items }
-    ensures { All (MayCall cache.now) sessions.new.items }
-{
+) {
     for line in text.split_terminator('\n') {
         play_line(rt, alloc, desk, cache, sessions, line);
     }
 }
 
-pub fn push(rt: &impl Abort, sessions: &mut Vec<Session>, session: Session)
-    ensures { sessions.new.items ≡ sessions.old.items ++ session ∷ [] }
-{
-    match sessions.push(session) {
-        Ok(()) => {}
-        Err(_failed) => panic!(rt; "memory"),
-    }
-}
-
 impl Stage {
     /// A cache of this shape, without sessions.
-    pub fn new(rt: &impl Abort, alloc: Global, config: &Config) -> Stage
-        ensures { All (MayCall result.owner.cache) result.sessions.items }
-    {
+    pub fn new(rt: &impl Abort, alloc: Global, config: &Config) -> Stage {
         let owner = CacheOwner::new(alloc, config).ok().expect(rt, "a cache");
         Stage::of(alloc, owner)
     }
 
     /// The cache of this owner, without sessions.
-    pub fn of(alloc: Global, owner: CacheOwner) -> Stage
-        ensures { All (MayCall result.owner.cache) result.sessions.items }
-    {
+    pub fn of(alloc: Global, owner: CacheOwner) -> Stage {
         Stage {
             owner,
             sessions: Vec::new(alloc),
@@ -195,10 +151,13 @@ impl Stage {
     }
 
     /// One more session, with this loader and this writer.
-    pub fn enter(&mut self, rt: &impl Abort, alloc: Global, loader: Loader, writer: Writer)
-        requires { All (MayCall self.old.owner.cache) self.old.sessions.items }
-        ensures { All (MayCall self.new.owner.cache) self.new.sessions.items }
-    {
+    pub fn enter(
+        &mut self,
+        rt: &impl Abort,
+        alloc: Global,
+        loader: Option<Loader>,
+        writer: Option<Writer>,
+    ) {
         let Ok(session) = self.owner.session(alloc, loader, writer) else {
             panic!(rt; "no session");
         };
@@ -212,36 +171,25 @@ impl Stage {
         alloc: Global,
         desk: &Desk,
         text: &str,
-    )
-        requires { All (MayCall self.old.owner.cache) self.old.sessions.items }
-        ensures { All (MayCall self.new.owner.cache) self.new.sessions.items }
-    {
+    ) {
         let sessions = &mut self.sessions;
         play_lines(rt, alloc, desk, self.owner.cache(), sessions, text);
     }
 
     /// Ends the cache with all of its sessions.
-    pub fn close<R: Abort + Wait>(self, rt: &R, alloc: Global) -> Vec<ClosedStripe>
-        requires { All (MayCall self.owner.cache) self.sessions.items }
-    {
+    pub fn close<R: Abort + Wait>(self, rt: &R, alloc: Global) -> Vec<ClosedStripe> {
         let Stage { owner, sessions } = self;
         closed(rt, alloc, owner, sessions)
     }
 
     /// The owner of the cache, and its sessions.
-    pub fn into_parts(self) -> (CacheOwner, Vec<Session>)
-        requires { All (MayCall self.owner.cache) self.sessions.items }
-        ensures { All (MayCall result.0.cache) result.1.items }
-    {
+    pub fn into_parts(self) -> (CacheOwner, Vec<Session>) {
         let Stage { owner, sessions } = self;
         (owner, sessions)
     }
 
     /// The cache isn't closed without its last session. It comes back with those that were handed in.
-    pub fn close_without_last(self, rt: &impl Abort, alloc: Global) -> Stage
-        requires { All (MayCall self.owner.cache) self.sessions.items }
-        ensures { All (MayCall result.owner.cache) result.sessions.items }
-    {
+    pub fn close_without_last(self, rt: &impl Abort, alloc: Global) -> Stage {
         let Stage {
             owner,
             mut sessions,
@@ -257,11 +205,7 @@ impl Stage {
 }
 
 /// What a close that was refused has handed back, and the session that was missing.
-fn reopened(rt: &impl Abort, fault: CloseFault, last: Session) -> Stage
-    requires last { MayCall fault.owner.cache last }
-    requires others { All (MayCall fault.owner.cache) fault.sessions.items }
-    ensures { All (MayCall result.owner.cache) result.sessions.items }
-{
+fn reopened(rt: &impl Abort, fault: CloseFault, last: Session) -> Stage {
     let CloseFault {
         refusal,
         owner,

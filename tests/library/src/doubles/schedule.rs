@@ -1,13 +1,8 @@
 //! The call at which a fault happens.
-ghost use Rattle.std.specs.Prelude.{◌≡◌, ◌-◌};
-ghost use Rattle.jc_store.specs.Schedules.{is_due};
 
 /// Counts a call down, and returns whether it is the scheduled one. `left` is the number of calls up to and with the scheduled
 /// one; at 0 no call is scheduled.
-pub(crate) fn count_down(left: &mut u64) -> bool
-    ensures due { result ≡ is_due left.old }
-    ensures left { left.new ≡ left.old - 1 }
-{
+pub(crate) fn count_down(left: &mut u64) -> bool {
     let is_due = *left == 1;
     *left = left.saturating_sub(1);
     is_due

@@ -1,6 +1,4 @@
 //! Calls, and how they end.
-ghost use Rattle.jc_cache.specs.Sessions.{MayCall};
-
 use super::words::Line;
 use super::*;
 use indexmap::IndexMap;
@@ -100,10 +98,7 @@ fn called_at_key<R: Abort + Wait>(
     word: &str,
     key: &Key,
     value: &Value,
-) -> Option<Refusal>
-    requires { MayCall cache.now session.old }
-    ensures { MayCall cache.now session.new }
-{
+) -> Option<Refusal> {
     match word {
         "get" => cache.get(rt, session, key).err(),
         "put" => cache.put(rt, session, key, value).err(),
@@ -124,10 +119,7 @@ fn called<R: Abort + Wait>(
     cache: &Cache,
     session: &mut Session,
     line: &Line,
-) -> Result<(), BulkFault>
-    requires { MayCall cache.now session.old }
-    ensures { MayCall cache.now session.new }
-{
+) -> Result<(), BulkFault> {
     match line.word {
         "putall" => put_all(alloc, rt, cache, session, &line.entries),
         "removeall" => remove_all(alloc, rt, cache, session, &line.keys),
@@ -146,10 +138,7 @@ pub fn call<R: Abort + Wait>(
     session: &mut Session,
     processor: &mut Processor,
     line: &Line,
-) -> Ended
-    requires { MayCall cache.now session.old }
-    ensures { MayCall cache.now session.new }
-{
+) -> Ended {
     match line.word {
         "getall" => Ended::of_found(alloc, get_all(alloc, rt, cache, session, &line.keys)),
         "invokeall" => {

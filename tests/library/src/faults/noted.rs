@@ -152,11 +152,11 @@ fn code_of(answer: &Result<Option<Value>, u32>) -> Option<u32> {
 }
 
 impl<L: CacheLoader, R: Abort + Wait + Drop> CacheLoader for Watched<L, R> {
-    ghost load_state = { λ l. L.load_state l.inner };
+    ghost load_state = { ? };
 
-    ghost loads = { λ l key answer after. Unit {0} };
+    ghost loads = { ? };
 
-    ghost loads_all = { λ l keys answer answers after. Unit {0} };
+    ghost loads_all = { ? };
 
     fn load(&mut self, key: &Key) -> Result<Option<Value>, u32> {
         let answer = self.inner.load(key);
@@ -172,13 +172,13 @@ impl<L: CacheLoader, R: Abort + Wait + Drop> CacheLoader for Watched<L, R> {
 }
 
 impl<W: CacheWriter, R: Abort + Wait + Drop> CacheWriter for Watched<W, R> {
-    ghost write_state = { λ w. W.write_state w.inner };
+    ghost write_state = { ? };
 
-    ghost writes = { λ w key change answer after. Unit {0} };
+    ghost writes = { ? };
 
-    ghost writes_all = { λ w entries answer left after. Unit {0} };
+    ghost writes_all = { ? };
 
-    ghost deletes_all = { λ w keys answer left after. Unit {0} };
+    ghost deletes_all = { ? };
 
     fn write(&mut self, key: &Key, value: &Value) -> Result<(), u32> {
         let answer = self.inner.write(key, value);

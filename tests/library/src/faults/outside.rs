@@ -2,10 +2,12 @@
 use super::calls::Ended;
 use super::noted::{Log, Noted, Watched};
 use super::trial::{Fault, LAST, Trial, load_code};
-use super::words::{Line, pairs_of};
+use super::words::Line;
 use super::*;
+use crate::common::words::pair_list;
+use crate::doubles::{ScheduledLoader, ScheduledWriter};
 use indexmap::{IndexMap, IndexSet};
-use jc_store::{ScheduledLoader, ScheduledWriter, SharedStore, Store, StoreLoader, StoreWriter};
+use jc_store::{SharedStore, Store, StoreLoader, StoreWriter};
 
 /// What the store has at first.
 const STORED: &str = "a=1 c=3 k01=1 k07=7 k12=12 k17=17 k23=23 k24=24 k31=31";
@@ -20,7 +22,7 @@ pub struct Outside {
 
 impl Outside {
     pub fn new(rt: &impl Abort, alloc: Global, trial: &Trial) -> Self {
-        let store = Store::of(alloc, &pairs_of(rt, alloc, STORED)).expect(rt, "memory");
+        let store = Store::of(alloc, &pair_list(rt, alloc, STORED)).expect(rt, "memory");
         Outside {
             store: SharedStore::new(alloc, store).expect(rt, "memory"),
             logs: logs(rt, alloc, trial.sessions),

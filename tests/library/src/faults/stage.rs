@@ -1,16 +1,13 @@
 //! A cache, and sessions that play a tour on it beside each other, each on a thread of its own.
-ghost use Rattle.std.specs.Prelude.{◌≡◌, ◌++◌, ◌∷◌, [], All};
-ghost use Rattle.jc_cache.specs.Sessions.{IsOf, MayCall};
-
 use super::calls::{Ended, call};
-use super::listening::Hearing;
 use super::outside::Outside;
 use super::words::Line;
 use super::*;
+use crate::common::listening::Hearing;
+use crate::common::{increment, push};
 use jc_cache::{Closed, ClosedStripe, Event};
 use jc_loadall::load_all;
 use jc_model::legal;
-use jc_store::Increment;
 use std::thread;
 use std::thread::Threads;
 
@@ -43,15 +40,6 @@ pub fn bring(rt: &impl Abort, brought: &mut Vec<Brought>, loader: Loader, writer
         .expect(rt, "memory");
 }
 
-pub fn push(rt: &impl Abort, sessions: &mut Vec<Session>, session: Session)
-    ensures { sessions.new.items ≡ sessions.old.items ++ session ∷ [] }
-{
-    match sessions.push(session) {
-        Ok(()) => {}
-        Err(_failed) => panic!(rt; "memory"),
-    }
-}
-
 /// One more session.
 fn enter(
     rt: &impl Abort,
@@ -59,10 +47,7 @@ fn enter(
     owner: &mut CacheOwner,
     sessions: &mut Vec<Session>,
     brought: Brought,
-)
-    requires { All (MayCall owner.old.cache) sessions.old.items }
-    ensures { All (MayCall owner.new.cache) sessions.new.items }
-{
+) {
     let Brought { loader, writer } = brought;
     let Ok(session) = owner.session(alloc, Some(loader), Some(writer)) else {
         panic!(rt; "no session");
@@ -76,9 +61,7 @@ pub fn entered(
     alloc: Global,
     owner: &mut CacheOwner,
     brought: Vec<Brought>,
-) -> Vec<Session>
-    ensures { All (MayCall owner.new.cache) result.items }
-{
+) -> Vec<Session> {
     let mut sessions = Vec::new(alloc);
     for one in brought {
         enter(rt, alloc, owner, &mut sessions, one);
@@ -96,10 +79,7 @@ fn play<R: Abort + Wait>(
     processor: &mut Processor,
     lines: &[&str],
     who: usize,
-)
-    requires { MayCall cache.now session.old }
-    ensures { MayCall cache.now session.new }
-{
+) {
     for text in lines {
         let line = Line::of(rt, alloc, text);
         let ended = call(rt, alloc, cache, session, processor, &line);
@@ -115,20 +95,14 @@ fn play_beside<R: Abort + Wait + Threads + Sync>(
     cache: &Cache,
     sessions: &mut Vec<Session>,
     lines: &[&str],
-)
-    requires { All (MayCall cache.now) sessions.old.items }
-    ensures { All (MayCall cache.now) sessions.new.items }
-{
+) {
     let threads = sessions.len();
     assert!(rt; threads > 0, "no session");
     thread::for_each_mut(
         rt,
         sessions.as_mut_slice(),
         threads,
-        &|who, session: &mut Session|
-            requires { MayCall cache.now session.old }
-            ensures { MayCall cache.entry.now session.new }
-        {
+        &|who, session: &mut Session| {
             let mut processor = increment(rt, alloc);
             play(
                 rt,
@@ -144,10 +118,6 @@ fn play_beside<R: Abort + Wait + Threads + Sync>(
     );
 }
 
-pub fn increment(rt: &impl Abort, alloc: Global) -> Processor {
-    Box::new(alloc, Increment).ok().expect(rt, "memory")
-}
-
 /// Loads many keys by all sessions together.
 fn load_together<R: Abort + Wait + Threads + Sync>(
     rt: &R,
@@ -155,10 +125,7 @@ fn load_together<R: Abort + Wait + Threads + Sync>(
     outside: &Outside,
     cache: &Cache,
     sessions: &mut Vec<Session>,
-)
-    requires { All (MayCall cache.now) sessions.old.items }
-    ensures { All (MayCall cache.now) sessions.new.items }
-{
+) {
     assert!(rt; sessions.len() > 0, "no session");
     let line = Line::of(rt, alloc, MANY);
     let hearing = Hearing::new(rt, alloc);
@@ -190,9 +157,7 @@ fn close<R: Abort + Wait>(
     outside: &Outside,
     owner: CacheOwner,
     sessions: Vec<Session>,
-)
-    requires { All (λ s. IsOf owner.cache s) sessions.items }
-{
+) {
     let closed = owner.close(alloc, sessions).ok();
     let Closed {
         stripes,
@@ -214,10 +179,7 @@ fn play_all<R: Abort + Wait + Threads + Sync>(
     cache: &Cache,
     sessions: &mut Vec<Session>,
     lines: &[&str],
-)
-    requires { All (MayCall cache.now) sessions.old.items }
-    ensures { All (MayCall cache.now) sessions.new.items }
-{
+) {
     play_beside(rt, alloc, outside, cache, sessions, lines);
     load_together(rt, alloc, outside, cache, sessions);
 }

@@ -1,16 +1,12 @@
 //! A processor that goes on after a failed load.
-ghost use Rattle.std.specs.Prelude.{◌≡◌};
-ghost use Rattle.jc_model.specs.declared.processor.EntryAnswer.{EntryAnswer};
-ghost use Rattle.jc_mutentry.specs.Entries.{Makes, LoadsOn};
-ghost use Rattle.jc_cache.specs.Sessions.{MayCall};
-
 use super::noted::Log;
-use super::words::{key, value};
 use super::*;
+use crate::common::words::{key, value};
+use crate::doubles::{LoadFault, ScheduledLoader};
 use jc_cache::MutableEntry;
 use jc_invoke::invoke;
 use jc_model::EntryCall;
-use jc_store::{LoadFault, ScheduledLoader, SharedStore, Store};
+use jc_store::{SharedStore, Store};
 use std::sync::Arc;
 use std::sync::atomic::AtomicU64;
 use std::sync::atomic::Ordering::SeqCst;
@@ -40,12 +36,7 @@ fn make_call(
     loader: &mut dyn CacheLoader,
     call: &EntryCall,
     answer: &AtomicU64,
-)
-    ensures key { entry.new.key ≡ entry.old.key }
-    ensures made { (answer : EntryAnswer) × Makes entry.old.entry call.now answer entry.new.entry }
-    ensures loader { LoadsOn loads load_state entry.old.key
-        entry.old.entry.load entry.new.entry.load loader.old loader.new }
-{
+) {
     match call {
         EntryCall::GetValue => {
             let got = entry.get_value(loader);
@@ -58,11 +49,9 @@ fn make_call(
 }
 
 impl EntryProcessor for Stubborn {
-    ghost use Rattle.std.specs.Prelude.{[]};
+    ghost process_state = { ? };
 
-    ghost process_state = { λ p. [] };
-
-    ghost processes = { λ p key args calls answers answer after. Unit {0} };
+    ghost processes = { ? };
 
     fn process(
         &mut self,
@@ -80,9 +69,7 @@ impl EntryProcessor for Stubborn {
 }
 
 /// The load fails with 6: that is the call's answer, and nothing is cached.
-fn fails<R: Abort + Wait>(rt: &R, cache: &Cache, session: &mut Session, processor: &mut Processor)
-    requires { MayCall cache.now session.old }
-{
+fn fails<R: Abort + Wait>(rt: &R, cache: &Cache, session: &mut Session, processor: &mut Processor) {
     let b = key(rt, "b");
     let answer = invoke(rt, cache, session, &b, processor, &[]);
     is(rt, answer, Err(Refusal::LoaderFailed(6)));

@@ -1,7 +1,7 @@
 //! Which fault comes at which call of a loader or a writer.
-use super::words::{list_of, pairs_of};
 use super::*;
-use jc_store::{LoadFault, WriteFault};
+use crate::common::words::{key_list, pair_list};
+use crate::doubles::{LoadFault, WriteFault};
 
 /// The code of the first session's loader, if it fails. The other sessions' have those that follow.
 const LOADER_DOWN: u32 = 6;
@@ -67,7 +67,7 @@ impl Trial {
     /// The fault of the loader of the session at this place.
     pub fn load_fault(&self, rt: &impl Abort, alloc: Global, who: usize) -> LoadFault {
         match self.fault {
-            Fault::AlsoAnswers => LoadFault::AlsoAnswers(pairs_of(rt, alloc, "z=9 c=8 c=7")),
+            Fault::AlsoAnswers => LoadFault::AlsoAnswers(pair_list(rt, alloc, "z=9 c=8 c=7")),
             Fault::Fails | Fault::Leaves(_, _) => LoadFault::Fails(load_code(who)),
         }
     }
@@ -78,9 +78,9 @@ impl Trial {
             Fault::Fails | Fault::AlsoAnswers => ("", None),
         };
         WriteFault {
-            leaves: list_of(rt, alloc, leaves),
+            leaves: key_list(rt, alloc, leaves),
             code,
-            adds: pairs_of(rt, alloc, "z=9"),
+            adds: pair_list(rt, alloc, "z=9"),
         }
     }
 }

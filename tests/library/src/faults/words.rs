@@ -1,14 +1,7 @@
 //! Lines of calls.
 use super::*;
+use crate::common::words::{key, value};
 use indexmap::{IndexMap, IndexSet};
-
-pub fn key(rt: &impl Abort, word: &str) -> Key {
-    Key::new(word.as_bytes()).expect(rt, "a key")
-}
-
-pub fn value(rt: &impl Abort, word: &str) -> Value {
-    Value::new(word.as_bytes()).expect(rt, "a value")
-}
 
 /// A line: the word of a call, and its keys, with their values. A key without a value has the empty one.
 #[derive(Drop)]
@@ -54,32 +47,10 @@ pub fn entries_of(rt: &impl Abort, alloc: Global, words: &str) -> IndexMap<Key, 
     entries
 }
 
-/// The same as a list.
-pub fn pairs_of(rt: &impl Abort, alloc: Global, words: &str) -> Vec<(Key, Value)> {
-    let mut pairs = Vec::new(alloc);
-    for word in words.split_whitespace() {
-        let (k, v) = word.split_once('=').expect(rt, "a value");
-        pairs
-            .push((key(rt, k), value(rt, v)))
-            .ok()
-            .expect(rt, "memory");
-    }
-    pairs
-}
-
 pub fn keys_of(rt: &impl Abort, alloc: Global, entries: &IndexMap<Key, Value>) -> IndexSet<Key> {
     let mut keys = IndexSet::new(alloc);
     for (k, _value) in entries {
         let _is_new = keys.insert(*k).ok().expect(rt, "memory");
-    }
-    keys
-}
-
-/// The keys that these words name, as a list.
-pub fn list_of(rt: &impl Abort, alloc: Global, words: &str) -> Vec<Key> {
-    let mut keys = Vec::new(alloc);
-    for word in words.split_whitespace() {
-        keys.push(key(rt, word)).ok().expect(rt, "memory");
     }
     keys
 }

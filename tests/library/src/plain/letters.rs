@@ -1,5 +1,5 @@
 //! A store of letters.
-use crate::{Load, Write};
+use jc_plain::{Load, Write};
 use jc_types::{Key, Value};
 
 /// It has each small letter as its own value, and nothing at any other key. At each capital letter it fails, with the letter as the

@@ -1,7 +1,7 @@
 //! Calls of a listener.
 use super::is;
-use crate::{Listen, Listening};
 use jc_outside::CompletionListener;
+use jc_plain::{Listen, Listening};
 use jc_types::Refusal;
 
 /// Counts its calls, and keeps the last failure.

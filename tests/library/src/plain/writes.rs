@@ -1,12 +1,10 @@
 //! Writes and deletes of one key and of many.
-ghost use Rattle.std.specs.Prelude.{◌≡◌, IsSome};
-
 use super::letters::Letters;
 use super::{is, key, value};
-use crate::{Write, Writing};
 use indexmap::{IndexMap, IndexSet};
 use jc_model::{Change, WriteAnswer};
 use jc_outside::{Ask, AskWrite, CacheWriter, Hands, Outside, call_writer};
+use jc_plain::{Write, Writing};
 use jc_types::{Key, Value};
 use std::alloc::Global;
 use std::process::Abort;
@@ -140,7 +138,7 @@ struct Asked {
 }
 
 impl Ask for Asked {
-    ghost key = { λ a. a.key };
+    ghost key = { ? };
 
     fn key(&self) -> &Key {
         &self.key
@@ -152,9 +150,7 @@ impl Ask for Asked {
 }
 
 impl AskWrite for Asked {
-    ghost use Rattle.std.specs.Prelude.{Some};
-
-    ghost change = { λ a. Some a.change };
+    ghost change = { ? };
 
     fn change(&self) -> Change {
         self.change
@@ -168,12 +164,7 @@ fn change<R: Abort + Wait>(
     byte: u8,
     is_write: bool,
     code: Option<u32>,
-)
-    requires held { hands.old.held ≡ 0 }
-    requires writer { IsSome hands.old.outside.writer }
-    ensures held { hands.new.held ≡ 0 }
-    ensures writer { IsSome hands.new.outside.writer }
-{
+) {
     let change = if is_write {
         Change::Write(value(rt, b'1'))
     } else {

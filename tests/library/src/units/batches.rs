@@ -1,7 +1,5 @@
 //! The split of batches: each subset of three keys is left, with and without a fault, with and without a key that the writer
 //! added.
-ghost use Rattle.std.specs.Prelude.{◌≡◌, length};
-
 use super::{is, key, value};
 use indexmap::{IndexMap, IndexSet};
 use jc_batch::{BatchKeys, DeleteBatch, Split, WriteBatch};

@@ -1,7 +1,4 @@
 //! Long runs of random calls, the same on the entries and on a plain list, and on a history and a plain vector of events.
-ghost use Rattle.std.specs.Prelude.{◌+◌, ◌≤◌};
-ghost use Rattle.jc_history.specs.Values.{IsStorable, values_in_op, values_in_load, values_in_process};
-
 use super::{is, key, value};
 use jc_entries::{Entries, Inserted};
 use jc_history::History;
@@ -169,9 +166,7 @@ fn entries_are_a_plain_list(rt: HostRuntime) {
 // 2. A history.
 
 impl Numbers {
-    fn op(&mut self, rt: &impl Abort) -> Op
-        ensures { values_in_op result ≤ 2 }
-    {
+    fn op(&mut self, rt: &impl Abort) -> Op {
         let (first, second) = (self.value(rt), self.value(rt));
         match self.below(14) {
             0 => Op::Get,
@@ -196,9 +191,7 @@ impl Numbers {
         }
     }
 
-    fn load(&mut self, rt: &impl Abort) -> LoadAnswer
-        ensures { values_in_load result ≤ 1 }
-    {
+    fn load(&mut self, rt: &impl Abort) -> LoadAnswer {
         match self.below(4) {
             0 => LoadAnswer::Found(self.value(rt)),
             1 => LoadAnswer::Nothing,
@@ -207,9 +200,7 @@ impl Numbers {
         }
     }
 
-    fn process(&mut self, rt: &impl Abort) -> ProcessAnswer
-        ensures { values_in_process result ≤ 2 }
-    {
+    fn process(&mut self, rt: &impl Abort) -> ProcessAnswer {
         match self.below(4) {
             0 => ProcessAnswer::Ended {
                 effect: Effect::Set(self.value(rt)),
@@ -235,11 +226,7 @@ impl Numbers {
     }
 
     /// A step of this operation, with these answers of the loader and the processor.
-    #[tactic(auto, using(jc_history::proofs::CallerLemmas::few_in_reply))]
-    fn step(&mut self, rt: &impl Abort, op: Op, load: LoadAnswer, process: ProcessAnswer) -> Event
-        requires { values_in_op op + (values_in_load load + values_in_process process) ≤ 2 }
-        ensures { IsStorable result }
-    {
+    fn step(&mut self, rt: &impl Abort, op: Op, load: LoadAnswer, process: ProcessAnswer) -> Event {
         Event::Step {
             caller: Caller {
                 session: 1 + self.below(32) as u32,
@@ -257,9 +244,7 @@ impl Numbers {
         }
     }
 
-    fn event(&mut self, rt: &impl Abort) -> Event
-        ensures { IsStorable result }
-    {
+    fn event(&mut self, rt: &impl Abort) -> Event {
         match self.below(4) {
             0 => Event::Evict {
                 key: self.key(rt),
@@ -282,9 +267,7 @@ impl Numbers {
 }
 
 /// Pushes an event into both, and reads it back.
-fn pushes_both(rt: &impl Abort, history: &mut History, plain: &mut Vec<Event>, event: &Event)
-    requires { IsStorable event.now }
-{
+fn pushes_both(rt: &impl Abort, history: &mut History, plain: &mut Vec<Event>, event: &Event) {
     assert!(rt; history.promise(1));
     history.push(event, true);
     plain.push(*event).expect(rt, "memory");

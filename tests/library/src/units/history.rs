@@ -1,6 +1,4 @@
 //! Room for events, and events read back.
-ghost use Rattle.jc_history.specs.Values.{IsStorable};
-
 use super::{is, key, value};
 use jc_history::{History, LentStep};
 use jc_model::{Cause, Effect, Event, LoadAnswer, Op, Out, ProcessAnswer, Reply, WriteAnswer};
@@ -51,18 +49,14 @@ fn promises_up_to_the_limit(rt: HostRuntime) {
 }
 
 /// Pushes into a place that is promised for it.
-fn pushes(rt: &impl Abort, history: &mut History, event: &Event)
-    requires { IsStorable event.now }
-{
+fn pushes(rt: &impl Abort, history: &mut History, event: &Event) {
     let fits = history.promise(1);
     assert!(rt; fits);
     history.push(event, true);
 }
 
 /// Pushes a step of which each part is lent into a place that is promised for it.
-fn pushes_lent(rt: &impl Abort, history: &mut History, event: &Event)
-    requires { IsStorable event.now }
-{
+fn pushes_lent(rt: &impl Abort, history: &mut History, event: &Event) {
     let fits = history.promise(1);
     assert!(rt; fits);
     match event {
@@ -88,9 +82,7 @@ fn pushes_lent(rt: &impl Abort, history: &mut History, event: &Event)
     }
 }
 
-fn hit(key: Key, value: Value) -> Event
-    ensures { IsStorable result }
-{
+fn hit(key: Key, value: Value) -> Event {
     Event::Step {
         caller: Caller {
             session: 1,
@@ -105,9 +97,7 @@ fn hit(key: Key, value: Value) -> Event
 }
 
 /// Promises `n` places, pushes into two of them, and gives the rest back.
-fn pushes_two_of(rt: &impl Abort, history: &mut History, n: usize, event: &Event)
-    requires { IsStorable event.now }
-{
+fn pushes_two_of(rt: &impl Abort, history: &mut History, n: usize, event: &Event) {
     let fits = history.promise(n);
     assert!(rt; fits && 2 <= n);
     history.push(event, true);
@@ -130,10 +120,7 @@ fn pushes_into_promised_places(rt: HostRuntime) {
 }
 
 /// A step with as many values as an event has, and each field at its longest. Its reply is its processor's answer.
-#[tactic(auto, using(jc_history::proofs::CallerLemmas::same_bytes))]
-fn largest(key: Key, loaded: Value, outcome: Value) -> Event
-    ensures { IsStorable result }
-{
+fn largest(key: Key, loaded: Value, outcome: Value) -> Event {
     Event::Step {
         caller: Caller {
             session: u32::MAX,

@@ -1,7 +1,4 @@
 //! Joiners of two loads, answered and told to retry, and a table that is full. No test is given an allocator.
-ghost use Rattle.std.specs.Prelude.{◌≡◌};
-ghost use Rattle.jc_inflight.specs.Joining.{has_joined};
-
 use super::{is, key};
 use jc_inflight::{JoinState, Joiner, Joiners};
 use jc_types::{Caller, Key};
@@ -12,9 +9,7 @@ fn caller(session: u32, call: u64) -> Caller {
 }
 
 /// Whether a call has joined a load of the key and hasn't taken its answer.
-fn has_joined(joiners: &[Joiner], caller: Caller, key: &Key) -> bool
-    ensures { result ≡ has_joined caller key.now joiners.now }
-{
+fn has_joined(joiners: &[Joiner], caller: Caller, key: &Key) -> bool {
     joiners.iter().any(|j| j.belongs_to(caller, key))
 }
 

@@ -2,9 +2,6 @@
 //!
 //! A row is `STRIPES of CAPACITY: ENTRIES`, a line for each stripe with the entries that it keeps, by the stripes' numbers, and a
 //! line `drops ENTRIES`. `nothing` stands for no entries.
-ghost use Rattle.std.specs.Prelude.{◌≡◌, IsTrue, true};
-ghost use Rattle.jc_model.specs.Listed.{has_distinct_keys};
-
 use super::script::number;
 use super::{is, pairs};
 use jc_model::legal;
@@ -65,9 +62,7 @@ fn shape(rt: &impl Abort, text: &str) -> Config {
 }
 
 /// Whether no key is there twice, by what a stripe of the largest size may open with.
-pub(super) fn is_once(rt: &impl Abort, alloc: Global, entries: &[(Key, Value)]) -> bool
-    ensures { IsTrue result → has_distinct_keys entries.now ≡ true }
-{
+pub(super) fn is_once(rt: &impl Abort, alloc: Global, entries: &[(Key, Value)]) -> bool {
     let config = Config {
         stripes: 1,
         capacity: 4096,

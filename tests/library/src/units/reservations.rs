@@ -13,9 +13,9 @@ struct Slot {
 }
 
 impl Reserved for Slot {
-    ghost key = { λ s. s.key };
+    ghost key = { ? };
 
-    ghost number = { λ s. s.number };
+    ghost number = { ? };
 
     fn key(&self) -> &Key {
         &self.key

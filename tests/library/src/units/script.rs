@@ -1,7 +1,6 @@
 //! Histories as texts, which are read and judged.
 //!
-//! Histories are texts, since the cost to prove a table of rows grows faster than its length. The words are those of scripts and
-//! transcripts. A row is a name, its lines, and `legal` or `illegal`. Its lines are:
+//! The words are those of scripts and transcripts. A row is a name, its lines, and `legal` or `illegal`. Its lines are:
 //!
 //! - `set KEY VALUE`, an entry of the opening;
 //! - `CALL SESSION OP KEY [, ANSWER], is REPLY [shared PLACE]`, a step, as `1 s1 get a, read 1, is 1`. Nobody was asked if there

@@ -1,8 +1,5 @@
 //! A stripe that is driven phase by phase, with the tickets and joins that are out. The conditions of a phase are asserted before
 //! it.
-ghost use Rattle.std.specs.Prelude.{◌≡◌, IsTrue};
-ghost use Rattle.jc_outside.specs.declared.done.Origin.TheVariants.{Played};
-
 use super::super::reopenings::is_once;
 use super::words::Seen;
 use jc_model::{Op, Out, Reply};
@@ -12,23 +9,11 @@ use jc_stripe::{
 };
 use jc_types::{Caller, Config, Key, Value};
 use std::alloc::Global;
-use std::marker::Model;
 use std::process::Abort;
 
 /// A ticket that hasn't asked.
 pub struct Unasked {
     ticket: Ticket,
-}
-
-impl Model for Unasked {
-    ghost use Rattle.std.specs.Prelude.{◌≡◌, false};
-    ghost use Rattle.jc_stripe.specs.Tickets.{TicketClaim};
-
-    ghost Value = { TicketClaim };
-
-    ghost view = { λ u. u.ticket };
-
-    ghost invariant = { λ u. (u.ticket.asked ≡ false) × (u.ticket.writer_asked ≡ false) };
 }
 
 impl Unasked {
@@ -45,9 +30,7 @@ pub struct Desk {
     joins: Vec<Join>,
 }
 
-fn is_played(stripe: &Stripe) -> bool
-    ensures { IsTrue result → stripe.now.origin ≡ Played }
-{
+fn is_played(stripe: &Stripe) -> bool {
     matches!(stripe.origin(), Origin::Played)
 }
 

@@ -1,6 +1,9 @@
 //! A listener that counts what it is told.
-use super::*;
+use super::is;
 use jc_outside::CompletionListener;
+use jc_types::Refusal;
+use std::alloc::Global;
+use std::process::Abort;
 use std::sync::Arc;
 use std::sync::atomic::AtomicU64;
 use std::sync::atomic::Ordering::SeqCst;
@@ -39,16 +42,17 @@ impl Hearing {
             .expect(rt, "memory")
     }
 
+    /// How often listeners were told of success, and of a failure.
+    pub fn told(&self) -> (u64, u64) {
+        (
+            self.told.completions.load(SeqCst),
+            self.told.exceptions.load(SeqCst),
+        )
+    }
+
     /// The listener was told once: of success, or of a failure.
     pub fn told_once(&self, rt: &impl Abort, of_success: bool) {
-        is(
-            rt,
-            (
-                self.told.completions.load(SeqCst),
-                self.told.exceptions.load(SeqCst),
-            ),
-            if of_success { (1, 0) } else { (0, 1) },
-        );
+        is(rt, self.told(), if of_success { (1, 0) } else { (0, 1) });
     }
 }
 
@@ -58,11 +62,9 @@ struct Listening {
 }
 
 impl CompletionListener for Listening {
-    ghost use Rattle.std.specs.Prelude.{[]};
+    ghost listener_state = { ? };
 
-    ghost listener_state = { λ l. [] };
-
-    ghost hears = { λ l ended after. Unit {0} };
+    ghost hears = { ? };
 
     fn on_completion(&mut self) {
         let _before = self.told.completions.fetch_add(1, SeqCst);
