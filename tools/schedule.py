@@ -13,17 +13,18 @@ class Cost:
         self.code, self.tests, self.edits = code, tests, edits
 
 
+class Parts:
+    """What takes no proof: the seconds of a processor beside the proofs and behind them, and these by the clock."""
+
+    def __init__(self, beside, behind, clock):
+        self.beside, self.behind, self.clock = beside, behind, clock
+
+
 def read_costs():
-    """Of each crate its cost; and the seconds of the parts that run beside the proofs, and behind them."""
-    crates, parts = {}, {"beside": 0, "behind": 0}
-    for line in read(COSTS).split("\n"):
-        words = line.split()
-        if words and not line.startswith("#"):
-            if words[0] in parts:
-                parts[words[0]] += int(words[1])
-            else:
-                crates[words[0]] = Cost(*[int(word) for word in words[1:]])
-    return {name: crates.get(name, Cost()) for name in ALL}, parts["beside"], parts["behind"]
+    """Of each crate its cost; and that of what takes no proof."""
+    rows = [line.split() for line in read(COSTS).split("\n") if line and not line.startswith("#")]
+    numbers = {row[0]: [int(word) for word in row[1:]] for row in rows}
+    return {name: Cost(*numbers.get(name, [])) for name in ALL}, Parts(*numbers["beside"], *numbers["behind"])
 
 
 def above(crate):
@@ -44,9 +45,9 @@ def chains(proofs):
     return behind
 
 
-def clock(proofs, edits, beside, behind, processors):
+def clock(proofs, edits, beside, processors):
     """The seconds by the clock, on this many processors: proofs as soon as their libraries are proved, those with the longest chain first; on idle
-    processors the edits of the crates that are proved, one processor a crate, and what is beside; and then what is behind."""
+    processors the edits of the crates that are proved, one processor a crate, and what is beside."""
     uses = {name: [it for it in used if it in proofs] for _ring, name, used in LISTED if name in proofs}
     order, left, running, done = chains({**dict.fromkeys(ALL, 0), **proofs}), dict(proofs), {}, set()
     fill, now = {"": beside}, 0.0
@@ -65,15 +66,15 @@ def clock(proofs, edits, beside, behind, processors):
                 del running[it]
                 done.add(it)
                 fill[it] = edits.get(it, 0)
-    return now + behind
+    return now
 
 
 class Landing:
     """What the gate costs if these crates are proved, and the edits of those are tried: seconds of a processor, and by the clock on four and on two."""
 
     def __init__(self, proved, tried):
-        costs, beside, behind = read_costs()
+        costs, parts = read_costs()
         proofs = {name: costs[name].code + costs[name].tests for name in proved}
         edits = {name: costs[name].edits for name in tried}
-        self.processor = sum(proofs.values()) + sum(edits.values()) + beside + behind
-        self.clock = {count: clock(proofs, edits, beside, behind, count) for count in (4, 2)}
+        self.processor = sum(proofs.values()) + sum(edits.values()) + parts.beside + parts.behind
+        self.clock = {count: clock(proofs, edits, parts.beside, count) + parts.clock for count in (4, 2)}
