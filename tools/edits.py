@@ -1,7 +1,8 @@
 """The wrong edits of bodies, crates/NAME/must-fail/*.edit: what each changes, in which functions, and on what its refusal stands.
 
 An edit is written as `rt` reads it: a line `file: PATH` of the crate, and below it pairs of lines `old: TEXT` and `new: TEXT`; each old text is once
-in its file. A line `# fn: PATH` names the function that becomes wrong, as a check prints it, if the changed text is in no body, or if the type or the trait has arguments."""
+in its file. A line `# fn: PATH` names the function that becomes wrong, as a check prints it, if the changed text is in no body, or if the type
+or the trait has arguments."""
 import hashlib
 import os
 import re
