@@ -1,9 +1,9 @@
 """The cache."""
-import threading
+import math
+import types
 
-from . import core
+from . import _core, waiting
 from .errors import BulkError, CacheError, DeadlockError, LoaderError, NotWritten, WriterError
-from .stripe import Blocked, Call, Reply, Stripe
 
 
 class _Loader:
@@ -44,10 +44,10 @@ class Entry:
         self._cache = cache
         self._value = value
         self._may_load = may_load
-        self._load = core.NOT_ASKED
+        self._load = _core.NOT_ASKED
         self._loaded = None
         self._error = None
-        self._effect = core.KEEP
+        self._effect = _core.KEEP
         self.key = key
 
     def exists(self):
@@ -57,7 +57,7 @@ class Entry:
     @property
     def value(self):
         """The value, or None. With read-through the loader is asked if there is none and the processor has changed nothing."""
-        if self._may_load and self._load == core.NOT_ASKED and self._effect == core.KEEP:
+        if self._may_load and self._load == _core.NOT_ASKED and self._effect == _core.KEEP:
             self._load_value()
         if self._error is not None:
             raise LoaderError('the loader failed') from self._error
@@ -67,7 +67,7 @@ class Entry:
     def value(self, value):
         _check_value(value)
         if self._error is None:
-            self._value, self._effect = value, core.SET
+            self._value, self._effect = value, _core.SET
 
     @value.deleter
     def value(self):
@@ -76,13 +76,13 @@ class Entry:
     def remove(self):
         """Removes the entry."""
         if self._error is None:
-            self._value, self._effect = None, core.TAKE_OUT
+            self._value, self._effect = None, _core.TAKE_OUT
 
     def _load_value(self):
-        self._load = core.FAILED
+        self._load = _core.FAILED
         try:
-            self._value = self._loaded = self._cache._in_call(self._cache._loader.load, self.key)
-            self._load = core.NOTHING if self._value is None else core.FOUND
+            self._value = self._loaded = self._cache._loader.load(self.key)
+            self._load = _core.NOTHING if self._value is None else _core.FOUND
         except BaseException as error:
             self._error = error
             if not isinstance(error, Exception):
@@ -94,134 +94,133 @@ def _check_value(value):
         raise ValueError('None is no value: it says that there is none')
 
 
-class Cache:
+class Cache(_core.Stripes):
     """A cache before a store that a loader reads and a writer changes.
 
     loader: a callable that is given a key and returns its value, or None if it has none; or an object with such a method load and, if it
     likes, load_many(keys), which returns a mapping.
     writer: a callable (key, value) that writes, and deletes if the value is None; or an object with write(key, value), delete(key) and,
     if it likes, write_many(mapping) and delete_many(keys), which raise NotWritten for what they did not do.
-    stripes (1 to 64), capacity (entries of a stripe, 1 to 4,096), history (events of a stripe, 16 to 65,536; a call under way needs
-    three): see the guide. read_through, write_through: on if there is a loader, a writer.
+    maxsize: how many entries there may be; it is dealt to stripes of up to 4,096 entries. Or say it by stripes (1 to 4,096) and capacity
+    (entries of a stripe, 1 to 4,096).
+    ttl: seconds after which an entry expires that was written or loaded; or a callable (key, value) that says it, or None for never.
+    tti: seconds after which an entry expires that was not used. timer: a callable that gives seconds; without it, the monotonic clock.
+    history (events of a stripe, 16 to 65,536; a call under way needs three): see the guide.
+    read_through, write_through: on if there is a loader, a writer.
 
     Keys are hashable, values are any objects but None. Threads share a cache. While one call has reserved a key, calls at this key wait
-    and all others don't. No lock is held while a loader, a writer, a processor, or a method of a key or a value runs.
+    and all others don't. Nothing is locked while a loader, a writer, a processor, or a method of a key or a value runs.
     """
 
-    def __init__(self, loader=None, writer=None, *, stripes=16, capacity=1024, history=64, read_through=None, write_through=None):
-        if not 1 <= stripes <= core.STRIPES_MAX:
-            raise ValueError('stripes are 1 to 64')
+    def __init__(self, loader=None, writer=None, *, maxsize=None, stripes=None, capacity=None, history=64, ttl=None, tti=None, timer=None,
+                 read_through=None, write_through=None):
         self._loader = _Loader((lambda key: None) if loader is None else loader)
         self._writer = _Writer((lambda key, value: None) if writer is None else writer)
-        self._thread = threading.local()
+        self._ttl_of = ttl if callable(ttl) else None
         reads = loader is not None if read_through is None else read_through
-        self._writes = writer is not None if write_through is None else write_through
-        # A key's number says nothing of its stripe, which is chosen by its hash: each desk is a cache of one stripe.
-        shape = core.Shape(1, capacity, history, reads, self._writes, False)
-        try:
-            self._stripes = [Stripe(shape, self._is_in_call) for _ in range(stripes)]
-        except core.CoreError as error:
-            if error.code == core.NO_MEMORY:
-                raise MemoryError('a stripe of the cache') from None
-            raise ValueError('capacity is 1 to 4,096, history 16 to 65,536') from None
+        writes = writer is not None if write_through is None else write_through
+        super().__init__(*_shape(maxsize, stripes, capacity), history, reads, writes, None if callable(ttl) else ttl, tti, timer,
+                         self._ttl_of is not None)
 
-    # Calls of one key.
+    __class_getitem__ = classmethod(types.GenericAlias)
 
-    def get(self, key, default=None):
-        """The value of a key: the cached one, or what the loader finds; or the default."""
-        stripe, key_hash = self._place(key)
-        value = stripe.hit(key, key_hash)
-        if value is None:
-            value = self._call(core.GET, key).value
-        return default if value is None else value
+    def __bool__(self):
+        return True
 
-    def __getitem__(self, key):
-        value = self.get(key)
-        if value is None:
-            raise KeyError(key)
-        return value
+    # Calls of one key. get, [] and hit are those of Stripes, and ask for _missing if the key isn't cached.
+
+    def _missing(self, key):
+        """The value of a key that isn't cached, or None."""
+        return self._call(_core.GET, key)[1]
 
     def __contains__(self, key):
         """Whether the key is cached. The loader isn't asked."""
-        return self._flag(core.CONTAINS_KEY, key)
+        return self._flag(_core.CONTAINS_KEY, key)
 
-    def put(self, key, value):
-        """Writes and caches a value."""
-        _check_value(value)
-        self._call(core.PUT, key, value)
+    def put(self, key, value, *, ttl=None):
+        """Writes and caches a value; ttl, if given, is its time to live."""
+        if ttl is None and self._ttl_of is None:
+            self[key] = value
+        else:
+            _check_value(value)
+            self._call(_core.PUT, key, value, None, ttl)
 
-    __setitem__ = put
+    def _put_begun(self, begun, key, value):
+        """A put by [] that isn't done in one phase: what it has begun, or None."""
+        self._call(_core.PUT, key, value, begun=begun)
 
-    def get_and_put(self, key, value):
+    def get_and_put(self, key, value, *, ttl=None):
         """The same. It returns the value that was cached, or None."""
         _check_value(value)
-        return self._call(core.GET_AND_PUT, key, value).value
+        return self._call(_core.GET_AND_PUT, key, value, None, ttl)[1]
 
-    def put_if_absent(self, key, value):
+    def put_if_absent(self, key, value, *, ttl=None):
         """Writes and caches a value if none is cached, and says whether."""
         _check_value(value)
-        return self._flag(core.PUT_IF_ABSENT, key, value)
+        return self._flag(_core.PUT_IF_ABSENT, key, value, None, ttl)
 
     def remove(self, key):
         """Deletes a key from store and cache, and says whether it was cached."""
-        return self._flag(core.REMOVE, key)
-
-    def __delitem__(self, key):
-        """The same; a key that isn't cached is no error, since the store may have it."""
-        self.remove(key)
+        return self._flag(_core.REMOVE, key)
 
     def remove_if(self, key, old):
         """Deletes a key if this value is cached, and says whether."""
         _check_value(old)
-        return self._flag(core.REMOVE_IF, key, None, old)
+        return self._flag(_core.REMOVE_IF, key, None, old)
 
     def get_and_remove(self, key):
         """Deletes a key. It returns the value that was cached, or None."""
-        return self._call(core.GET_AND_REMOVE, key).value
+        return self._call(_core.GET_AND_REMOVE, key)[1]
 
-    def replace(self, key, value):
+    def replace(self, key, value, *, ttl=None):
         """Writes and caches a value if one is cached, and says whether."""
         _check_value(value)
-        return self._flag(core.REPLACE, key, value)
+        return self._flag(_core.REPLACE, key, value, None, ttl)
 
-    def replace_if(self, key, old, value):
+    def replace_if(self, key, old, value, *, ttl=None):
         """Writes and caches a value if old is cached, and says whether."""
         _check_value(old)
         _check_value(value)
-        return self._flag(core.REPLACE_IF, key, value, old)
+        return self._flag(_core.REPLACE_IF, key, value, old, ttl)
 
-    def get_and_replace(self, key, value):
+    def get_and_replace(self, key, value, *, ttl=None):
         """Writes and caches a value if one is cached, and returns that one, or None."""
         _check_value(value)
-        return self._call(core.GET_AND_REPLACE, key, value).value
+        return self._call(_core.GET_AND_REPLACE, key, value, None, ttl)[1]
 
     def invoke(self, key, processor, *arguments):
         """Runs processor(entry, *arguments) on the key's entry, and returns what it returns. If it raises an exception nothing is
         changed."""
-        stripe, key_hash = self._place(key)
         while True:
-            begun = stripe.begin(core.INVOKE, key, key_hash)
-            if not isinstance(begun, Blocked):
-                return self._process(stripe, begun, processor, arguments)
-            stripe.wait(begun)
+            begun = self._begin(_core.INVOKE, key)
+            if not isinstance(begun, _core.Blocked):
+                return self._process(begun, processor, arguments)
+            waiting.until_free(begun)
 
-    def _process(self, stripe, call, processor, arguments):
-        entry = Entry(self, call.node.key, call.node.value, call.may_load)
-        write = core.NOT_ASKED
+    def _process(self, call, processor, arguments):
+        entry = Entry(self, call.key, call.cached, call.may_load)
+        write = _core.NOT_ASKED
         failure = None
         result = None
+        ttl = None
+        with waiting.holding(call.flight):
+            try:
+                result = processor(entry, *arguments)
+                if entry._error is None:
+                    ttl = self._life(call.key, entry._value, None) if entry._value is not None else None
+                    if self._writes and entry._effect != _core.KEEP:
+                        write = _core.FAILED
+                        self._ask_writer(call.key, entry._value)
+                        write = _core.WRITTEN
+            except BaseException as error:
+                failure = error
+                if write == _core.NOT_ASKED:
+                    entry._effect = _core.PROCESS_FAILED
+        call.commit_process(entry._load, entry._loaded, entry._effect, entry._value, write, ttl)
         try:
-            result = self._in_call(processor, entry, *arguments)
-            if self._writes and entry._error is None and entry._effect != core.KEEP:
-                write = core.FAILED
-                self._ask_writer(call.node.key, entry._value)
-                write = core.WRITTEN
-        except BaseException as error:
-            failure = error
-            if write == core.NOT_ASKED:
-                entry._effect = core.PROCESS_FAILED
-        stripe.commit_process(call, entry._load, entry._loaded, entry._effect, entry._value, write)
-        return self._processed(entry, write, failure, result)
+            return self._processed(entry, write, failure, result)
+        finally:
+            del failure
 
     @staticmethod
     def _processed(entry, write, failure, result):
@@ -229,7 +228,7 @@ class Cache:
             raise failure
         if entry._error is not None:
             raise LoaderError('the loader failed') from entry._error
-        if write == core.FAILED:
+        if write == _core.FAILED:
             raise WriterError('the writer failed') from failure
         if failure is not None:
             raise failure
@@ -237,73 +236,71 @@ class Cache:
 
     # Phases.
 
-    def _is_in_call(self):
-        return getattr(self._thread, 'depth', 0) > 0
-
-    def _in_call(self, function, *arguments):
-        """Does what a call does while it has something out, as to ask a loader: who calls the cache meanwhile may not wait for room."""
-        thread = self._thread
-        thread.depth = getattr(thread, 'depth', 0) + 1
-        try:
-            return function(*arguments)
-        finally:
-            thread.depth -= 1
+    def _life(self, key, value, ttl):
+        """The seconds of a value that comes in; None: those of the cache."""
+        if ttl is not None or self._ttl_of is None:
+            return ttl
+        ttl = self._ttl_of(key, value)
+        return math.inf if ttl is None else ttl
 
     def _ask_writer(self, key, value):
         if value is None:
-            self._in_call(self._writer.delete, key)
+            self._writer.delete(key)
         else:
-            self._in_call(self._writer.write, key, value)
+            self._writer.write(key, value)
 
-    def _place(self, key):
-        key_hash = hash(key)
-        return self._stripes[key_hash % len(self._stripes)], key_hash
+    def _flag(self, op, key, value=None, old=None, ttl=None):
+        return self._call(op, key, value, old, ttl)[0] == _core.YES
 
-    def _flag(self, op, key, value=None, old=None):
-        return self._call(op, key, value, old).reply == core.YES
-
-    def _call(self, op, key, value=None, old=None):
-        """A whole call: phases, and whom they ask between."""
-        stripe, key_hash = self._place(key)
+    def _call(self, op, key, value=None, old=None, ttl=None, begun=None):
+        """A whole call: phases, and whom they ask between. Its reply and value."""
+        if value is not None:
+            ttl = self._life(key, value, ttl)
         while True:
-            begun = stripe.begin(op, key, key_hash, value, old)
-            if isinstance(begun, Reply):
+            if begun is None:
+                begun = self._begin(op, key, value, old, ttl)
+            if isinstance(begun, tuple):
                 return begun
-            if isinstance(begun, Blocked):
-                stripe.wait(begun)
-                continue
-            if begun.next == core.ASK_LOADER:
-                return self._load(stripe, begun)
-            if begun.next != core.JOINED:
-                return self._write(stripe, begun)
-            reply = self._join(stripe, begun)
-            if reply is not None:
-                return reply
+            if isinstance(begun, _core.Blocked):
+                waiting.until_free(begun)
+            elif begun.next == _core.ASK_LOADER:
+                return self._load(begun)
+            elif begun.next != _core.JOINED:
+                return self._write(begun)
+            else:
+                reply = self._join(begun)
+                if reply is not None:
+                    return reply
+            begun = None
 
-    def _load(self, stripe, call):
-        try:
-            value = self._in_call(self._loader.load, call.node.key)
-        except BaseException as error:
-            stripe.commit_load(call, None, error)
-            if not isinstance(error, Exception):
-                raise
-            raise LoaderError('the loader failed') from error
-        return stripe.commit_load(call, value, None)
+    def _load(self, call):
+        with waiting.holding(call.flight):
+            try:
+                value = self._loader.load(call.key)
+                ttl = None if value is None else self._life(call.key, value, None)
+            except BaseException as error:
+                call.commit_load(None, error)
+                if not isinstance(error, Exception):
+                    raise
+                raise LoaderError('the loader failed') from error
+        return call.commit_load(value, None, ttl)
 
-    def _write(self, stripe, call):
-        try:
-            self._ask_writer(call.node.key, call.value if call.next == core.HAVE_WRITTEN else None)
-        except BaseException as error:
-            stripe.commit_write(call, False)
-            if not isinstance(error, Exception):
-                raise
-            raise WriterError('the writer failed') from error
-        return stripe.commit_write(call, True)
+    def _write(self, call):
+        with waiting.holding(call.flight):
+            try:
+                self._ask_writer(call.key, call.value if call.next == _core.HAVE_WRITTEN else None)
+            except BaseException as error:
+                call.commit_write(False)
+                if not isinstance(error, Exception):
+                    raise
+                raise WriterError('the writer failed') from error
+        return call.commit_write(True)
 
     @staticmethod
-    def _join(stripe, call):
-        reply = stripe.pick_up(call)
-        if reply is not None and reply.reply == core.LOADER_FAILED:
+    def _join(call):
+        waiting.until_over(call)
+        reply = call.pick_up()
+        if reply is not None and reply[0] == _core.LOADER_FAILED:
             raise LoaderError('the loader failed') from call.flight.error
         return reply
 
@@ -311,60 +308,36 @@ class Cache:
 
     def get_many(self, keys):
         """The values of these keys, of those that have one, as a dict. The loader is asked once for all that are missing."""
-        replies = _Round(self, [(core.GET, key, None) for key in keys]).run()
-        return {key: reply.value for key, reply in replies if reply.value is not None}
+        replies = _Round(self, [(_core.GET, key, None) for key in keys]).run()
+        return {key: reply[1] for key, reply in replies if reply[1] is not None}
 
     def set_many(self, entries):
         """Writes and caches the values of a mapping, key by key: it isn't atomic. The writer is asked once for all."""
         work = []
         for key, value in entries.items():
             _check_value(value)
-            work.append((core.PUT, key, value))
+            work.append((_core.PUT, key, value))
         _Round(self, work).run()
 
     def delete_many(self, keys):
         """Deletes these keys from store and cache. The writer is asked once for all."""
-        _Round(self, [(core.REMOVE, key, None) for key in keys]).run()
+        _Round(self, [(_core.REMOVE, key, None) for key in keys]).run()
 
     def load_many(self, keys, replace=False):
         """Loads these keys: those that aren't cached, or all."""
-        op = core.RELOAD if replace else core.LOAD
+        op = _core.RELOAD if replace else _core.LOAD
         _Round(self, [(op, key, None) for key in keys]).run()
 
     def clear(self):
         """Uncaches all keys that are cached now. The store keeps them, and the writer isn't asked."""
         for key in self.keys():
-            self._call(core.CLEAR_KEY, key)
+            self._call(_core.CLEAR_KEY, key)
 
     # The cache as a whole.
-
-    def keys(self):
-        """The keys that are cached, stripe by stripe."""
-        return [key for stripe in self._stripes for key in stripe.keys()]
 
     def __iter__(self):
         """Iterates over the keys that are cached now. The loader isn't asked."""
         return iter(self.keys())
-
-    def __len__(self):
-        """How many keys are cached."""
-        return len(self.keys())
-
-    def stats(self):
-        """Hits, misses, puts, removals and evictions since the cache was made, as a dict."""
-        names = [name for name, _ in core.Statistics._fields_]
-        counts = [stripe.statistics() for stripe in self._stripes]
-        return {name: sum(getattr(count, name) for count in counts) for name in names}
-
-    def close(self):
-        """Later calls, and those that wait to begin, raise ClosedError. Calls under way end as they would."""
-        for stripe in self._stripes:
-            stripe.close()
-
-    @property
-    def closed(self):
-        """Whether the cache was closed."""
-        return self._stripes[0].is_closed
 
     def __enter__(self):
         return self
@@ -372,20 +345,31 @@ class Cache:
     def __exit__(self, *_):
         self.close()
 
-    def _agrees(self):
-        return all(stripe.agrees() for stripe in self._stripes)
+
+def _shape(maxsize, stripes, capacity):
+    """How many stripes, and entries of each."""
+    if maxsize is None:
+        return 16 if stripes is None else stripes, 1024 if capacity is None else capacity
+    if capacity is not None:
+        raise ValueError('maxsize and capacity exclude each other')
+    if maxsize < 1:
+        raise ValueError('maxsize is at least 1')
+    if stripes is None:
+        # Keys aren't dealt evenly: with few large stripes nearly all of maxsize is used before a stripe is full.
+        stripes = max(1, -(-maxsize // _core.CAPACITY_MAX))
+    return stripes, -(-maxsize // stripes)
 
 
 class _Item:
     """A key of a call of many keys."""
 
-    __slots__ = ('op', 'key', 'value', 'stripe', 'hash', 'call')
+    __slots__ = ('op', 'key', 'value', 'ttl', 'call')
 
     def __init__(self, cache, op, key, value):
         self.op = op
         self.key = key
         self.value = value
-        self.stripe, self.hash = cache._place(key)
+        self.ttl = None if value is None else cache._life(key, value, None)
         self.call = None
         """What it has out."""
 
@@ -408,9 +392,10 @@ class _Round:
     def run(self):
         """All rounds: the replies, as (key, Reply)."""
         while self._items:
-            blocked = self._cache._in_call(self._one)
+            with waiting.in_round():
+                blocked = self._one()
             if blocked is not None:
-                self._wait(*blocked)
+                self._wait(blocked)
         if self._error is not None:
             raise BulkError(self._failed) from self._error
         return self._replies
@@ -421,15 +406,16 @@ class _Round:
         if not reserved and not joined:
             return blocked
         try:
-            if reserved and reserved[0].call.next == core.ASK_LOADER:
-                self._load(reserved)
-            elif reserved:
-                self._write(reserved)
+            with waiting.holding(*[item.call.flight for item in reserved]):
+                if reserved and reserved[0].call.next == _core.ASK_LOADER:
+                    self._load(reserved)
+                elif reserved:
+                    self._write(reserved)
             while joined:
                 self._pick_up(joined.pop())
         finally:
             for item in joined:
-                item.stripe.abandon(item.call)
+                item.call.abandon()
         return None
 
     def _begin(self):
@@ -438,28 +424,28 @@ class _Round:
         reserved, joined, blocked = [], [], None
         try:
             for place, item in enumerate(items):
-                begun = item.stripe.begin(item.op, item.key, item.hash, item.value)
-                if isinstance(begun, Reply):
+                begun = self._cache._begin(item.op, item.key, item.value, None, item.ttl)
+                if isinstance(begun, tuple):
                     self._replies.append((item.key, begun))
-                elif isinstance(begun, Call):
+                elif isinstance(begun, _core.Call):
                     item.call = begun
-                    (joined if begun.next == core.JOINED else reserved).append(item)
+                    (joined if begun.next == _core.JOINED else reserved).append(item)
                 else:
-                    blocked = blocked or (item.stripe, begun)
+                    blocked = blocked or begun
                     self._items.append(item)
         except BaseException as error:
             for item in reserved:
-                item.stripe.withdraw(item.call)
+                item.call.withdraw()
             for item in joined:
-                item.stripe.abandon(item.call)
+                item.call.abandon()
             if isinstance(error, CacheError) and (self._replies or self._failed):
                 self._stop([*self._items, *reserved, *joined, *items[place:]], error)
             raise
         return reserved, joined, blocked
 
-    def _wait(self, stripe, blocked):
+    def _wait(self, blocked):
         try:
-            stripe.wait(blocked)
+            waiting.until_free(blocked)
         except CacheError as error:
             self._stop(self._items, error)
 
@@ -478,14 +464,15 @@ class _Round:
             self._error = error
 
     def _load(self, reserved):
-        error, values = None, [None] * len(reserved)
+        error, values, lives = None, [None] * len(reserved), [None] * len(reserved)
         try:
             found = self._cache._loader.load_many([item.key for item in reserved])
             values = [found.get(item.key) for item in reserved]
+            lives = [None if value is None else self._cache._life(item.key, value, None) for item, value in zip(reserved, values)]
         except BaseException as caught:
             error = caught
-        for item, value in zip(reserved, values):
-            reply = item.stripe.commit_load(item.call, value, error)
+        for item, value, ttl in zip(reserved, values, lives):
+            reply = item.call.commit_load(value, error, ttl)
             if error is None:
                 self._replies.append((item.key, reply))
             else:
@@ -496,7 +483,7 @@ class _Round:
     def _write(self, reserved):
         failed, error = self._unwritten(reserved)
         for place, item in enumerate(reserved):
-            reply = item.stripe.commit_write(item.call, place not in failed)
+            reply = item.call.commit_write(place not in failed)
             if place in failed:
                 self._failed.append(item.key)
             else:
@@ -510,7 +497,7 @@ class _Round:
         writer = self._cache._writer
         try:
             try:
-                if reserved[0].call.next == core.HAVE_WRITTEN:
+                if reserved[0].call.next == _core.HAVE_WRITTEN:
                     writer.write_many({item.key: item.value for item in reserved})
                 else:
                     writer.delete_many([item.key for item in reserved])
@@ -523,7 +510,7 @@ class _Round:
 
     def _pick_up(self, item):
         try:
-            reply = self._cache._join(item.stripe, item.call)
+            reply = self._cache._join(item.call)
         except LoaderError as error:
             self._fail(item.key, error.__cause__)
         except DeadlockError as error:

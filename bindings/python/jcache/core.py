@@ -7,6 +7,8 @@ import ctypes
 import os
 from ctypes import c_bool, c_char_p, c_size_t, c_uint8, c_uint32, c_uint64, c_void_p
 
+from . import _core
+
 KEY_MAX = 32
 VALUE_MAX = 256
 STRIPES_MAX = 64
@@ -119,10 +121,10 @@ class Handle(ctypes.Structure):
 
 
 def _path():
-    named = os.environ.get('JCACHE_CORE_SO')
-    path = named or os.path.join(os.path.dirname(os.path.abspath(__file__)), 'libjcache_core.so')
+    # The extension has the library in it, and exports it.
+    path = os.environ.get('JCACHE_CORE_SO') or _core.__file__
     if not os.path.exists(path):
-        raise ImportError(f'the core is missing: there is no {path}. Set JCACHE_CORE_SO to the path of libjcache_core.so, or put it there')
+        raise ImportError(f'the core is missing: there is no {path}. Unset JCACHE_CORE_SO, or set it to the path of a libjcache_core.so')
     return path
 
 

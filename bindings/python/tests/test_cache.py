@@ -153,8 +153,21 @@ class Operations(unittest.TestCase):
         self.assertEqual((list(self.cache), self.store.loads), (['b'], 0))
 
     def test_limits(self):
-        for words in ({'stripes': 0}, {'stripes': 65}, {'capacity': 0}, {'capacity': 4097}, {'history': 15}):
+        for words in ({'stripes': 0}, {'stripes': 4097}, {'capacity': 0}, {'capacity': 4097}, {'history': 15}, {'maxsize': 0}, {'maxsize': 4096 * 4096 + 1},
+                      {'maxsize': 10, 'capacity': 10}):
             self.assertRaises(ValueError, jcache.Cache, **words)
+
+
+    def test_maxsize_is_dealt_to_stripes(self):
+        cache = jcache.Cache(maxsize=10_000)
+        for key in range(20_000):
+            cache[key] = key
+        self.assertLessEqual(len(cache), 10_002)
+        self.assertGreaterEqual(len(cache), 9_990)
+        self.assertTrue(cache._agrees())
+
+    def test_an_empty_cache_is_true(self):
+        self.assertTrue(self.cache)
 
 
 class Failures(unittest.TestCase):

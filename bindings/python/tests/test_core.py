@@ -80,8 +80,8 @@ class Misuse(unittest.TestCase):
         self.refused(core.BAD_ARGUMENT, core.legal, shape(), [(b'', b'')], events)
 
     def test_a_library_that_is_missing(self):
-        environment = dict(os.environ, JCACHE_CORE_SO='/nowhere/libjcache_core.so', PYTHONPATH=os.path.join(HERE, '..'))
-        ran = subprocess.run([sys.executable, '-c', 'import jcache'], env=environment, stderr=subprocess.PIPE, universal_newlines=True)
+        environment = dict(os.environ, JCACHE_CORE_SO='/nowhere/libjcache_core.so')
+        ran = subprocess.run([sys.executable, '-c', 'import jcache.core'], env=environment, stderr=subprocess.PIPE, universal_newlines=True)
         self.assertIn('there is no /nowhere/libjcache_core.so', ran.stderr)
 
 

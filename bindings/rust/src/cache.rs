@@ -1,6 +1,6 @@
 //! The cache.
 use crate::call::{self, Begun, Change};
-use crate::core::{self, Shape, Statistics};
+use crate::core::{Shape, Statistics};
 use crate::hashing::Hashing;
 use crate::op::{Expected, Op, Reply};
 use crate::outside::{Loader, NoLoader, NoWriter, Shared, Writer, in_call};
@@ -11,6 +11,9 @@ use std::fmt;
 use std::hash::{BuildHasher, Hash};
 use std::marker::PhantomData;
 use std::sync::Arc;
+
+/// The most stripes of a cache: each is a desk of one stripe, so the core's own limit doesn't count.
+const STRIPES_MAX: usize = 4096;
 
 /// A cache of keys `K` and values `V` before a store that `L` reads and `W` changes.
 ///
@@ -82,7 +85,7 @@ impl<K, V> Cache<K, V> {
 }
 
 impl<K, V, L, W> Builder<K, V, L, W> {
-    /// How many stripes: 1 to 64. Calls in different stripes don't share a lock.
+    /// How many stripes: 1 to 4,096. Calls in different stripes don't share a lock.
     pub fn stripes(mut self, stripes: usize) -> Self {
         self.stripes = stripes;
         self
@@ -156,7 +159,7 @@ impl<K, V, L, W> Builder<K, V, L, W> {
         L: Loader<K, V>,
         W: Writer<K, V>,
     {
-        if !(1..=core::STRIPES_MAX).contains(&self.stripes) {
+        if !(1..=STRIPES_MAX).contains(&self.stripes) {
             return Err(BuildError::Limits);
         }
         // A key's number says nothing of its stripe, which is chosen by its hash: each desk is a cache of one stripe.

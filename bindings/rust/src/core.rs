@@ -10,7 +10,7 @@
 #![allow(unsafe_code)]
 
 mod events;
-mod raw;
+use jcache_core_sys as raw;
 mod words;
 
 pub use events::{Event, Outside, What, legal};
@@ -60,7 +60,17 @@ fn checked(code: u32) -> Result<(), Code> {
     })
 }
 
-impl raw::Out {
+/// What a phase's answer says.
+trait Answer {
+    fn reply(&self) -> Reply<'_>;
+    fn moves(&self) -> Moves<'_>;
+    /// The end of a call; of a first phase `shared` isn't written, and nobody shares.
+    fn done(&self, shared: u32) -> Done<'_>;
+    fn asked(&self, session: u32) -> Asked<'_>;
+    fn refusal(&self) -> Refusal;
+}
+
+impl Answer for raw::Out {
     #[inline]
     fn reply(&self) -> Reply<'_> {
         Reply::of(self.reply, self.code, &self.value)
@@ -83,7 +93,6 @@ impl raw::Out {
         }
     }
 
-    /// The end of a call; of a first phase `shared` isn't written, and nobody shares.
     #[inline]
     fn done(&self, shared: u32) -> Done<'_> {
         Done {

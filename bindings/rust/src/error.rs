@@ -90,7 +90,7 @@ where
 /// Why a cache can't be built.
 #[derive(Clone, Copy, Debug, PartialEq, Eq)]
 pub enum BuildError {
-    /// Stripes are 1 to 64, the capacity of a stripe is 1 to 4,096, a history 16 to 65,536 events.
+    /// Stripes are 1 to 4,096 (of a cache of bytes to 64), the capacity of a stripe is 1 to 4,096, a history 16 to 65,536 events.
     Limits,
     /// An allocation failed.
     NoMemory,

@@ -217,7 +217,7 @@ fn without_loader_and_writer_it_is_a_map() {
 fn limits_are_tested() {
     for (stripes, capacity, history) in [
         (0, 1, 64),
-        (65, 1, 64),
+        (4097, 1, 64),
         (1, 0, 64),
         (1, 4097, 64),
         (1, 1, 15),

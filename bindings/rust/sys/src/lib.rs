@@ -1,18 +1,35 @@
 //! The library as its header `jcache_core.h` has it: structs, constants and exports.
-use std::ffi::c_void;
-use std::mem::{offset_of, size_of};
+//!
+//! The library itself is in this crate, as assembly for x86-64 Linux: it needs neither a C compiler nor the prover that made it. Set
+//! `JCACHE_CORE` to the path of a `libjcache_core.a` to link that one instead. What the functions require is in the header.
+#![no_std]
+#![allow(missing_docs, clippy::missing_safety_doc, clippy::new_without_default)]
 
-pub(super) const KEY_MAX: usize = 32;
-pub(super) const VALUE_MAX: usize = 256;
+#[cfg(all(not(archive), not(all(target_arch = "x86_64", target_os = "linux"))))]
+compile_error!(
+    "the core is there for x86-64 Linux alone; set JCACHE_CORE to the path of a libjcache_core.a for this target"
+);
+
+#[cfg(all(not(archive), target_arch = "x86_64", target_os = "linux"))]
+core::arch::global_asm!(
+    include_str!("../core/jcache_core.s"),
+    options(att_syntax, raw)
+);
+
+use core::ffi::c_void;
+use core::mem::{offset_of, size_of};
+
+pub const KEY_MAX: usize = 32;
+pub const VALUE_MAX: usize = 256;
 
 #[repr(C)]
-pub(super) struct Handle {
+pub struct Handle {
     pub at: *mut c_void,
     pub is_open: bool,
 }
 
 #[repr(C)]
-pub(super) struct Shape {
+pub struct Shape {
     pub stripes: usize,
     pub capacity: usize,
     pub history: usize,
@@ -23,27 +40,27 @@ pub(super) struct Shape {
 
 #[repr(C)]
 #[derive(Clone, Copy)]
-pub(super) struct Value {
+pub struct Value {
     pub len: u32,
     pub bytes: [u8; VALUE_MAX],
 }
 
 #[repr(C)]
 #[derive(Clone, Copy)]
-pub(super) struct Key {
+pub struct Key {
     pub len: u32,
     pub bytes: [u8; KEY_MAX],
 }
 
 #[repr(C)]
 #[derive(Clone, Copy)]
-pub(super) struct Entry {
+pub struct Entry {
     pub key: Key,
     pub value: Value,
 }
 
 #[repr(C)]
-pub(super) struct Out {
+pub struct Out {
     pub next: u32,
     pub reply: u32,
     pub code: u32,
@@ -60,7 +77,7 @@ pub(super) struct Out {
 
 #[repr(C)]
 #[derive(Clone, Copy)]
-pub(super) struct Processed {
+pub struct Processed {
     pub load: u32,
     pub load_code: u32,
     pub effect: u32,
@@ -75,7 +92,7 @@ pub(super) struct Processed {
 
 #[repr(C)]
 #[derive(Clone, Copy)]
-pub(super) struct FlatEvent {
+pub struct FlatEvent {
     pub kind: u32,
     pub session: u32,
     pub call: u64,
@@ -94,7 +111,7 @@ pub(super) struct FlatEvent {
 
 #[repr(C)]
 #[derive(Default)]
-pub(super) struct Statistics {
+pub struct Statistics {
     pub hits: u64,
     pub misses: u64,
     pub puts: u64,
@@ -137,18 +154,18 @@ const _: () = {
 };
 
 impl Value {
-    pub(super) const EMPTY: Value = Value {
+    pub const EMPTY: Value = Value {
         len: 0,
         bytes: [0; VALUE_MAX],
     };
 
     #[inline]
-    pub(super) fn get(&self) -> &[u8] {
+    pub fn get(&self) -> &[u8] {
         &self.bytes[..self.len as usize]
     }
 
     /// A value of these bytes. Of too many it is one that the library refuses.
-    pub(super) fn of(bytes: &[u8]) -> Value {
+    pub fn of(bytes: &[u8]) -> Value {
         let mut value = Value::EMPTY;
         value.len = u32::try_from(bytes.len()).unwrap_or(u32::MAX);
         if let Some(room) = value.bytes.get_mut(..bytes.len()) {
@@ -159,18 +176,18 @@ impl Value {
 }
 
 impl Key {
-    pub(super) const EMPTY: Key = Key {
+    pub const EMPTY: Key = Key {
         len: 0,
         bytes: [0; KEY_MAX],
     };
 
     #[inline]
-    pub(super) fn get(&self) -> &[u8] {
+    pub fn get(&self) -> &[u8] {
         &self.bytes[..self.len as usize]
     }
 
     /// A key of these bytes. Of too many it is one that the library refuses.
-    pub(super) fn of(bytes: &[u8]) -> Key {
+    pub fn of(bytes: &[u8]) -> Key {
         let mut key = Key::EMPTY;
         key.len = u32::try_from(bytes.len()).unwrap_or(u32::MAX);
         if let Some(room) = key.bytes.get_mut(..bytes.len()) {
@@ -181,7 +198,7 @@ impl Key {
 }
 
 impl Out {
-    pub(super) const fn new() -> Out {
+    pub const fn new() -> Out {
         Out {
             next: 0,
             reply: 0,
@@ -200,7 +217,7 @@ impl Out {
 }
 
 impl FlatEvent {
-    pub(super) const EMPTY: FlatEvent = FlatEvent {
+    pub const EMPTY: FlatEvent = FlatEvent {
         kind: 0,
         session: 0,
         call: 0,
@@ -229,56 +246,56 @@ impl FlatEvent {
     };
 }
 
-pub(super) const OK: u32 = 0;
-pub(super) const WRONG_HANDLE: u32 = 1;
-pub(super) const NO_MEMORY: u32 = 2;
-pub(super) const BAD_ARGUMENT: u32 = 3;
-pub(super) const MISUSE: u32 = 4;
-pub(super) const IN_USE: u32 = 5;
-pub(super) const NONE: u32 = 6;
+pub const OK: u32 = 0;
+pub const WRONG_HANDLE: u32 = 1;
+pub const NO_MEMORY: u32 = 2;
+pub const BAD_ARGUMENT: u32 = 3;
+pub const MISUSE: u32 = 4;
+pub const IN_USE: u32 = 5;
+pub const NONE: u32 = 6;
 
-pub(super) const DONE: u32 = 0;
-pub(super) const ASK_LOADER: u32 = 1;
-pub(super) const HAVE_WRITTEN: u32 = 2;
-pub(super) const HAVE_DELETED: u32 = 3;
-pub(super) const RUN_PROCESSOR: u32 = 4;
-pub(super) const JOINED: u32 = 5;
-pub(super) const REFUSED: u32 = 6;
-pub(super) const AGAIN: u32 = 7;
-pub(super) const NOT_YET: u32 = 8;
-pub(super) const FULL: u32 = 9;
+pub const DONE: u32 = 0;
+pub const ASK_LOADER: u32 = 1;
+pub const HAVE_WRITTEN: u32 = 2;
+pub const HAVE_DELETED: u32 = 3;
+pub const RUN_PROCESSOR: u32 = 4;
+pub const JOINED: u32 = 5;
+pub const REFUSED: u32 = 6;
+pub const AGAIN: u32 = 7;
+pub const NOT_YET: u32 = 8;
+pub const FULL: u32 = 9;
 
-pub(super) const KEPT: u32 = 1;
-pub(super) const LEFT: u32 = 2;
-pub(super) const EVICTED: u32 = 4;
-pub(super) const OWN_EVICTED_FULL: u32 = 8;
-pub(super) const OWN_EVICTED_MEMORY: u32 = 16;
+pub const KEPT: u32 = 1;
+pub const LEFT: u32 = 2;
+pub const EVICTED: u32 = 4;
+pub const OWN_EVICTED_FULL: u32 = 8;
+pub const OWN_EVICTED_MEMORY: u32 = 16;
 
-pub(super) const NOT_ASKED: u32 = 0;
-pub(super) const FOUND: u32 = 1;
-pub(super) const WRITTEN: u32 = 1;
-pub(super) const NOTHING: u32 = 2;
-pub(super) const FAILED: u32 = 3;
+pub const NOT_ASKED: u32 = 0;
+pub const FOUND: u32 = 1;
+pub const WRITTEN: u32 = 1;
+pub const NOTHING: u32 = 2;
+pub const FAILED: u32 = 3;
 
-pub(super) const EVICTION: u32 = 1;
-pub(super) const FOR_MEMORY: u32 = 1;
+pub const EVICTION: u32 = 1;
+pub const FOR_MEMORY: u32 = 1;
 
-pub(super) const KEEP: u32 = 0;
-pub(super) const SET: u32 = 1;
-pub(super) const TAKE_OUT: u32 = 2;
-pub(super) const PROCESS_FAILED: u32 = 3;
-pub(super) const NOT_RUN: u32 = 4;
+pub const KEEP: u32 = 0;
+pub const SET: u32 = 1;
+pub const TAKE_OUT: u32 = 2;
+pub const PROCESS_FAILED: u32 = 3;
+pub const NOT_RUN: u32 = 4;
 
 unsafe extern "C" {
-    pub(super) fn jc_open(
+    pub fn jc_open(
         h: *mut Handle,
         shape: *const Shape,
         number: usize,
         entries: *const Entry,
         count: usize,
     ) -> u32;
-    pub(super) fn jc_close(h: *mut Handle) -> u32;
-    pub(super) fn jc_begin(
+    pub fn jc_close(h: *mut Handle) -> u32;
+    pub fn jc_begin(
         h: *mut Handle,
         session: u32,
         op: u32,
@@ -290,14 +307,14 @@ unsafe extern "C" {
         other_len: usize,
         out: *mut Out,
     ) -> u32;
-    pub(super) fn jc_hit(
+    pub fn jc_hit(
         h: *mut Handle,
         session: u32,
         key: *const u8,
         key_len: usize,
         value: *mut Value,
     ) -> u32;
-    pub(super) fn jc_commit_load(
+    pub fn jc_commit_load(
         h: *mut Handle,
         ticket: u64,
         answer: u32,
@@ -306,21 +323,21 @@ unsafe extern "C" {
         value_len: usize,
         out: *mut Out,
     ) -> u32;
-    pub(super) fn jc_commit_write(
+    pub fn jc_commit_write(
         h: *mut Handle,
         ticket: u64,
         answer: u32,
         code: u32,
         out: *mut Out,
     ) -> u32;
-    pub(super) fn jc_commit_process(
+    pub fn jc_commit_process(
         h: *mut Handle,
         ticket: u64,
         processed: *const Processed,
         out: *mut Out,
     ) -> u32;
-    pub(super) fn jc_withdraw(h: *mut Handle, ticket: u64) -> u32;
-    pub(super) fn jc_pick_up(
+    pub fn jc_withdraw(h: *mut Handle, ticket: u64) -> u32;
+    pub fn jc_pick_up(
         h: *mut Handle,
         session: u32,
         call: u64,
@@ -329,19 +346,13 @@ unsafe extern "C" {
         load: u64,
         out: *mut Out,
     ) -> u32;
-    pub(super) fn jc_peek(h: *mut Handle, key: *const u8, key_len: usize, value: *mut Value)
-    -> u32;
-    pub(super) fn jc_statistics_of(h: *mut Handle, out: *mut Statistics) -> u32;
-    pub(super) fn jc_entries(
-        h: *mut Handle,
-        out: *mut Entry,
-        room: usize,
-        count: *mut usize,
-    ) -> u32;
-    pub(super) fn jc_events_len(h: *mut Handle) -> usize;
-    pub(super) fn jc_event(h: *mut Handle, place: usize, out: *mut FlatEvent) -> u32;
-    pub(super) fn jc_end_generation(h: *mut Handle) -> u32;
-    pub(super) fn jc_legal(
+    pub fn jc_peek(h: *mut Handle, key: *const u8, key_len: usize, value: *mut Value) -> u32;
+    pub fn jc_statistics_of(h: *mut Handle, out: *mut Statistics) -> u32;
+    pub fn jc_entries(h: *mut Handle, out: *mut Entry, room: usize, count: *mut usize) -> u32;
+    pub fn jc_events_len(h: *mut Handle) -> usize;
+    pub fn jc_event(h: *mut Handle, place: usize, out: *mut FlatEvent) -> u32;
+    pub fn jc_end_generation(h: *mut Handle) -> u32;
+    pub fn jc_legal(
         shape: *const Shape,
         opening: *const Entry,
         opening_count: usize,
