@@ -4,7 +4,7 @@ usage: bindings_calls.py get|hit COUNT     get: of a cache; hit: of one desk of 
 """
 import sys
 
-from jcache import Cache, core
+from cadwrelch import Cache, core
 
 KEYS = [b'key %012d' % number for number in range(1024)]
 VALUE = b'a 16-byte value.'

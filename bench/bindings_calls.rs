@@ -3,8 +3,8 @@
 //! usage: bindings_calls hit|begin|put_alone|put|miss|get|desks COUNT
 mod plain_cache;
 
-use jcache::Cache;
-use jcache::core::{Asked, Desk, Loaded, Op, Reply, Shape, Written};
+use cadwrelch::Cache;
+use cadwrelch::core::{Asked, Desk, Loaded, Op, Reply, Shape, Written};
 use plain_cache::{KEYS, Key, Value, all_keys};
 use std::hint::black_box;
 use std::sync::{Mutex, MutexGuard};

@@ -5,7 +5,7 @@ import statistics
 import sys
 import time
 
-import jcache
+import cadwrelch
 
 KEYS = [f'key number {i}' for i in range(1024)]
 
@@ -29,7 +29,7 @@ async def timed(what, calls):
 
 
 async def main():
-    cache = jcache.AsyncCache(loader=nothing, stripes=16, capacity=1024)
+    cache = cadwrelch.AsyncCache(loader=nothing, stripes=16, capacity=1024)
     for key in KEYS:
         await cache.get(key)
 
@@ -51,7 +51,7 @@ async def main():
             await asyncio.sleep(0)
             return key
 
-        fresh = jcache.AsyncCache(loader=load)
+        fresh = cadwrelch.AsyncCache(loader=load)
         await asyncio.gather(*[fresh.get('a') for _ in range(count)])
         assert store['loads'] == 1
 
@@ -65,7 +65,7 @@ async def main():
     before = rss()
     table = dict(zip(keys, values))
     between = rss()
-    large = jcache.Cache(maxsize=count * 2)
+    large = cadwrelch.Cache(maxsize=count * 2)
     opened = rss()
     for key in keys:
         large[key] = values[key]

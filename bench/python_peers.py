@@ -1,7 +1,7 @@
 #!/usr/bin/env python3
 """Measures hits, puts and hits of threads of this cache beside functools.lru_cache and cachetools, in one process and in turns.
 
-usage: python_peers.py [ROUNDS]     JCACHE_CTYPES may name a folder with the module by ctypes, as it was before, with JCACHE_CORE_SO
+usage: python_peers.py [ROUNDS]     CADWRELCH_CTYPES may name a folder with the module by ctypes, as it was before, with CADWRELCH_CORE_SO
 """
 import collections
 import functools
@@ -13,7 +13,7 @@ import threading
 import time
 
 import cachetools
-import jcache
+import cadwrelch
 
 KEYS = [f'key number {i}' for i in range(1024)]
 ROOM = 16384
@@ -21,11 +21,11 @@ CALLS = 100 * len(KEYS)
 
 
 def by_ctypes():
-    folder = os.environ.get('JCACHE_CTYPES')
+    folder = os.environ.get('CADWRELCH_CTYPES')
     if not folder:
         return None
-    spec = importlib.util.spec_from_file_location('jcache_ctypes', f'{folder}/__init__.py', submodule_search_locations=[folder])
-    sys.modules['jcache_ctypes'] = module = importlib.util.module_from_spec(spec)
+    spec = importlib.util.spec_from_file_location('cadwrelch_ctypes', f'{folder}/__init__.py', submodule_search_locations=[folder])
+    sys.modules['cadwrelch_ctypes'] = module = importlib.util.module_from_spec(spec)
     spec.loader.exec_module(module)
     return module
 
@@ -63,7 +63,7 @@ def gets():
         filled(cache.put)
         found['by ctypes: Cache.get'] = cache.get
     for name, words in (('', {}), (', ttl', {'ttl': 1000}), (', tti', {'tti': 1000}), (', ttl, timer=time.monotonic', {'ttl': 1000, 'timer': time.monotonic})):
-        cache = jcache.Cache(stripes=16, capacity=1024, **words)
+        cache = cadwrelch.Cache(stripes=16, capacity=1024, **words)
         filled(cache.put)
         found[f'extension: Cache.get{name}'] = cache.get
         if not words:
@@ -79,10 +79,10 @@ def puts():
     if old is not None:
         found['by ctypes: Cache.put'] = old.Cache(stripes=16, capacity=1024).put
         found['by ctypes: Cache.put, written through'] = old.Cache(writer=lambda key, value: None, stripes=16, capacity=1024).put
-    found['extension: Cache[]='] = jcache.Cache(stripes=16, capacity=1024).__setitem__
-    found['extension: Cache.put'] = jcache.Cache(stripes=16, capacity=1024).put
-    found['extension: Cache.put, ttl'] = jcache.Cache(stripes=16, capacity=1024, ttl=1000).put
-    found['extension: Cache.put, written through'] = jcache.Cache(writer=lambda key, value: None, stripes=16, capacity=1024).put
+    found['extension: Cache[]='] = cadwrelch.Cache(stripes=16, capacity=1024).__setitem__
+    found['extension: Cache.put'] = cadwrelch.Cache(stripes=16, capacity=1024).put
+    found['extension: Cache.put, ttl'] = cadwrelch.Cache(stripes=16, capacity=1024, ttl=1000).put
+    found['extension: Cache.put, written through'] = cadwrelch.Cache(writer=lambda key, value: None, stripes=16, capacity=1024).put
     return found
 
 

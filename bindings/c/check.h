@@ -1,7 +1,7 @@
 /* What the tests of this folder share. */
 #ifndef JC_CHECK_H
 #define JC_CHECK_H
-#include "jcache_core.h"
+#include "cadwrelch.h"
 #include <stdio.h>
 #include <stdlib.h>
 #include <string.h>

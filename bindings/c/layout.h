@@ -1,7 +1,7 @@
 /* Sizes and offsets of the header's structs, on a target of 64 bits: bindings in other languages repeat them. */
 #ifndef JC_LAYOUT_H
 #define JC_LAYOUT_H
-#include "jcache_core.h"
+#include "cadwrelch.h"
 #include <assert.h>
 
 #define AT(type, field, offset) static_assert(offsetof(type, field) == (offset), #type "." #field)

@@ -14,8 +14,8 @@ import random
 import subprocess
 import sys
 
-from jcache import core
-from jcache.core import CoreError, Desk, Processed, Shape, legal
+from cadwrelch import core
+from cadwrelch.core import CoreError, Desk, Processed, Shape, legal
 
 KEYS = ['a', 'b', 'c', 'd', 'e1', 'f.2']
 VALUES = ['1', '2', '33', 'v_4', '~']

@@ -6,7 +6,7 @@ asked once for all keys of a round, and may fail in part. Beside them are the ca
 usage: differ_bulk.py JCACHE FIRST COUNT     JCACHE: the program; FIRST: the first random seed
 """
 from differ import HISTORY, KEYS, VALUES, Call, Player, main, raw, word
-from jcache import core
+from cadwrelch import core
 
 # Each call of many keys: the operation at each of them, and the words before them.
 BULK = {

@@ -1,4 +1,4 @@
-"""Builds the extension jcache._core of C and of the proved core: its assembly in core/, or the archive that JCACHE_CORE names."""
+"""Builds the extension cadwrelch._core of C and of the proved core: its assembly in core/, or the archive that CADWRELCH_CORE names."""
 import os
 
 from setuptools import Extension, setup
@@ -9,7 +9,7 @@ try:
 except ImportError:
     from wheel.bdist_wheel import bdist_wheel
 
-ARCHIVE = os.environ.get('JCACHE_CORE')
+ARCHIVE = os.environ.get('CADWRELCH_CORE')
 
 
 class BuildExt(build_ext):
@@ -29,10 +29,10 @@ class Wheel(bdist_wheel):
 
 
 core = Extension(
-    'jcache._core',
-    sources=['jcache/_core.c'] + ([] if ARCHIVE else ['core/jcache_core.s']),
+    'cadwrelch._core',
+    sources=['cadwrelch/_core.c'] + ([] if ARCHIVE else ['core/cadwrelch.s']),
     include_dirs=['core/include'],
-    depends=['core/include/jcache_core.h'] + ([ARCHIVE] if ARCHIVE else []),
+    depends=['core/include/cadwrelch.h'] + ([ARCHIVE] if ARCHIVE else []),
     extra_compile_args=['-std=c11', '-O2', '-Wall', '-Wextra', '-Wno-missing-field-initializers'],
     extra_link_args=['-Wl,--whole-archive', ARCHIVE, '-Wl,--no-whole-archive'] if ARCHIVE else [],
     py_limited_api=True,

@@ -1,7 +1,7 @@
 /* A stand-in for the core, for bench/peers alone: with it the provider shows what Java and JNI cost by themselves. It is ordinary C without
  * any proof or test, and has get and put with a loader and a writer, keys and values of eight bytes, LRU order and reservations; no other
  * operation, no joined load, no event. */
-#include "jcache_core.h"
+#include "cadwrelch.h"
 #include <stdlib.h>
 #include <string.h>
 

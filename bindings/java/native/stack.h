@@ -4,8 +4,8 @@
  * Linux) above its guard pages (16 kB). If that happened between a call's reservation and its commit, the key
  * would stay reserved for ever. So a call begins only if there is more left than that by a margin, which is far
  * more than a last phase at the same depth takes. */
-#ifndef JCACHE_STACK_H
-#define JCACHE_STACK_H
+#ifndef CADWRELCH_STACK_H
+#define CADWRELCH_STACK_H
 #include <pthread.h>
 #include <stdbool.h>
 #include <stdint.h>

@@ -9,7 +9,7 @@ import sys
 import threading
 
 sys.path.insert(0, os.path.join(os.path.dirname(os.path.abspath(__file__)), '..'))
-import jcache  # noqa: E402
+import cadwrelch  # noqa: E402
 
 PAGES = ['home', 'news', 'about']
 
@@ -64,7 +64,7 @@ def work(cache, rounds):
 
 def main(path, rounds=10):
     table = Table(path)
-    with contextlib.closing(jcache.Cache(loader=table, writer=table, stripes=4, capacity=1000)) as cache:
+    with contextlib.closing(cadwrelch.Cache(loader=table, writer=table, stripes=4, capacity=1000)) as cache:
         workers = [threading.Thread(target=work, args=(cache, rounds)) for _ in range(4)]
         for worker in workers:
             worker.start()

@@ -4,7 +4,7 @@ import gc
 import threading
 import unittest
 
-import jcache
+import cadwrelch
 
 from .stores import Broken
 
@@ -44,7 +44,7 @@ async def turns(count=5):
 class Coroutines(unittest.IsolatedAsyncioTestCase):
     async def asyncSetUp(self):
         self.store = Gated()
-        self.cache = jcache.AsyncCache(loader=self.store, writer=self.store, stripes=2, capacity=64)
+        self.cache = cadwrelch.AsyncCache(loader=self.store, writer=self.store, stripes=2, capacity=64)
 
     async def asyncTearDown(self):
         await turns()
@@ -66,7 +66,7 @@ class Coroutines(unittest.IsolatedAsyncioTestCase):
         await turns()
         self.store.may_answer.set()
         for result in await asyncio.gather(*gets, return_exceptions=True):
-            self.assertIsInstance(result, jcache.LoaderError)
+            self.assertIsInstance(result, cadwrelch.LoaderError)
             self.assertIs(result.__cause__, self.store.fails)
         self.assertEqual(self.store.loads, ['a'])
 
@@ -145,18 +145,18 @@ class Coroutines(unittest.IsolatedAsyncioTestCase):
         async def load(key):
             return await asyncio.gather(cache.get(key), cache.get('other'))
 
-        cache = jcache.AsyncCache(loader=load)
-        with self.assertRaises(jcache.LoaderError) as caught:
+        cache = cadwrelch.AsyncCache(loader=load)
+        with self.assertRaises(cadwrelch.LoaderError) as caught:
             await asyncio.wait_for(cache.get('a'), 10)
         cause = caught.exception
         while cause.__cause__ is not None:
             cause = cause.__cause__
-        self.assertIsInstance(cause, jcache.DeadlockError)
+        self.assertIsInstance(cause, cadwrelch.DeadlockError)
 
     async def test_a_failed_write(self):
         self.store.may_answer.set()
         self.store.fails = Broken('no')
-        with self.assertRaises(jcache.WriterError):
+        with self.assertRaises(cadwrelch.WriterError):
             await self.cache.put('a', 1)
         self.assertNotIn('a', self.cache)
 
@@ -185,7 +185,7 @@ class Coroutines(unittest.IsolatedAsyncioTestCase):
         put = asyncio.create_task(self.cache.put('a', 2))
         await turns()
         self.cache.close()
-        with self.assertRaises(jcache.ClosedError):
+        with self.assertRaises(cadwrelch.ClosedError):
             await put
         self.store.may_answer.set()
         self.assertEqual(await get, 'value of a')
@@ -199,7 +199,7 @@ class Coroutines(unittest.IsolatedAsyncioTestCase):
             await asyncio.sleep(0.1)
             return threading.get_ident()
 
-        cache = jcache.AsyncCache(loader=load)
+        cache = cadwrelch.AsyncCache(loader=load)
         threads = [threading.Thread(target=lambda: found.append(asyncio.run(cache.get('a')))) for _ in range(4)]
         for thread in threads:
             thread.start()

@@ -5,7 +5,7 @@ import sys
 import tempfile
 import unittest
 
-import jcache
+import cadwrelch
 
 from .stores import Broken, Store
 
@@ -15,7 +15,7 @@ HERE = os.path.dirname(os.path.abspath(__file__))
 def cache_of(store, **words):
     words.setdefault('stripes', 2)
     words.setdefault('capacity', 8)
-    return jcache.Cache(loader=store.load, writer=store, **words)
+    return cadwrelch.Cache(loader=store.load, writer=store, **words)
 
 
 class Operations(unittest.TestCase):
@@ -126,14 +126,14 @@ class Operations(unittest.TestCase):
         self.assertEqual(hash(-1), hash(-2))
 
     def test_without_a_store_it_is_a_map(self):
-        with jcache.Cache() as cache:
+        with cadwrelch.Cache() as cache:
             self.assertIsNone(cache.get('a'))
             cache['a'] = 1
             self.assertEqual(cache['a'], 1)
 
     def test_callables(self):
         held = {}
-        with jcache.Cache(loader=held.get, writer=held.__setitem__) as cache:
+        with cadwrelch.Cache(loader=held.get, writer=held.__setitem__) as cache:
             cache['a'] = 1
             cache.remove('b')
             self.assertEqual(held, {'a': 1, 'b': None})
@@ -143,7 +143,7 @@ class Operations(unittest.TestCase):
             """An empty dict: its truth is False."""
 
         store = Held({'a': 1})
-        with jcache.Cache(loader=store, writer=store) as cache:
+        with cadwrelch.Cache(loader=store, writer=store) as cache:
             cache['b'] = cache['a']
             self.assertEqual((bool(store), store.held), (False, {'a': 1, 'b': 1}))
 
@@ -155,11 +155,11 @@ class Operations(unittest.TestCase):
     def test_limits(self):
         for words in ({'stripes': 0}, {'stripes': 4097}, {'capacity': 0}, {'capacity': 4097}, {'history': 15}, {'maxsize': 0}, {'maxsize': 4096 * 4096 + 1},
                       {'maxsize': 10, 'capacity': 10}):
-            self.assertRaises(ValueError, jcache.Cache, **words)
+            self.assertRaises(ValueError, cadwrelch.Cache, **words)
 
 
     def test_maxsize_is_dealt_to_stripes(self):
-        cache = jcache.Cache(maxsize=10_000)
+        cache = cadwrelch.Cache(maxsize=10_000)
         for key in range(20_000):
             cache[key] = key
         self.assertLessEqual(len(cache), 10_002)
@@ -181,7 +181,7 @@ class Failures(unittest.TestCase):
 
     def test_loader(self):
         self.store.load_fails = Broken('no load')
-        with self.assertRaises(jcache.LoaderError) as caught:
+        with self.assertRaises(cadwrelch.LoaderError) as caught:
             self.cache['b']
         self.assertIs(caught.exception.__cause__, self.store.load_fails)
         self.store.load_fails = None
@@ -193,7 +193,7 @@ class Failures(unittest.TestCase):
         for call in (lambda: cache.put('a', 9), lambda: cache.get_and_put('a', 9), lambda: cache.put_if_absent('b', 9),
                      lambda: cache.remove('a'), lambda: cache.remove_if('a', 1), lambda: cache.get_and_remove('a'),
                      lambda: cache.replace('a', 9), lambda: cache.replace_if('a', 1, 9), lambda: cache.get_and_replace('a', 9)):
-            with self.assertRaises(jcache.WriterError) as caught:
+            with self.assertRaises(cadwrelch.WriterError) as caught:
                 call()
             self.assertIs(caught.exception.__cause__, self.store.write_fails)
         self.assertEqual(cache['a'], 1)
@@ -215,7 +215,7 @@ class Failures(unittest.TestCase):
         cache = self.cache
         for call in (lambda: cache.get('a'), lambda: cache.put('a', 1), lambda: cache.remove('a'), lambda: 'a' in cache, cache.stats,
                      cache.keys, cache.clear, lambda: cache.get_many('ab'), lambda: cache.invoke('a', print)):
-            self.assertRaises(jcache.ClosedError, call)
+            self.assertRaises(cadwrelch.ClosedError, call)
         cache.close()
 
     def test_a_key_that_can_not_be_compared(self):
@@ -279,17 +279,17 @@ class Processors(unittest.TestCase):
 
         def process(entry):
             for _ in range(2):
-                self.assertRaises(jcache.LoaderError, lambda: entry.value)
+                self.assertRaises(cadwrelch.LoaderError, lambda: entry.value)
             entry.value = 5
 
-        with self.assertRaises(jcache.LoaderError) as caught:
+        with self.assertRaises(cadwrelch.LoaderError) as caught:
             self.cache.invoke('a', process)
         self.assertIs(caught.exception.__cause__, self.store.load_fails)
         self.assertEqual((self.store.loads, len(self.cache)), (1, 0))
 
     def test_a_failed_write(self):
         self.store.write_fails = Broken('no write')
-        with self.assertRaises(jcache.WriterError):
+        with self.assertRaises(cadwrelch.WriterError):
             self.cache.invoke('a', lambda entry: entry.remove())
         self.assertEqual(len(self.cache), 0)
 
@@ -326,7 +326,7 @@ class Bulk(unittest.TestCase):
     def test_a_failed_load(self):
         self.cache.get('a')
         self.store.load_fails = Broken('no load')
-        with self.assertRaises(jcache.BulkError) as caught:
+        with self.assertRaises(cadwrelch.BulkError) as caught:
             self.cache.get_many('abc')
         self.assertEqual(sorted(caught.exception.failed), ['b', 'c'])
         self.assertIs(caught.exception.__cause__, self.store.load_fails)
@@ -336,16 +336,16 @@ class Bulk(unittest.TestCase):
             def write_many(self, items):
                 odd = [key for key in items if key % 2]
                 self.held.update({key: value for key, value in items.items() if key not in odd})
-                raise jcache.NotWritten(odd)
+                raise cadwrelch.NotWritten(odd)
 
         store = Odd()
         cache = cache_of(store)
-        with self.assertRaises(jcache.BulkError) as caught:
+        with self.assertRaises(cadwrelch.BulkError) as caught:
             cache.set_many({key: key for key in range(10)})
         self.assertEqual(sorted(caught.exception.failed), [1, 3, 5, 7, 9])
         self.assertEqual(sorted(cache.keys()), [0, 2, 4, 6, 8])
         store.write_fails = Broken('no delete')
-        with self.assertRaises(jcache.BulkError) as caught:
+        with self.assertRaises(cadwrelch.BulkError) as caught:
             cache.delete_many([0, 2])
         self.assertIs(caught.exception.__cause__, store.write_fails)
         self.assertEqual(caught.exception.failed, [0, 2])
@@ -362,7 +362,7 @@ class Bulk(unittest.TestCase):
         store.write_fails = Broken('no write')
         cache = cache_of(store)
         entries = dict.fromkeys(range(200), 1)
-        with self.assertRaises(jcache.BulkError) as caught:
+        with self.assertRaises(cadwrelch.BulkError) as caught:
             cache.set_many(entries)
         self.assertIs(caught.exception.__cause__, store.write_fails)
         self.assertEqual(sorted(caught.exception.failed), sorted(entries))

@@ -4,8 +4,8 @@ import subprocess
 import sys
 import unittest
 
-from jcache import core
-from jcache.core import CoreError, Desk, Processed, Shape
+from cadwrelch import core
+from cadwrelch.core import CoreError, Desk, Processed, Shape
 
 HERE = os.path.dirname(os.path.abspath(__file__))
 
@@ -80,9 +80,9 @@ class Misuse(unittest.TestCase):
         self.refused(core.BAD_ARGUMENT, core.legal, shape(), [(b'', b'')], events)
 
     def test_a_library_that_is_missing(self):
-        environment = dict(os.environ, JCACHE_CORE_SO='/nowhere/libjcache_core.so')
-        ran = subprocess.run([sys.executable, '-c', 'import jcache.core'], env=environment, stderr=subprocess.PIPE, universal_newlines=True)
-        self.assertIn('there is no /nowhere/libjcache_core.so', ran.stderr)
+        environment = dict(os.environ, CADWRELCH_CORE_SO='/nowhere/libcadwrelch.so')
+        ran = subprocess.run([sys.executable, '-c', 'import cadwrelch.core'], env=environment, stderr=subprocess.PIPE, universal_newlines=True)
+        self.assertIn('there is no /nowhere/libcadwrelch.so', ran.stderr)
 
 
 if __name__ == '__main__':

@@ -4,7 +4,7 @@ import threading
 import time
 import unittest
 
-import jcache
+import cadwrelch
 
 from .stores import Store
 
@@ -25,7 +25,7 @@ class Expiry(unittest.TestCase):
         self.store = Store({'a': 1})
 
     def cache(self, **words):
-        cache = jcache.Cache(loader=self.store, writer=self.store, stripes=2, capacity=8, timer=self.clock, **words)
+        cache = cadwrelch.Cache(loader=self.store, writer=self.store, stripes=2, capacity=8, timer=self.clock, **words)
         self.addCleanup(lambda: self.assertTrue(cache._agrees()))
         return cache
 
@@ -110,7 +110,7 @@ class Expiry(unittest.TestCase):
             def __del__(self):
                 dropped.append(cache.hit('b'))
 
-        cache = jcache.Cache(stripes=2, ttl=10, timer=self.clock)
+        cache = cadwrelch.Cache(stripes=2, ttl=10, timer=self.clock)
         cache['a'] = Value()
         self.clock.now += 5
         cache['b'] = 2
@@ -125,7 +125,7 @@ class Expiry(unittest.TestCase):
             asked.set()
             may_answer.wait(60)
 
-        cache = jcache.Cache(loader=lambda key: 'loaded', writer=write, ttl=10, timer=self.clock)
+        cache = cadwrelch.Cache(loader=lambda key: 'loaded', writer=write, ttl=10, timer=self.clock)
         cache.get('a')
         put = threading.Thread(target=lambda: cache.put('a', 'written'))
         put.start()
@@ -145,10 +145,10 @@ class Expiry(unittest.TestCase):
 
     def test_wrong_times(self):
         for words in ({'ttl': -1}, {'ttl': math.nan}, {'tti': 0}, {'ttl': 'a day'}):
-            self.assertRaises((ValueError, TypeError), jcache.Cache, **words)
+            self.assertRaises((ValueError, TypeError), cadwrelch.Cache, **words)
 
     def test_the_system_s_clock(self):
-        cache = jcache.Cache(ttl=0.05)
+        cache = cadwrelch.Cache(ttl=0.05)
         cache['a'] = 1
         self.assertEqual(cache.hit('a'), 1)
         time.sleep(0.06)

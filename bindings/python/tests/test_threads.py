@@ -4,7 +4,7 @@ import threading
 import time
 import unittest
 
-import jcache
+import cadwrelch
 
 from .stores import Broken, Store
 
@@ -46,7 +46,7 @@ class Gated:
 class Joins(unittest.TestCase):
     def setUp(self):
         self.loader = Gated()
-        self.cache = jcache.Cache(loader=self.loader, stripes=1)
+        self.cache = cadwrelch.Cache(loader=self.loader, stripes=1)
 
     def joined(self):
         results = run(*[lambda: self.cache.get('a')] * 8)
@@ -64,7 +64,7 @@ class Joins(unittest.TestCase):
     def test_joined_calls_share_the_failure(self):
         self.loader.answer = Broken('no')
         results = self.joined()
-        self.assertTrue(all(isinstance(result, jcache.LoaderError) and result.__cause__ is self.loader.answer for result in results))
+        self.assertTrue(all(isinstance(result, cadwrelch.LoaderError) and result.__cause__ is self.loader.answer for result in results))
 
     def test_other_keys_go_on(self):
         results = run(lambda: self.cache.get('a'))
@@ -82,7 +82,7 @@ class Joins(unittest.TestCase):
         waits = run(lambda: self.cache.put('a', 2))
         time.sleep(0.05)
         self.cache.close()
-        self.assertIsInstance(waits()[0], jcache.ClosedError)
+        self.assertIsInstance(waits()[0], cadwrelch.ClosedError)
         self.loader.may_answer.set()
         self.assertEqual(results(), [7])
         self.assertTrue(self.cache._agrees())
@@ -90,17 +90,17 @@ class Joins(unittest.TestCase):
 
 class Deadlocks(unittest.TestCase):
     def test_a_loader_that_waits_for_itself(self):
-        cache = jcache.Cache(loader=lambda key: cache.get(key))
-        with self.assertRaises(jcache.LoaderError) as caught:
+        cache = cadwrelch.Cache(loader=lambda key: cache.get(key))
+        with self.assertRaises(cadwrelch.LoaderError) as caught:
             cache.get('a')
-        self.assertIsInstance(caught.exception.__cause__, jcache.DeadlockError)
+        self.assertIsInstance(caught.exception.__cause__, cadwrelch.DeadlockError)
         self.assertTrue(cache._agrees())
 
     def test_a_call_of_many_keys_that_waits_for_itself(self):
         store = Store()
         store.write_fails = Broken('no write')
-        cache = jcache.Cache(loader=lambda key: cache.set_many({'other': 1, key: 2}), writer=store)
-        with self.assertRaises(jcache.LoaderError) as caught:
+        cache = cadwrelch.Cache(loader=lambda key: cache.set_many({'other': 1, key: 2}), writer=store)
+        with self.assertRaises(cadwrelch.LoaderError) as caught:
             cache.get('a')
         stopped = caught.exception.__cause__
         self.assertEqual((stopped.failed, stopped.__cause__), (['other', 'a'], store.write_fails))
@@ -113,14 +113,14 @@ class Deadlocks(unittest.TestCase):
             barrier.wait(60)
             return cache.get({'left': 'right', 'right': 'left'}[key])
 
-        cache = jcache.Cache(loader=load)
+        cache = cadwrelch.Cache(loader=load)
         results = run(lambda: cache.get('left'), lambda: cache.get('right'))()
         causes = []
         for result in results:
             while result is not None:
                 causes.append(type(result))
                 result = getattr(result, '__cause__', None)
-        self.assertIn(jcache.DeadlockError, causes)
+        self.assertIn(cadwrelch.DeadlockError, causes)
         self.assertTrue(cache._agrees())
 
 
@@ -128,7 +128,7 @@ class Reentrant(unittest.TestCase):
     """Keys and values whose own methods call the cache: nothing of the user's runs with a lock held, or these would never end."""
 
     def test_methods_of_keys_and_values_may_call_the_cache(self):
-        cache = jcache.Cache(loader=lambda key: Value(1), stripes=1, capacity=3)
+        cache = cadwrelch.Cache(loader=lambda key: Value(1), stripes=1, capacity=3)
         calls = {}
         inside = threading.local()
 
@@ -141,7 +141,7 @@ class Reentrant(unittest.TestCase):
                 cache.put('own', 1)
                 cache.get('other')
                 cache.remove('own')
-            except jcache.DeadlockError:
+            except cadwrelch.DeadlockError:
                 # The thread has a call out, and the stripe has no room.
                 pass
             inside.is_on = False
@@ -225,12 +225,12 @@ class Stress(unittest.TestCase):
             lambda: cache.set_many(dict.fromkeys(few, value)), lambda: cache.delete_many(few)]
         try:
             chance.choice(calls)()
-        except jcache.CacheError:
+        except cadwrelch.CacheError:
             pass
 
     def long_run(self, **words):
         store = Shaky()
-        cache = jcache.Cache(loader=store, writer=store, **words)
+        cache = cadwrelch.Cache(loader=store, writer=store, **words)
 
         def work(seed):
             chance = random.Random(seed)

@@ -1,5 +1,5 @@
 //! A cache before a function: `cargo run --example first`.
-use jcache::Cache;
+use cadwrelch::Cache;
 
 fn main() -> Result<(), Box<dyn std::error::Error>> {
     let read = |path: &String| std::fs::read_to_string(path).map(Some);

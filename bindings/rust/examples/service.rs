@@ -1,7 +1,7 @@
 //! A service before a folder of files, each of which has a number: `cargo run --example service -- FOLDER`.
 //!
 //! Eight workers count visits of pages. The folder is the store of record: the numbers are there when the service begins again.
-use jcache::{Cache, Loader, Writer};
+use cadwrelch::{Cache, Loader, Writer};
 use std::path::PathBuf;
 use std::sync::Arc;
 use std::{fs, io, thread};

@@ -2,8 +2,8 @@
 //!
 //! The phases of a call are public, so a task awaits its own store between them. A task that waits for another's load is woken when
 //! that load is over; one that is dropped on the way leaves no key reserved.
-use jcache::call::Begun;
-use jcache::{Cache, Error, NoWriter, Op, Reply};
+use cadwrelch::call::Begun;
+use cadwrelch::{Cache, Error, NoWriter, Op, Reply};
 use std::collections::VecDeque;
 use std::convert::Infallible;
 use std::future::Future;

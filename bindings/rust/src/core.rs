@@ -10,7 +10,7 @@
 #![allow(unsafe_code)]
 
 mod events;
-use jcache_core_sys as raw;
+use cadwrelch_sys as raw;
 mod words;
 
 pub use events::{Event, Outside, What, legal};

@@ -57,7 +57,7 @@ where
     /// If it fails ([`Error::processor`](crate::Error::processor) makes an error of its own) or panics, nothing is changed.
     ///
     /// ```
-    /// # let cache = jcache::Cache::<String, u32>::builder().build()?;
+    /// # let cache = cadwrelch::Cache::<String, u32>::builder().build()?;
     /// let visits = cache.invoke("page".to_string(), |entry| {
     ///     let visits = entry.value()?.map_or(0, |visits| *visits) + 1;
     ///     entry.set(visits);

@@ -1,7 +1,7 @@
 //! A cache with read-through, write-through and request coalescing, after the rules of JCache (JSR 107).
 //!
 //! ```
-//! use jcache::Cache;
+//! use cadwrelch::Cache;
 //!
 //! let cache = Cache::<String, usize>::builder()
 //!     .loader(|key: &String| Ok::<_, std::io::Error>(Some(key.len())))

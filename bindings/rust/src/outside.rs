@@ -9,7 +9,7 @@ use std::sync::Arc;
 /// call at a time. If it panics its call has failed, and the panic goes on.
 ///
 /// ```
-/// use jcache::{Cache, Loader, Writer};
+/// use cadwrelch::{Cache, Loader, Writer};
 /// use std::collections::HashMap;
 /// use std::convert::Infallible;
 /// use std::sync::{Arc, Mutex};

@@ -1,5 +1,5 @@
 //! The cache of bytes.
-use jcache::{BytesCache, Error, Loader, NoLoader, Writer};
+use cadwrelch::{BytesCache, Error, Loader, NoLoader, Writer};
 use std::collections::HashMap;
 use std::panic::{AssertUnwindSafe, catch_unwind};
 use std::sync::atomic::{AtomicUsize, Ordering::SeqCst};

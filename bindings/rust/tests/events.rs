@@ -1,5 +1,5 @@
 //! Events that a desk hands out: each generation is a legal history.
-use jcache::core::{
+use cadwrelch::core::{
     Asked, Cause, Code, Desk, Effect, Event, Loaded, Op, Outside, PickedUp, Processed, Reply,
     Shape, Ticket, What, Written, legal,
 };

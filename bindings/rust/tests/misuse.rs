@@ -1,5 +1,5 @@
 //! What the core refuses of a desk: each is a code, with nothing done.
-use jcache::core::{
+use cadwrelch::core::{
     Asked, Code, Desk, Effect, Join, Loaded, Op, PickedUp, Processed, Reply, Shape, Statistics,
     Ticket, Written,
 };

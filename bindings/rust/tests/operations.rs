@@ -1,7 +1,7 @@
 //! Each operation of one key: present and missing, and with a loader or a writer that fails or panics.
 mod common;
 use common::{Broken, Mode, Texts, cache_of, text};
-use jcache::{BuildError, Cache, Error};
+use cadwrelch::{BuildError, Cache, Error};
 use std::panic::{AssertUnwindSafe, catch_unwind};
 use std::sync::atomic::Ordering::SeqCst;
 
@@ -161,7 +161,7 @@ fn a_failing_loader_leaves_the_entry_missing() {
 /// What each mutation does with a writer that fails, and that it does nothing to the entry.
 fn mutations(
     cache: &Texts,
-) -> Vec<Result<(), jcache::CacheError<String, String, common::Outside, common::Outside>>> {
+) -> Vec<Result<(), cadwrelch::CacheError<String, String, common::Outside, common::Outside>>> {
     vec![
         cache.put(own("a"), own("9")),
         cache.get_and_put(own("a"), own("9")).map(drop),

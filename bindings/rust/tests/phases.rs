@@ -1,8 +1,8 @@
 //! Calls in phases: withdrawn, cancelled, joined and awaited.
 mod common;
 use common::{Broken, Texts, cache_of, text};
-use jcache::call::{Begun, Change, Processing};
-use jcache::{Cache, Error, Expected, Op, Reply};
+use cadwrelch::call::{Begun, Change, Processing};
+use cadwrelch::{Cache, Error, Expected, Op, Reply};
 use std::future::Future;
 use std::panic::{AssertUnwindSafe, catch_unwind};
 use std::pin::pin;
@@ -22,7 +22,7 @@ impl Wake for Counted {
 fn begin<'c>(
     cache: &'c Texts,
     op: &Op<String>,
-) -> jcache::CacheBegun<'c, String, String, common::Outside, common::Outside> {
+) -> cadwrelch::CacheBegun<'c, String, String, common::Outside, common::Outside> {
     cache.begin("a".to_string(), op).unwrap()
 }
 
@@ -40,7 +40,7 @@ fn a_ticket_that_is_dropped_is_withdrawn() {
         drop(begun);
         assert!(cache.agrees());
     }
-    assert_eq!(cache.stats().unwrap(), jcache::Statistics::default());
+    assert_eq!(cache.stats().unwrap(), cadwrelch::Statistics::default());
 }
 
 #[test]

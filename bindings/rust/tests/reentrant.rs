@@ -1,5 +1,5 @@
 //! Keys and values whose own methods call the cache: nothing of the user's runs with a lock held, or these would never end.
-use jcache::{Cache, Error};
+use cadwrelch::{Cache, Error};
 use std::cell::Cell;
 use std::collections::HashMap;
 use std::hash::{Hash, Hasher};

@@ -1,7 +1,7 @@
 package books;
 
-import static jcache.tests.Check.equal;
-import static jcache.tests.Check.holds;
+import static cadwrelch.tests.Check.equal;
+import static cadwrelch.tests.Check.holds;
 
 import java.util.ArrayList;
 import java.util.Arrays;
@@ -12,7 +12,7 @@ import java.util.concurrent.Executors;
 import java.util.concurrent.Future;
 import java.util.concurrent.TimeUnit;
 import javax.cache.CacheManager;
-import jcache.tests.Check.Test;
+import cadwrelch.tests.Check.Test;
 import org.springframework.aop.framework.Advised;
 import org.springframework.cache.Cache;
 import org.springframework.cache.jcache.JCacheCacheManager;
@@ -55,7 +55,7 @@ final class BooksTest {
     static void springFindsTheProvider() {
         try (Scene scene = new Scene()) {
             String manager = scene.context.getBean(CacheManager.class).getClass().getName();
-            holds("Spring's caches are of this provider: " + manager, manager.startsWith("jcache.provider."));
+            holds("Spring's caches are of this provider: " + manager, manager.startsWith("cadwrelch."));
             equal("all of them", new HashSet<>(Arrays.asList("titles", "summaries", "lists", "authors", "notes")),
                     new HashSet<>(scene.context.getBean(JCacheCacheManager.class).getCacheNames()));
         }

@@ -1,18 +1,18 @@
-//! The library as its header `jcache_core.h` has it: structs, constants and exports.
+//! The library as its header `cadwrelch.h` has it: structs, constants and exports.
 //!
 //! The library itself is in this crate, as assembly for x86-64 Linux: it needs neither a C compiler nor the prover that made it. Set
-//! `JCACHE_CORE` to the path of a `libjcache_core.a` to link that one instead. What the functions require is in the header.
+//! `CADWRELCH_CORE` to the path of a `libcadwrelch.a` to link that one instead. What the functions require is in the header.
 #![no_std]
 #![allow(missing_docs, clippy::missing_safety_doc, clippy::new_without_default)]
 
 #[cfg(all(not(archive), not(all(target_arch = "x86_64", target_os = "linux"))))]
 compile_error!(
-    "the core is there for x86-64 Linux alone; set JCACHE_CORE to the path of a libjcache_core.a for this target"
+    "the core is there for x86-64 Linux alone; set CADWRELCH_CORE to the path of a libcadwrelch.a for this target"
 );
 
 #[cfg(all(not(archive), target_arch = "x86_64", target_os = "linux"))]
 core::arch::global_asm!(
-    include_str!("../core/jcache_core.s"),
+    include_str!("../core/cadwrelch.s"),
     options(att_syntax, raw)
 );
 

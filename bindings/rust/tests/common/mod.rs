@@ -1,6 +1,6 @@
 //! A store in memory that counts its calls, and fails or panics when it is told to.
 #![allow(dead_code)]
-use jcache::{Cache, Loader, Shared, Writer};
+use cadwrelch::{Cache, Loader, Shared, Writer};
 use std::collections::HashMap;
 use std::fmt;
 use std::sync::atomic::{AtomicUsize, Ordering::SeqCst};

@@ -1,4 +1,4 @@
-package jcache.provider;
+package cadwrelch.jcache;
 
 import java.util.List;
 import javax.cache.Cache;

@@ -1,0 +1,398 @@
+package cadwrelch.jcache;
+
+import java.util.ArrayList;
+import java.util.Collection;
+import java.util.HashMap;
+import java.util.Iterator;
+import java.util.List;
+import java.util.Map;
+import java.util.Objects;
+import java.util.Set;
+import javax.cache.Cache;
+import javax.cache.CacheManager;
+import javax.cache.configuration.CacheEntryListenerConfiguration;
+import javax.cache.configuration.Configuration;
+import javax.cache.configuration.MutableConfiguration;
+import javax.cache.integration.CompletionListener;
+import javax.cache.processor.EntryProcessor;
+import javax.cache.processor.EntryProcessorResult;
+
+/**
+ * A cache over stripes of the core: the calls of {@link Cache}. Each call of one key is a call of the core, in phases;
+ * one of many keys is made of such. A call waits while another one has reserved its key, and for no other.
+ */
+final class JcacheCache<K, V> implements Cache<K, V> {
+    /**
+     * So many keys of {@link #removeAll()} are removed by one call of many keys, and up to those of one stripe more.
+     */
+    private static final int KEYS_AT_ONCE = 1 << 16;
+
+    final MutableConfiguration<K, V> configuration;
+    private final JcacheManager manager;
+    private final String name;
+    private final CacheContext<K, V> context;
+    private final Invocations<K, V> invocations;
+    private final BackgroundLoads<K, V> loads;
+    private final boolean checksTypes;
+    private volatile boolean isClosed;
+
+    /**
+     * A cache of a manager. Its configuration is its own.
+     *
+     * @throws javax.cache.CacheException if its record can't be written
+     * @throws OutOfMemoryError if the core's memory can't be allocated
+     */
+    JcacheCache(JcacheManager manager, String name, MutableConfiguration<K, V> configuration, Settings settings) {
+        this.manager = manager;
+        this.name = name;
+        this.configuration = configuration;
+        checksTypes = configuration.getKeyType() != Object.class || configuration.getValueType() != Object.class;
+        context = new CacheContext<>(this, configuration, settings);
+        invocations = new Invocations<>(context, configuration.getValueType());
+        loads = new BackgroundLoads<>(context, name);
+    }
+
+    private void checkOpen() {
+        if (isClosed) {
+            throw new IllegalStateException("the cache " + name + " is closed");
+        }
+    }
+
+    private void checkKey(Object key) {
+        Objects.requireNonNull(key, "key");
+        if (checksTypes) {
+            configuration.getKeyType().cast(key);
+        }
+    }
+
+    private void checkValue(Object value) {
+        Objects.requireNonNull(value, "value");
+        if (checksTypes) {
+            configuration.getValueType().cast(value);
+        }
+    }
+
+    private void checkKeys(Set<? extends K> keys) {
+        checkOpen();
+        Objects.requireNonNull(keys, "keys");
+        keys.forEach(this::checkKey);
+    }
+
+    // Calls of one key.
+
+    /** A whole call: its phases, and whom they ask between. */
+    private Call call(int op, K key, V value, V expected) {
+        checkOpen();
+        checkKey(key);
+        Copier copier = context.copier;
+        Call call = new Call(op, copier.lookup(key), value, copier.in(value), copier.expected(expected));
+        Stripe stripe = context.stripeOf(call.lookup.hash);
+        do {
+            stripe.begin(call, true);
+            finish(call, stripe);
+        } while (!call.isDone());
+        context.tellListeners(stripe);
+        Faults.throwFailureOf(call);
+        return call;
+    }
+
+    /** Afterwards the call is done, or told to begin anew. */
+    private void finish(Call call, Stripe stripe) {
+        switch (call.next) {
+            case Native.ASK_LOADER:
+                context.outside.load(call);
+                stripe.end(call);
+                break;
+            case Native.WRITE:
+            case Native.DELETE:
+                context.outside.write(call);
+                stripe.end(call);
+                break;
+            case Native.JOINED:
+                stripe.pickUp(call);
+                break;
+            default:
+        }
+    }
+
+    /** What is kept of a key's value: a get. Null: it has none. */
+    private Object stored(K key) {
+        Object stored = hit(key);
+        return stored != null ? stored : call(Native.GET, key, null, null).answer;
+    }
+
+    private Object hit(K key) {
+        KeyLookup sought = context.copier.lookup(key);
+        return context.stripeOf(sought.hash).hit(sought);
+    }
+
+    @Override
+    public V get(K key) {
+        checkOpen();
+        checkKey(key);
+        return context.valueOut(stored(key));
+    }
+
+    @Override
+    public boolean containsKey(K key) {
+        return call(Native.CONTAINS_KEY, key, null, null).isYes();
+    }
+
+    @Override
+    public void put(K key, V value) {
+        checkValue(value);
+        call(Native.PUT, key, value, null);
+    }
+
+    @Override
+    public V getAndPut(K key, V value) {
+        checkValue(value);
+        return context.valueOut(call(Native.GET_AND_PUT, key, value, null).answer);
+    }
+
+    @Override
+    public boolean putIfAbsent(K key, V value) {
+        checkValue(value);
+        return call(Native.PUT_IF_ABSENT, key, value, null).isYes();
+    }
+
+    @Override
+    public boolean remove(K key) {
+        return call(Native.REMOVE, key, null, null).isYes();
+    }
+
+    @Override
+    public boolean remove(K key, V oldValue) {
+        checkValue(oldValue);
+        return call(Native.REMOVE_IF, key, null, oldValue).isYes();
+    }
+
+    @Override
+    public V getAndRemove(K key) {
+        return context.valueOut(call(Native.GET_AND_REMOVE, key, null, null).answer);
+    }
+
+    @Override
+    public boolean replace(K key, V oldValue, V newValue) {
+        checkValue(oldValue);
+        checkValue(newValue);
+        return call(Native.REPLACE_IF, key, newValue, oldValue).isYes();
+    }
+
+    @Override
+    public boolean replace(K key, V value) {
+        checkValue(value);
+        return call(Native.REPLACE, key, value, null).isYes();
+    }
+
+    @Override
+    public V getAndReplace(K key, V value) {
+        checkValue(value);
+        return context.valueOut(call(Native.GET_AND_REPLACE, key, value, null).answer);
+    }
+
+    @Override
+    public <T> T invoke(K key, EntryProcessor<K, V, T> entryProcessor, Object... arguments) {
+        checkOpen();
+        checkKey(key);
+        Objects.requireNonNull(entryProcessor, "entryProcessor");
+        return invocations.invoke(key, entryProcessor, arguments);
+    }
+
+    // Calls of many keys.
+
+    @Override
+    public Map<K, V> getAll(Set<? extends K> keys) {
+        checkKeys(keys);
+        BulkCalls.Result result = BulkCalls.run(context, Native.GET, keys, key -> null);
+        if (result.cause != null) {
+            throw Faults.ofLoader(result.cause);
+        }
+        Map<K, V> found = new HashMap<>();
+        for (Call call : result.calls) {
+            if (call.answer != null) {
+                found.put(keyOf(call), context.valueOut(call.answer));
+            }
+        }
+        return found;
+    }
+
+    @SuppressWarnings("unchecked")
+    private K keyOf(Call call) {
+        return (K) call.key();
+    }
+
+    @Override
+    public void putAll(Map<? extends K, ? extends V> map) {
+        checkOpen();
+        Objects.requireNonNull(map, "map");
+        Map<K, V> values = new HashMap<>(map);
+        values.forEach((key, value) -> {
+            checkKey(key);
+            checkValue(value);
+        });
+        throwWriterFailure(BulkCalls.run(context, Native.PUT, values.keySet(), values::get));
+    }
+
+    @Override
+    public void removeAll(Set<? extends K> keys) {
+        checkKeys(keys);
+        removeEach(keys);
+    }
+
+    private void removeEach(Collection<? extends K> keys) {
+        throwWriterFailure(BulkCalls.run(context, Native.REMOVE, keys, key -> null));
+    }
+
+    private static void throwWriterFailure(BulkCalls.Result result) {
+        if (result.cause != null) {
+            throw Faults.ofWriter(result.cause);
+        }
+    }
+
+    @Override
+    public void removeAll() {
+        checkOpen();
+        List<K> keys = new ArrayList<>();
+        for (Stripe stripe : context.stripes()) {
+            stripe.keys().forEach(key -> keys.add(context.keyOut(key)));
+            if (keys.size() >= KEYS_AT_ONCE) {
+                removeEach(keys);
+                keys.clear();
+            }
+        }
+        removeEach(keys);
+    }
+
+    /**
+     * Takes each key out of the cache that is cached when its stripe is reached. No writer is asked, and no listener
+     * told, but of entries that have expired.
+     */
+    @Override
+    public void clear() {
+        checkOpen();
+        for (Stripe stripe : context.stripes()) {
+            for (Object key : stripe.keys()) {
+                stripe.begin(new Call(Native.CLEAR, context.copier.lookup(key)), true);
+            }
+            context.tellListeners(stripe);
+        }
+    }
+
+    @Override
+    public void loadAll(Set<? extends K> keys, boolean replaceExistingValues, CompletionListener completionListener) {
+        checkKeys(keys);
+        loads.begin(keys, replaceExistingValues, completionListener);
+    }
+
+    @Override
+    public <T> Map<K, EntryProcessorResult<T>> invokeAll(Set<? extends K> keys, EntryProcessor<K, V, T> entryProcessor,
+            Object... arguments) {
+        checkKeys(keys);
+        Objects.requireNonNull(entryProcessor, "entryProcessor");
+        return invocations.invokeAll(keys, entryProcessor, arguments);
+    }
+
+    @Override
+    public Iterator<Cache.Entry<K, V>> iterator() {
+        checkOpen();
+        return new EntryIterator<>(context, this::present, this::remove);
+    }
+
+    /**
+     * What is kept of a key's value, if it is cached: a get that doesn't load, unless the entry goes between its two
+     * looks. A hit isn't made if the entry may expire, or if a history that is recorded is full.
+     */
+    private Object present(K key) {
+        Object stored = hit(key);
+        return stored != null || !containsKey(key) ? stored : stored(key);
+    }
+
+    // Listeners.
+
+    @Override
+    public void registerCacheEntryListener(CacheEntryListenerConfiguration<K, V> listener) {
+        checkOpen();
+        synchronized (configuration) {
+            configuration.addCacheEntryListenerConfiguration(listener);
+        }
+        try {
+            context.addListener(listener);
+        } catch (RuntimeException | Error e) {
+            unconfigure(listener);
+            throw e;
+        }
+    }
+
+    private void unconfigure(CacheEntryListenerConfiguration<K, V> listener) {
+        synchronized (configuration) {
+            configuration.removeCacheEntryListenerConfiguration(listener);
+        }
+    }
+
+    @Override
+    public void deregisterCacheEntryListener(CacheEntryListenerConfiguration<K, V> listener) {
+        checkOpen();
+        Objects.requireNonNull(listener, "listener");
+        unconfigure(listener);
+        context.removeListener(listener);
+    }
+
+    // The cache as a whole.
+
+    @Override
+    public <C extends Configuration<K, V>> C getConfiguration(Class<C> type) {
+        return Unwrap.as(configuration, type);
+    }
+
+    @Override
+    public String getName() {
+        return name;
+    }
+
+    @Override
+    public CacheManager getCacheManager() {
+        return manager;
+    }
+
+    /** Later calls, and those that wait to begin, throw; calls under way end. */
+    @Override
+    public void close() {
+        synchronized (configuration) {
+            if (isClosed) {
+                return;
+            }
+            isClosed = true;
+        }
+        try {
+            loads.close();
+            context.close();
+        } finally {
+            manager.closed(this);
+        }
+    }
+
+    @Override
+    public boolean isClosed() {
+        return isClosed;
+    }
+
+    @Override
+    public <T> T unwrap(Class<T> type) {
+        return Unwrap.as(this, type);
+    }
+
+    boolean hasStatistics() {
+        return context.hasStatistics;
+    }
+
+    void setStatistics(boolean isOn) {
+        configuration.setStatisticsEnabled(isOn);
+        context.hasStatistics = isOn;
+    }
+
+    /** The stripes: what statistics and tests read. */
+    Stripe[] stripes() {
+        return context.stripes();
+    }
+}

@@ -1,0 +1,470 @@
+package cadwrelch.jcache;
+
+import java.util.List;
+import java.util.concurrent.locks.Condition;
+import java.util.concurrent.locks.ReentrantLock;
+import java.util.function.ToLongFunction;
+import javax.cache.event.EventType;
+import javax.cache.expiry.Duration;
+
+/**
+ * One stripe of a cache: its lock, the phases of calls under it, and who waits. Nothing of the user's runs with the
+ * lock held: no loader, writer, processor, listener or policy, and no method of a key or a value, but for those of the
+ * platform's own immutable types.
+ */
+final class Stripe {
+    final ReentrantLock lock = new ReentrantLock();
+    private final CacheContext<?, ?> context;
+    private final Counts counts = new Counts();
+    private final KeyedDesk desk;
+    private final Recorder recorder;
+    private final EventQueue<?, ?> events;
+    /** Those who wait for any commit, withdrawal or pick-up; null until somebody does. */
+    private Condition room;
+    private int waitingForRoom;
+    private boolean isClosed;
+
+    /** A stripe, whose events the recorder keeps, if it isn't null. */
+    Stripe(CacheContext<?, ?> context, Settings settings, Recorder recorder) {
+        this.context = context;
+        this.recorder = recorder;
+        events = new EventQueue<>(context, lock);
+        desk = context.openDesk(lock, settings, counts, recorder);
+    }
+
+    // First phases.
+
+    /** A get that finds its entry: what is cached of it; or null, and nothing was done. */
+    Object hit(KeyLookup sought) {
+        if (context.expiry != null) {
+            return null;
+        }
+        long began = context.hasStatistics ? counts.begin() : 0;
+        lock.lock();
+        try {
+            checkOpen();
+            Object stored = desk.hit(sought, sought.bytes == null ? find(sought) : null);
+            if (stored != null && context.hasStatistics) {
+                counts.hit(began);
+            }
+            return stored;
+        } finally {
+            lock.unlock();
+        }
+    }
+
+    /**
+     * The first phase of a call. Afterwards it is done, or its next says whom to ask or that it has joined a load. If
+     * it can't be made now, it waits, or, if it may not, its next is REFUSED: nothing was done.
+     *
+     * @throws IllegalStateException if the cache is closed, or the call would wait for its own thread
+     * @throws StackOverflowError if a last phase could overflow the stack, and leave the key reserved
+     */
+    void begin(Call call, boolean mayWait) {
+        if (!Native.hasStack()) {
+            throw new StackOverflowError("a call of a cache begins near the end of the stack");
+        }
+        call.stripe = this;
+        call.began = context.hasStatistics ? counts.begin() : 0;
+        lock.lock();
+        try {
+            while (!tryBegin(call) && mayWait) {
+                await(call);
+            }
+        } finally {
+            lock.unlock();
+        }
+        // While a key is reserved nothing is done that may fail: the call's end does it.
+        if (call.isDone()) {
+            afterwards(call);
+        }
+    }
+
+    /** False: it was refused, and nothing was done. */
+    private boolean tryBegin(Call call) {
+        Node node = locate(call);
+        try {
+            refuseOwnKey(call, node);
+            if (!expire(call, node)) {
+                call.next = Native.REFUSED;
+                return false;
+            }
+            desk.begin(call, node);
+            if (call.next == Native.DONE) {
+                stepped(call);
+            }
+            return call.next != Native.REFUSED;
+        } finally {
+            desk.nodes().dropUnused(node);
+        }
+    }
+
+    private void refuseOwnKey(Call call, Node node) {
+        boolean isOwn = node.owner != null && node.owner.thread == call.thread;
+        if (isOwn && !call.isAtOnce(desk.isCached(call.lookup, node), context.outside.readsThrough())) {
+            throw new IllegalStateException(
+                    "a loader, writer or processor calls the cache at the key that it was called for");
+        }
+    }
+
+    /**
+     * The node of a call's key, which may be new. What of the user's has to be called for that is called with the lock
+     * free.
+     */
+    private Node locate(Call call) {
+        KeyLookup sought = call.lookup;
+        for (;;) {
+            checkOpen();
+            Node node = find(sought);
+            if (node == null && sought.kept() != null) {
+                checkOpen();
+                return desk.add(sought.kept(), sought.hash);
+            }
+            if (node != null && !call.hasToCompare(node)) {
+                checkOpen();
+                return node;
+            }
+            Object cached = node == null ? null : node.stored;
+            long version = node == null ? 0 : node.version;
+            lock.unlock();
+            try {
+                if (node == null) {
+                    sought.copy(context.copier);
+                } else {
+                    call.compare(context.copier, cached, version);
+                }
+            } finally {
+                lock.lock();
+            }
+        }
+    }
+
+    /** The node of a key, or null. The lock may have been free meanwhile. */
+    private Node find(KeyLookup sought) {
+        for (;;) {
+            Node node = desk.nodes().find(sought);
+            if (node == null || sought.isEqual(node)) {
+                return node;
+            }
+            lock.unlock();
+            try {
+                sought.compare(node);
+            } finally {
+                lock.lock();
+            }
+        }
+    }
+
+    // Last phases.
+
+    /** The last phase of a call that has asked its loader, writer or processor, what they answered noted in it. */
+    void end(Call call) {
+        lock.lock();
+        try {
+            commit(call);
+        } finally {
+            lock.unlock();
+        }
+        afterwards(call);
+    }
+
+    /** Whatever happens, nobody waits for the call afterwards. */
+    private void commit(Call call) {
+        try {
+            desk.commit(call);
+            stepped(call);
+        } finally {
+            endReservation(call);
+        }
+    }
+
+    /** Gives a call up that has asked nobody. */
+    void withdraw(Call call) {
+        lock.lock();
+        try {
+            desk.withdraw(call);
+            endReservation(call);
+        } finally {
+            lock.unlock();
+        }
+        flushRecord();
+    }
+
+    private void endReservation(Call call) {
+        call.end();
+        List<Call> abandoned = call.takeAbandoned();
+        try {
+            for (int i = 0; i < abandoned.size(); i++) {
+                desk.pickUp(abandoned.get(i));
+            }
+        } finally {
+            left();
+        }
+    }
+
+    /** Waits for the load that a call has joined. Afterwards it is done, or its next is AGAIN. */
+    void pickUp(Call call) {
+        lock.lock();
+        try {
+            if (!call.joined.isOver()) {
+                awaitLoad(call);
+            }
+            pickUpAnswer(call);
+        } finally {
+            lock.unlock();
+        }
+        flushRecord();
+    }
+
+    private void pickUpAnswer(Call call) {
+        try {
+            desk.pickUp(call);
+            if (call.next == Native.DONE && context.hasStatistics) {
+                counts.joined(call.began);
+            }
+        } finally {
+            left();
+        }
+    }
+
+    private void awaitLoad(Call call) {
+        try {
+            Waits.enter(call.joined);
+        } catch (IllegalStateException e) {
+            call.joined.abandon(call);
+            throw e;
+        }
+        try {
+            while (!call.joined.isOver()) {
+                call.joined.sleep(lock);
+            }
+        } finally {
+            Waits.leave();
+        }
+    }
+
+    /** Nobody waits for the load that a call has joined any more. */
+    void abandon(Call call) {
+        lock.lock();
+        try {
+            if (call.joined.isOver()) {
+                pickUpAnswer(call);
+            } else {
+                call.joined.abandon(call);
+            }
+        } finally {
+            lock.unlock();
+        }
+        flushRecord();
+    }
+
+    /** A call has left: there is room, and perhaps nobody is left. */
+    private void left() {
+        if (waitingForRoom > 0) {
+            room.signalAll();
+        }
+        if (isClosed) {
+            desk.freeIfIdle();
+        }
+    }
+
+    // Waiting.
+
+    /** Sleeps until it may be tried again what was refused. */
+    private void await(Call call) {
+        if (call.blocker == null) {
+            awaitRoom();
+            return;
+        }
+        Waits.enter(call.blocker);
+        try {
+            while (!call.blocker.isOver() && !isClosed) {
+                call.blocker.sleep(lock);
+            }
+        } finally {
+            Waits.leave();
+        }
+    }
+
+    private void awaitRoom() {
+        if (Outside.isAsked()) {
+            throw new IllegalStateException("a loader, writer or processor calls the cache at a key of a stripe without"
+                    + " room: 64 keys of it are reserved, or as many calls are under way as its history has room for");
+        }
+        if (room == null) {
+            room = lock.newCondition();
+        }
+        waitingForRoom++;
+        try {
+            room.awaitUninterruptibly();
+        } finally {
+            waitingForRoom--;
+        }
+    }
+
+    // What follows a step.
+
+    /** Counts a step and notes its event, with the lock held. */
+    private void stepped(Call call) {
+        if (context.hasStatistics) {
+            counts.step(call);
+        }
+        if (call.hasChanged && call.op != Native.CLEAR && context.hasListeners()) {
+            Object kept = call.after != null ? call.after : call.before;
+            events.add(typeOf(call), call.node.key, kept, call.before);
+        }
+        if (context.expiry != null) {
+            call.due = Expiry.due(call);
+            call.dueVersion = call.node.version;
+        }
+    }
+
+    private static EventType typeOf(Call call) {
+        if (call.after == null) {
+            return EventType.REMOVED;
+        }
+        return call.before == null ? EventType.CREATED : EventType.UPDATED;
+    }
+
+    /** What is done with the lock free: the expiry policy is asked, and events that were taken are written. */
+    private void afterwards(Call call) {
+        if (call.due != Expiry.Due.NOTHING) {
+            renew(call);
+        }
+        flushRecord();
+    }
+
+    /** Writes the events that were taken. */
+    private void flushRecord() {
+        if (recorder != null) {
+            recorder.flush();
+        }
+    }
+
+    private void renew(Call call) {
+        Expiry.Due due = call.due;
+        call.due = Expiry.Due.NOTHING;
+        Duration duration = context.expiry.ask(due);
+        if (duration == null) {
+            return;
+        }
+        lock.lock();
+        try {
+            Node node = call.node;
+            if (node.version != call.dueVersion) {
+                return;
+            }
+            Expiry.set(node, duration);
+            if (duration.isZero() && node.owner == null && !isClosed) {
+                clearExpired(node, due != Expiry.Due.CREATION);
+                desk.nodes().dropUnused(node);
+            }
+        } finally {
+            lock.unlock();
+        }
+    }
+
+    /**
+     * Takes the entry out if it has expired. False: somebody has reserved its key, or there is no room; and the call's
+     * blocker says which.
+     */
+    private boolean expire(Call call, Node node) {
+        if (context.expiry == null || !Expiry.hasExpired(node)) {
+            return true;
+        }
+        call.blocker = node.owner;
+        return node.owner == null && clearExpired(node, true);
+    }
+
+    private boolean clearExpired(Node node, boolean isTold) {
+        Object before = node.stored;
+        if (!desk.clear(node)) {
+            return false;
+        }
+        if (isTold && context.hasListeners()) {
+            events.add(EventType.EXPIRED, node.key, before, before);
+        }
+        return true;
+    }
+
+    /** The events that listeners have not been told. */
+    EventQueue<?, ?> events() {
+        return events;
+    }
+
+    // The stripe as a whole.
+
+    private void checkOpen() {
+        if (isClosed) {
+            throw new IllegalStateException("the cache is closed");
+        }
+    }
+
+    /**
+     * Later calls, and those that wait to begin, throw; calls under way end, and the last one frees the core's memory.
+     */
+    void close() {
+        lock.lock();
+        try {
+            isClosed = true;
+            if (room != null) {
+                room.signalAll();
+            }
+            desk.nodes().forEach(node -> {
+                if (node.owner != null) {
+                    node.owner.wake();
+                }
+            });
+            desk.freeIfIdle();
+        } finally {
+            lock.unlock();
+        }
+        flushRecord();
+    }
+
+    /** The keys that are cached at the moment. */
+    List<Object> keys() {
+        lock.lock();
+        try {
+            checkOpen();
+            return desk.keys();
+        } finally {
+            lock.unlock();
+        }
+    }
+
+    /** Reads a count of the statistics. */
+    long count(ToLongFunction<Counts> of) {
+        lock.lock();
+        try {
+            return of.applyAsLong(counts);
+        } finally {
+            lock.unlock();
+        }
+    }
+
+    /** Begins the statistics anew. */
+    void clearCounts() {
+        lock.lock();
+        try {
+            counts.clear();
+        } finally {
+            lock.unlock();
+        }
+    }
+
+    /**
+     * For tests, with the lock held and no call under way: each node has what the core has. Adds the counts of both,
+     * and returns how many entries there are.
+     */
+    int verify(long[] core, long[] host) {
+        int cached = desk.verify();
+        long[] coreCounts = desk.coreCounts();
+        long[] own = {counts.hits, counts.misses, counts.puts, counts.removals, counts.evictions};
+        for (int i = 0; i < own.length; i++) {
+            core[i] += coreCounts[i];
+            host[i] += own[i];
+        }
+        return cached;
+    }
+}

@@ -1,0 +1,147 @@
+package cadwrelch.tests;
+
+import static cadwrelch.tests.Check.equal;
+import static cadwrelch.tests.Check.holds;
+
+import java.util.ArrayList;
+import java.util.Collections;
+import java.util.HashMap;
+import java.util.LinkedHashMap;
+import java.util.List;
+import java.util.Map;
+import java.util.Set;
+import javax.cache.Cache;
+import javax.cache.CacheManager;
+import cadwrelch.tests.Background.Work;
+import cadwrelch.tests.Check.Test;
+
+/** Calls of many keys in rounds: a stripe reserves 64 keys at a time. And calls of many threads at one key. */
+final class ManyKeys {
+    private ManyKeys() {}
+
+    private static Map<Integer, Integer> squares(int count) {
+        Map<Integer, Integer> squares = new HashMap<>();
+        for (int i = 0; i < count; i++) {
+            squares.put(i, i * i);
+        }
+        return squares;
+    }
+
+    @Test
+    static void aThousandKeysOverTwoStripes() {
+        CacheManager manager = Caches.manager(2, 4096);
+        Store<Integer, Integer> store = new Store<>();
+        Cache<Integer, Integer> cache =
+                Caches.create(manager, Caches.over(store).setTypes(Integer.class, Integer.class));
+        Map<Integer, Integer> squares = squares(1000);
+        cache.putAll(squares);
+        equal("putAll of 1,000 keys writes each", squares, store.map);
+        equal("and not key by key", 0, store.writes.get());
+        holds("in at most 16 batches, of 64 keys a stripe", store.writeAlls.get() <= 16);
+        cache.clear();
+        equal("getAll of 1,000 keys loads each", squares, cache.getAll(squares.keySet()));
+        holds("in batches", store.loads.get() == 0 && store.loadAlls.get() <= 16);
+        cache.removeAll();
+        equal("removeAll() of 1,000 keys deletes each", Map.of(), store.map);
+        holds("in batches", store.deletes.get() == 0 && store.deleteAlls.get() <= 16);
+        holds("and the cache is empty", !cache.iterator().hasNext());
+        manager.close();
+    }
+
+    @Test
+    static void manyThreadsAtOneMissingKey() throws Exception {
+        CacheManager manager = Caches.manager(1, 4096);
+        Store<Integer, Integer> store = new Store<>();
+        store.map.put(5, 55);
+        Cache<Integer, Integer> cache =
+                Caches.create(manager, Caches.over(store).setTypes(Integer.class, Integer.class));
+        for (int key = 100; key < 300; key++) {
+            cache.put(key, key);
+        }
+        Store.Gate gate = store.shut();
+        List<Work<Integer>> gets = Background.startMany(400, () -> cache.get(5));
+        gate.awaitCall();
+        for (Work<Integer> get : gets) {
+            get.awaitSleep();
+        }
+        int hits = 0;
+        for (int key = 100; key < 300; key++) {
+            hits += cache.get(key) == key ? 1 : 0;
+        }
+        equal("while 400 threads wait for one load, other keys of its stripe are hit", 200, hits);
+        store.open();
+        equal("each of them has what was found", Collections.nCopies(400, 55), Background.results(gets));
+        equal("there was one load", 1, store.loads.get());
+        manager.close();
+    }
+
+    @Test
+    static void overlappingCallsInOppositeOrder() throws Exception {
+        Store<Integer, Integer> store = new Store<>();
+        CacheManager manager = Caches.manager(2, 4096);
+        Cache<Integer, Integer> cache =
+                Caches.create(manager, Caches.over(store).setTypes(Integer.class, Integer.class));
+        List<Work<Void>> all = new ArrayList<>();
+        for (int thread = 0; thread < 8; thread++) {
+            Map<Integer, Integer> entries = new LinkedHashMap<>();
+            for (int i = 0; i < 20; i++) {
+                entries.put(thread % 2 == 0 ? i : 19 - i, thread);
+            }
+            all.add(Background.start(() -> {
+                for (int i = 0; i < 100; i++) {
+                    cache.putAll(entries);
+                }
+            }));
+        }
+        Background.results(all);
+        equal("putAlls that overlap end, and the cache has what the store has", store.map, cache.getAll(entries(20)));
+        manager.close();
+    }
+
+    private static Set<Integer> entries(int count) {
+        return squares(count).keySet();
+    }
+
+    @Test
+    static void aCallOfManyKeysWaitsForAKeyThatIsReserved() throws Exception {
+        Store<Integer, Integer> store = new Store<>();
+        CacheManager manager = Caches.manager(1, 4096);
+        Cache<Integer, Integer> cache =
+                Caches.create(manager, Caches.over(store).setTypes(Integer.class, Integer.class));
+        Store.Gate gate = store.shut();
+        Work<Void> slow = Background.start(() -> cache.put(1, 10));
+        gate.awaitCall();
+        // The other keys come first: they are written in a round of their own.
+        Map<Integer, Integer> entries = new LinkedHashMap<>();
+        entries.put(2, 20);
+        entries.put(1, 11);
+        entries.put(3, 30);
+        Work<Void> all = Background.start(() -> cache.putAll(entries));
+        store.open();
+        slow.result();
+        all.result();
+        equal("a putAll with a key that is being written ends after that", Map.of(1, 11, 2, 20, 3, 30),
+                cache.getAll(Set.of(1, 2, 3)));
+        equal("and so does the store", Map.of(1, 11, 2, 20, 3, 30), store.map);
+        manager.close();
+    }
+
+    @Test
+    static void getAllJoinsALoad() throws Exception {
+        Store<Integer, Integer> store = new Store<>();
+        store.map.putAll(Map.of(1, 10, 2, 20));
+        CacheManager manager = Caches.manager(1, 4096);
+        Cache<Integer, Integer> cache =
+                Caches.create(manager, Caches.over(store).setTypes(Integer.class, Integer.class));
+        Store.Gate gate = store.shut();
+        Work<Integer> get = Background.start(() -> cache.get(1));
+        gate.awaitCall();
+        Work<Map<Integer, Integer>> all = Background.start(() -> cache.getAll(Set.of(1)));
+        all.awaitSleep();
+        store.open();
+        equal("a getAll joins the load of a get", Map.of(1, 10), all.result());
+        equal("which answers the same", 10, get.result());
+        equal("there was one load", 1, store.loads.get() + store.loadAlls.get());
+        manager.close();
+    }
+}

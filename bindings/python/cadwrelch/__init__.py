@@ -1,0 +1,14 @@
+"""A cache with read-through, write-through and request coalescing, after the rules of JCache (JSR 107).
+
+    with cadwrelch.Cache(loader=read_page, writer=write_page, maxsize=10_000, ttl=60) as cache:
+        cache['home'] = 'text'
+        text = cache['home']
+
+AsyncCache is the same for coroutines. cadwrelch.core is the interface of the library itself: one stripe.
+"""
+from ._version import __version__
+from .aio import AsyncCache, AsyncEntry
+from .cache import Cache, Entry
+from .errors import BulkError, CacheError, ClosedError, DeadlockError, LoaderError, NotWritten, WriterError
+
+__all__ = ['__version__', 'AsyncCache', 'AsyncEntry', 'Cache', 'Entry', 'BulkError', 'CacheError', 'ClosedError', 'DeadlockError', 'LoaderError', 'NotWritten', 'WriterError']

@@ -1,0 +1,187 @@
+/* One stripe of a proved read-through, write-through LRU cache (javax.cache's rules), as a machine of phases.
+ *
+ * The library does no I/O, takes no lock and starts no thread. The host keeps one mutex (or one event loop) a desk, gives a desk to one
+ * call at a time, and asks its loader, writer and entry processor between the phases, while the mutex is free. What the library can test
+ * it answers with a code, with nothing done. What it can't test is listed at the end under "the host owes". */
+#ifndef CADWRELCH_H
+#define CADWRELCH_H
+#include <stdbool.h>
+#include <stddef.h>
+#include <stdint.h>
+#ifdef __cplusplus
+extern "C" {
+#endif
+
+enum { JC_KEY_MAX = 32, JC_VALUE_MAX = 256, JC_STRIPES_MAX = 64, JC_CAPACITY_MAX = 4096, JC_HISTORY_MIN = 16, JC_HISTORY_MAX = 65536,
+       JC_RESERVATIONS_MAX = 64, JC_JOINERS_MAX = 64 };
+
+/* A handle. It begins as all zeros; only the library reads or writes its fields. It isn't copied while it is open. */
+typedef struct jc_desk { void *at; bool is_open; } jc_desk;
+
+typedef struct jc_shape {
+    size_t stripes;      /* 1 to 64: how many stripes the host's cache has. A key is of stripe (sum of its bytes) mod stripes */
+    size_t capacity;     /* 1 to 4,096 entries a stripe */
+    size_t history;      /* 16 to 65,536 events a generation; the room, 884 bytes each, is taken by jc_open. for a host that
+                            reads no event, 3 for each call under way: 64 for 21 of them, 260 for as many as there can be */
+    bool read_through;   /* a get of a missing key asks the loader */
+    bool write_through;  /* a mutation is written first */
+    bool keeps_events;   /* false: a full generation ends by itself, and its events are gone. true: jc_begin answers JC_FULL, jc_hit JC_NONE,
+                            and the host reads the events and calls jc_end_generation */
+} jc_shape;
+
+typedef struct jc_value { uint32_t len; uint8_t bytes[JC_VALUE_MAX]; } jc_value;   /* only len bytes count, and only they are written */
+typedef struct jc_key   { uint32_t len; uint8_t bytes[JC_KEY_MAX]; } jc_key;
+typedef struct jc_entry { jc_key key; jc_value value; } jc_entry;
+
+/* On any code but JC_OK nothing was done: a ticket is still out, and is to be committed or withdrawn; nothing was written but, with
+ * JC_MISUSE, to *out. (jc_hit may have ended a full generation, but none of a desk with keeps_events.) */
+enum jc_code {
+    JC_OK = 0,
+    JC_WRONG_HANDLE = 1, /* it isn't open; of jc_open: it is open already. It is tested first */
+    JC_NO_MEMORY = 2,    /* an allocation failed; nothing was done */
+    JC_BAD_ARGUMENT = 3, /* a key of 0 or over 32 bytes, a value over 256, an unknown operation or answer, a shape out of its limits.
+                            It is tested next */
+    JC_MISUSE = 4,       /* see at each function */
+    JC_IN_USE = 5,       /* a ticket or a join is out; of jc_end_generation: it has no event, or an answer is parked */
+    JC_NONE = 6          /* there is no entry, or no such event */
+};
+
+enum jc_op { JC_GET = 0, JC_CONTAINS_KEY = 1, JC_PUT = 2, JC_GET_AND_PUT = 3, JC_PUT_IF_ABSENT = 4, JC_REMOVE = 5, JC_REMOVE_IF = 6,
+             JC_GET_AND_REMOVE = 7, JC_REPLACE = 8, JC_REPLACE_IF = 9, JC_GET_AND_REPLACE = 10,
+             JC_CLEAR_KEY = 11,   /* one key of clear(): no writer is asked */
+             JC_LOAD = 12,        /* one key of loadAll: if it has no entry */
+             JC_RELOAD = 13,      /* one key of loadAll, in any case */
+             JC_INVOKE = 14 };
+
+/* out->next: what the host does next. */
+enum jc_next {
+    JC_DONE = 0,          /* the call is over: reply, code, value, place, moves are there */
+    JC_ASK_LOADER = 1,    /* ask the loader for the key, then jc_commit_load(number) */
+    JC_HAVE_WRITTEN = 2,  /* have the writer write out->value at the key, then jc_commit_write(number) */
+    JC_HAVE_DELETED = 3,  /* have the writer delete the key, then jc_commit_write(number) */
+    JC_RUN_PROCESSOR = 4, /* run the processor on the entry: reply is JC_VALUE (out->value) or JC_NULL (missing); code is 1 if the loader may
+                             be asked by its first getValue; then jc_commit_process(number) */
+    JC_JOINED = 5,        /* another call loads this key: wait for its commit or withdrawal, then jc_pick_up(session, call, key, number) */
+    JC_REFUSED = 6,       /* nothing was done; reply is a jc_refusal. JC_BUSY: retry after the next commit, withdrawal or pick-up here */
+    JC_AGAIN = 7,         /* of jc_pick_up: the load was withdrawn; begin anew */
+    JC_NOT_YET = 8,       /* of jc_pick_up: the load isn't over; the join is still out */
+    JC_FULL = 9           /* with keeps_events: nothing was done; hand out the events, call jc_end_generation, begin anew */
+};
+
+enum jc_reply { JC_UNIT = 0, JC_NO = 1, JC_YES = 2, JC_NULL = 3, JC_VALUE = 4, JC_LOADER_FAILED = 5, JC_WRITER_FAILED = 6, JC_PROCESSOR_FAILED = 7,
+                JC_OTHER_FAULT = 8 /* a desk never replies it */ };
+enum jc_refusal { JC_HISTORY_FULL = 0 /* only after 2^64 calls */, JC_BUSY = 1, JC_TOO_MANY_IN_FLIGHT = 2, JC_TOO_MANY_JOINERS = 3,
+                  JC_OTHER = 4 /* a desk never gives it */ };
+
+/* out->moves: which values came and went with a step. A host that keeps what values stand for beside the desk (an object table, a slab)
+ * counts references by it. It is there after JC_DONE of jc_begin and of the commits; 0 otherwise. */
+enum jc_moves {
+    JC_KEPT = 1,    /* the key's entry has a value now that it hadn't before: the one that this call brought (put, loaded, set) */
+    JC_LEFT = 2,    /* out->left: the value that the key's entry had before, and hasn't now (overwritten, removed) */
+    JC_EVICTED = 4, /* out->victim had out->evicted, and was evicted for this step */
+    JC_OWN_EVICTED_FULL = 8,    /* the step's own new entry was evicted at once: all others are reserved (no JC_KEPT then) */
+    JC_OWN_EVICTED_MEMORY = 16  /* the same: there was no memory for it */
+};
+
+/* Only the fields that next and reply speak of are written; the others stay as they were. */
+typedef struct jc_out {
+    uint32_t next, reply, code, place;
+    uint32_t shared;     /* of jc_commit_load: how many joiners have this answer parked now. Each keeps the answer's value until it is picked up */
+    uint32_t moves;
+    uint64_t number;     /* the ticket (JC_ASK_LOADER to JC_RUN_PROCESSOR), or the load that was joined (JC_JOINED) */
+    uint64_t call;       /* of jc_begin: the call's number */
+    jc_value value;
+    jc_value left;
+    jc_key victim;
+    jc_value evicted;
+} jc_out;
+
+/* What a loader and a writer answer. */
+enum jc_answer { JC_NOT_ASKED = 0, JC_FOUND = 1, JC_WRITTEN = 1, JC_NOTHING = 2, JC_FAILED = 3 };
+/* What a processor did, and what its loader and its writer answered. */
+enum jc_effect { JC_KEEP = 0, JC_SET = 1, JC_TAKE_OUT = 2, JC_PROCESS_FAILED = 3, JC_NOT_RUN = 4 /* of an event alone */ };
+typedef struct jc_processed {
+    uint32_t load, load_code;    /* JC_NOT_ASKED, JC_FOUND (loaded), JC_NOTHING, JC_FAILED (load_code) */
+    uint32_t effect, code;       /* its net effect: JC_KEEP, JC_SET (set), JC_TAKE_OUT, JC_PROCESS_FAILED (code) */
+    uint32_t write, write_code;  /* with write_through, after JC_SET or JC_TAKE_OUT and no failed load: JC_WRITTEN or JC_FAILED; else JC_NOT_ASKED */
+    bool has_outcome;            /* whether outcome is what the processor returned; else null */
+    jc_value loaded, set, outcome;
+} jc_processed;
+
+typedef struct jc_statistics { uint64_t hits, misses, puts, removals, evictions; } jc_statistics;
+
+/* An event of a generation. Only the fields that count are written: of an eviction kind, key and cause; of a step those values that its
+ * operation, its answers and its reply have. A struct begins as all zeros, so that jc_legal finds lengths that fit. */
+enum jc_event_kind { JC_STEP = 0, JC_EVICTION = 1 };
+enum jc_cause { JC_FOR_ROOM = 0 /* the stripe was full */, JC_FOR_MEMORY = 1 /* an allocation for the entry failed */ };
+typedef struct jc_flat_event {
+    uint32_t kind, session;
+    uint64_t call;
+    uint32_t op;             /* jc_op */
+    bool is_shared;          /* a get that joined a load: shared_with is the place of the step that loaded */
+    uint32_t shared_with;
+    uint32_t reply, reply_code, cause;
+    jc_key key;
+    jc_value value, other;   /* as jc_begin's */
+    jc_value replied;
+    jc_processed outside;    /* what was answered outside; effect is JC_NOT_RUN if no processor ran */
+} jc_flat_event;
+
+/* Opens a desk over stripe number (from 0) of shape->stripes, with these entries, the first one the most recently used.
+ * JC_BAD_ARGUMENT also: no stripe has this number; a key twice, of another stripe, or more entries than capacity. All arguments are tested
+ * before memory is taken: JC_NO_MEMORY says that they fit. It allocates; so does an insertion of an entry. */
+uint32_t jc_open(jc_desk *h, const jc_shape *shape, size_t number, const jc_entry *entries, size_t count);
+
+/* Frees the desk. JC_IN_USE, and it stays open, while a ticket or a join is out. */
+uint32_t jc_close(jc_desk *h);
+
+/* The first phase of the session's next call. JC_MISUSE: the key is of another stripe, or the session has another call out at this desk.
+ * A session is whoever has at most one call out: a thread, a task's slot; any number. */
+uint32_t jc_begin(jc_desk *h, uint32_t session, uint32_t op, const uint8_t *key, size_t key_len,
+                  const uint8_t *value, size_t value_len, const uint8_t *other, size_t other_len, jc_out *out);
+
+/* A get that finds its entry, and nothing else: JC_NONE says that nothing was done (no entry; the generation is full; misuse): jc_begin
+ * then. It evicts nothing. */
+uint32_t jc_hit(jc_desk *h, uint32_t session, const uint8_t *key, size_t key_len, jc_value *value);
+
+/* The last phases. A ticket's number serves once: JC_MISUSE if it isn't out here, or asks for another one. */
+uint32_t jc_commit_load(jc_desk *h, uint64_t ticket, uint32_t answer /* JC_FOUND, JC_NOTHING, JC_FAILED */, uint32_t code,
+                        const uint8_t *value, size_t value_len, jc_out *out);
+uint32_t jc_commit_write(jc_desk *h, uint64_t ticket, uint32_t answer /* JC_WRITTEN, JC_FAILED */, uint32_t code, jc_out *out);
+/* JC_MISUSE also: the loader answered though it may not be asked; the writer was (not) asked though it wasn't (was) due. */
+uint32_t jc_commit_process(jc_desk *h, uint64_t ticket, const jc_processed *processed, jc_out *out);
+/* Gives a ticket back whose loader, writer or processor was NOT asked: joiners are told to retry. */
+uint32_t jc_withdraw(jc_desk *h, uint64_t ticket);
+/* Until it says JC_DONE or JC_AGAIN, the join is out. */
+uint32_t jc_pick_up(jc_desk *h, uint32_t session, uint64_t call, const uint8_t *key, size_t key_len, uint64_t load, jc_out *out);
+
+/* The key's entry. No call is made, and the order of use stays. JC_NONE: it has none. */
+uint32_t jc_peek(jc_desk *h, const uint8_t *key, size_t key_len, jc_value *value);
+/* What all events since jc_open count (CacheStatisticsMXBean); constant time. */
+uint32_t jc_statistics_of(jc_desk *h, jc_statistics *out);
+/* Writes what is cached, the most recently used first, as far as there is room, and how many entries there are. */
+uint32_t jc_entries(jc_desk *h, jc_entry *out, size_t room, size_t *count);
+/* How many events the present generation has; 0 if the desk isn't open. */
+size_t jc_events_len(jc_desk *h);
+/* Writes the event at a place of the present generation, from 0. JC_NONE: it has no such place. */
+uint32_t jc_event(jc_desk *h, size_t place, jc_flat_event *out);
+/* Ends the present generation. JC_IN_USE: it has no event, or an answer is parked. */
+uint32_t jc_end_generation(jc_desk *h);
+/* Writes whether these events are a legal history of one stripe of a cache of this shape, which began with these entries. It needs no desk.
+ * JC_BAD_ARGUMENT: an entry or an event says nothing that there is. A shape out of its limits, a key twice, or keys of two stripes are not
+ * legal. It takes memory and time as long as the history. */
+uint32_t jc_legal(const jc_shape *shape, const jc_entry *opening, size_t opening_count, const jc_flat_event *events, size_t events_count,
+                  bool *is_legal);
+
+/* The host owes, and nothing tests:
+ *  - a desk is given to one call at a time (its mutex), is zeroed before jc_open, and is not written, copied or freed while open;
+ *  - pointers and lengths are those of live memory, and what a call writes overlaps nothing else of the call; a pointer with length 0
+ *    isn't NULL;
+ *  - bools are 0 or 1;
+ *  - what it says of the loader, the writer and the processor is what they answered; between a ticket and its commit they were asked once;
+ *    jc_withdraw only if they weren't;
+ *  - malloc, realloc and free are one allocator's; no call is made from a signal handler, or in a child after fork. */
+#ifdef __cplusplus
+}
+#endif
+#endif
