@@ -390,7 +390,7 @@ static void open_desk(host *self, input *from) {
     unsigned flags = byte(from);
     self->shape = (jc_shape){.stripes = 1 + byte(from) % 2, .capacity = 1 + byte(from) % 4,
                              .history = JC_HISTORY_MIN + byte(from) % (HISTORY_MOST - JC_HISTORY_MIN + 1),
-                             .read_through = flags & 1, .write_through = flags & 2, .keeps_events = flags & 4};
+                             .read_through = flags & 1, .write_through = flags & 2, .keeps_events = flags & 4, .out_size = sizeof(jc_out)};
     size_t kept = 0;
     for (size_t at = 0; at < self->opened; at++) {
         unsigned key = key_of(&self->opening[at].key);

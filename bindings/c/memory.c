@@ -36,7 +36,7 @@ void __wrap_free(void *at) {
 }
 
 enum { KEYS = 12, CAPACITY = 8, STEPS = 200 };
-static const jc_shape SHAPE = {.stripes = 1, .capacity = CAPACITY, .history = 64, .read_through = true, .write_through = true};
+static const jc_shape SHAPE = {.stripes = 1, .capacity = CAPACITY, .history = 64, .read_through = true, .write_through = true, .out_size = sizeof(jc_out)};
 
 /* The host's own account of what is cached: it follows the moves alone. */
 static struct { bool is_there; jc_value value; } table[KEYS];

@@ -2,7 +2,7 @@
 #include "check.h"
 #include "layout.h"
 
-static const jc_shape SHAPE = {.stripes = 1, .capacity = 2, .history = 16, .read_through = true, .write_through = true};
+static const jc_shape SHAPE = {.stripes = 1, .capacity = 2, .history = 16, .read_through = true, .write_through = true, .out_size = sizeof(jc_out)};
 static const jc_entry NO_ENTRIES[1];
 static uint8_t long_bytes[JC_VALUE_MAX + 1];
 
@@ -211,7 +211,15 @@ static void bad_openings(void) {
         {.stripes = SIZE_MAX, .capacity = SIZE_MAX, .history = SIZE_MAX},
     };
     for (size_t i = 0; i < sizeof shapes / sizeof *shapes; i++) {
-        CHECK(jc_open(&desk, &shapes[i], 0, NO_ENTRIES, 0) == JC_BAD_ARGUMENT && !desk.is_open);
+        jc_shape shape = shapes[i];
+        shape.out_size = sizeof(jc_out);
+        CHECK(jc_open(&desk, &shape, 0, NO_ENTRIES, 0) == JC_BAD_ARGUMENT && !desk.is_open);
+    }
+    const uint32_t sizes[] = {0, sizeof(jc_out) - 1, sizeof(jc_out) + 1, UINT32_MAX};
+    for (size_t i = 0; i < sizeof sizes / sizeof *sizes; i++) {
+        jc_shape shape = SHAPE;
+        shape.out_size = sizes[i];
+        CHECK(jc_open(&desk, &shape, 0, NO_ENTRIES, 0) == JC_BAD_ARGUMENT && !desk.is_open);
     }
     CHECK(jc_open(&desk, &SHAPE, 1, NO_ENTRIES, 0) == JC_BAD_ARGUMENT);
     const jc_entry a = {.key = {1, "a"}, .value = {1, "1"}}, b = {.key = {1, "b"}, .value = {1, "2"}}, c = {.key = {1, "c"}};
@@ -222,7 +230,7 @@ static void bad_openings(void) {
     CHECK(jc_open(&desk, &SHAPE, 0, no_key, 1) == JC_BAD_ARGUMENT);
     CHECK(jc_open(&desk, &SHAPE, 0, long_key, 1) == JC_BAD_ARGUMENT);
     CHECK(jc_open(&desk, &SHAPE, 0, long_value, 1) == JC_BAD_ARGUMENT);
-    const jc_shape two = {.stripes = 2, .capacity = 2, .history = 16};
+    const jc_shape two = {.stripes = 2, .capacity = 2, .history = 16, .out_size = sizeof(jc_out)};
     CHECK(jc_open(&desk, &two, 0, &a, 1) == JC_BAD_ARGUMENT);
     CHECK(jc_open(&desk, &two, 1, &a, 1) == JC_OK);
     jc_out out = {0};
@@ -353,6 +361,7 @@ static void events(void) {
 }
 
 int main(void) {
+    CHECK(jc_version() == JC_VERSION);
     loads_and_joins();
     writes_and_evictions();
     processors();

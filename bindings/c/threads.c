@@ -7,7 +7,7 @@
 #include <stdatomic.h>
 
 enum { THREADS = 4, CALLS = 3000, KEYS = 5 };
-static const jc_shape SHAPE = {.stripes = 1, .capacity = 3, .history = 64, .read_through = true, .write_through = true};
+static const jc_shape SHAPE = {.stripes = 1, .capacity = 3, .history = 64, .read_through = true, .write_through = true, .out_size = sizeof(jc_out)};
 static const jc_entry NO_ENTRIES[1];
 
 static jc_desk desk;

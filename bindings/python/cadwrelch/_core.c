@@ -964,7 +964,7 @@ static int stripes_init(Stripes *self, PyObject *arguments, PyObject *words) {
     self->writes = writes;
     /* A key's number says nothing of its stripe, which is chosen by its hash: each desk is a cache of one stripe. */
     jc_shape shape = {.stripes = 1, .capacity = capacity < 0 ? 0 : (size_t)capacity, .history = history < 0 ? 0 : (size_t)history,
-                      .read_through = reads, .write_through = writes, .keeps_events = false};
+                      .read_through = reads, .write_through = writes, .keeps_events = false, .out_size = sizeof(jc_out)};
     stripe *made = calloc((size_t)count, sizeof *made);
     if (made == NULL) { PyErr_NoMemory(); return -1; }
     self->stripes = made;

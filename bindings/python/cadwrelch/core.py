@@ -83,7 +83,11 @@ class Shape(ctypes.Structure):
     """The shape of a cache: see the header."""
 
     _fields_ = [('stripes', c_size_t), ('capacity', c_size_t), ('history', c_size_t), ('read_through', c_bool), ('write_through', c_bool),
-                ('keeps_events', c_bool)]
+                ('keeps_events', c_bool), ('out_size', c_uint32)]
+
+    def __init__(self, *args, **words):
+        super().__init__(*args, **words)
+        self.out_size = ctypes.sizeof(Out)
 
 
 class Out(ctypes.Structure):
@@ -149,6 +153,7 @@ def _load():
         'jc_event': (handle, c_size_t, pointer),
         'jc_legal': (pointer, pointer, c_size_t, pointer, c_size_t, pointer),
         'jc_end_generation': (handle,),
+        'jc_version': (),
     }
     for name, kinds in parameters.items():
         function = getattr(library, name)

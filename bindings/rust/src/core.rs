@@ -347,6 +347,7 @@ fn raw_shape(shape: &Shape) -> raw::Shape {
         read_through: shape.read_through,
         write_through: shape.write_through,
         keeps_events: shape.keeps_events,
+        out_size: raw::OUT_SIZE,
     }
 }
 

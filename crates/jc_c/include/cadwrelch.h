@@ -12,8 +12,12 @@
 extern "C" {
 #endif
 
+/* The version that this header is of: 1,000,000 * major + 1,000 * minor + patch. Before 1.0 the structs may change with the minor number, so
+ * a host that loads the library at run time compares jc_version() / 1000 with JC_VERSION / 1000 first. */
+enum { JC_VERSION = 2000 };
+
 enum { JC_KEY_MAX = 32, JC_VALUE_MAX = 256, JC_STRIPES_MAX = 64, JC_CAPACITY_MAX = 4096, JC_HISTORY_MIN = 16, JC_HISTORY_MAX = 65536,
-       JC_RESERVATIONS_MAX = 64, JC_JOINERS_MAX = 64 };
+       JC_RESERVATIONS_MAX = 64, JC_JOINERS_MAX = 64, JC_OUT_SIZE = 856 /* sizeof(jc_out) */ };
 
 /* A handle. It begins as all zeros; only the library reads or writes its fields. It isn't copied while it is open. */
 typedef struct jc_desk { void *at; bool is_open; } jc_desk;
@@ -27,6 +31,8 @@ typedef struct jc_shape {
     bool write_through;  /* a mutation is written first */
     bool keeps_events;   /* false: a full generation ends by itself, and its events are gone. true: jc_begin answers JC_FULL, jc_hit JC_NONE,
                             and the host reads the events and calls jc_end_generation */
+    uint32_t out_size;   /* sizeof(jc_out): jc_open refuses the shape of a host that was compiled with another one (JC_BAD_ARGUMENT), so that
+                            a later library may have a longer jc_out and serve both */
 } jc_shape;
 
 typedef struct jc_value { uint32_t len; uint8_t bytes[JC_VALUE_MAX]; } jc_value;   /* only len bytes count, and only they are written */
@@ -126,6 +132,9 @@ typedef struct jc_flat_event {
     jc_value replied;
     jc_processed outside;    /* what was answered outside; effect is JC_NOT_RUN if no processor ran */
 } jc_flat_event;
+
+/* The version of the library. */
+uint32_t jc_version(void);
 
 /* Opens a desk over stripe number (from 0) of shape->stripes, with these entries, the first one the most recently used.
  * JC_BAD_ARGUMENT also: no stripe has this number; a key twice, of another stripe, or more entries than capacity. All arguments are tested

@@ -9,7 +9,7 @@
 --     counts_written    the counts
 --     opens_fit         the arguments of an opening fit
 --     ListsEntries      these entries are written in their order, as far as there is room, and the rest of the buffer stays
-use Rattle.std.specs.Prelude.{◌≡◌, ◌&&◌, true, ℕ, List, map, take, drop, length, Bool, if◌then◌else◌}
+use Rattle.std.specs.Prelude.{◌≡◌, ◌==◌, ◌&&◌, true, ℕ, List, map, take, drop, length, Bool, if◌then◌else◌}
 use Rattle.std.specs.List.{list_all}
 use Rattle.jc_model.specs.declared.event.Out.{Out}
 use Rattle.jc_model.specs.declared.event.Reply.{Reply}
@@ -22,7 +22,7 @@ use Rattle.jc_stripe.specs.declared.desk.answers.PickUpAnswer.{PickUpAnswer}
 use Rattle.jc_stripe.specs.ValuesMoved.{MovesMade}
 use Rattle.jc_stripe.specs.DeskState.{DeskState, is_open_shape, are_contents}
 use Rattle.jc_stripe.specs.DeskPhases.{newest, BeginsAtDesk, HitsAtDesk, CommitsAtDesk, PicksUpAtDesk}
-use Rattle.jc_c.specs.declared.codes.TheConstants.{JC_OK, JC_WRONG_HANDLE, JC_BAD_ARGUMENT}
+use Rattle.jc_c.specs.declared.codes.TheConstants.{JC_OK, JC_WRONG_HANDLE, JC_BAD_ARGUMENT, JC_OUT_SIZE}
 use Rattle.jc_c.specs.declared.layouts.PhaseOut.{PhaseOut}
 use Rattle.jc_c.specs.declared.layouts.CacheShape.{CacheShape}
 use Rattle.jc_c.specs.declared.layouts.InlineEntry.{InlineEntry}
@@ -72,7 +72,7 @@ counts_written counts = record { hits = counts.hits; misses = counts.misses; put
 
 abbrev pub opens_fit : CacheShape → ℕ → List InlineEntry → Bool
 opens_fit shape number entries =
-    list_all entry_fits entries && is_open_shape (config_of shape) number && are_contents (config_of shape) number (inline_entries entries)
+    (shape.out_size == JC_OUT_SIZE) && list_all entry_fits entries && is_open_shape (config_of shape) number && are_contents (config_of shape) number (inline_entries entries)
 
 pub record ListsEntries (entries : List (Bytes × Bytes)) (old new : List InlineEntry) : Type 0 where
   pub written : map inline_entry (take (length entries) new) ≡ take (length new) entries

@@ -1,4 +1,9 @@
-//! The numbers that cross to C, by the names that the header gives them. A number that was given once is never changed.
+//! The numbers that cross to C, by the names that the header gives them. A number that was given once is never changed, but the version.
+
+/// The version: 1,000,000 times the major number, 1,000 times the minor one, and the patch's.
+pub const JC_VERSION: u32 = 2_000;
+/// The bytes of a `jc_out`.
+pub const JC_OUT_SIZE: u32 = 856;
 
 /// The call was made.
 pub const JC_OK: u32 = 0;

@@ -23,6 +23,8 @@ pub struct CacheShape {
     pub write_through: bool,
     /// Whether a full generation waits until its events are taken.
     pub keeps_events: bool,
+    /// The bytes of a `jc_out`, as the host was compiled.
+    pub out_size: u32,
 }
 
 /// `jc_value`: a value. Only the first `len` bytes count, and only they are written.

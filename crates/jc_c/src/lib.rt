@@ -30,7 +30,7 @@ pub use layouts::{
     ProcessorAnswers,
 };
 pub use looking::{jc_end_generation, jc_entries, jc_events_len, jc_peek, jc_statistics_of};
-pub use opening::{jc_close, jc_open};
+pub use opening::{jc_close, jc_open, jc_version};
 pub use phases::{
     jc_begin, jc_commit_load, jc_commit_process, jc_commit_write, jc_hit, jc_pick_up, jc_withdraw,
 };

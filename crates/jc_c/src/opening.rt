@@ -7,12 +7,14 @@ ghost use Rattle.jc_model.specs.Cache.{key_cmp};
 ghost use Rattle.jc_model.specs.Listed.{has_distinct_keys};
 ghost use Rattle.jc_stripe.specs.Reached.{IsReached};
 ghost use Rattle.jc_stripe.specs.DeskState.{opened_desk, nothing_is_out};
-ghost use Rattle.jc_c.specs.declared.codes.TheConstants.{JC_OK, JC_NO_MEMORY, JC_IN_USE};
+ghost use Rattle.jc_c.specs.declared.codes.TheConstants.{JC_VERSION, JC_OK, JC_NO_MEMORY, JC_IN_USE};
 ghost use Rattle.jc_c.specs.Layouts.{inline_entries, config_of};
 ghost use Rattle.jc_c.specs.Requests.{entry_fits};
 ghost use Rattle.jc_c.specs.Exports.{export_code, opens_fit};
 
-use crate::codes::{JC_BAD_ARGUMENT, JC_IN_USE, JC_NO_MEMORY, JC_OK, JC_WRONG_HANDLE};
+use crate::codes::{
+    JC_BAD_ARGUMENT, JC_IN_USE, JC_NO_MEMORY, JC_OK, JC_OUT_SIZE, JC_VERSION, JC_WRONG_HANDLE,
+};
 use crate::handle::Handle;
 use crate::layouts::{CacheShape, InlineEntry};
 use crate::rooms::DeskRooms;
@@ -82,7 +84,10 @@ fn opens_fit(shape: &CacheShape, number: usize, entries: &[InlineEntry]) -> bool
     ensures { result ≡ opens_fit shape.now number entries.now }
 {
     let config = config_of(shape);
-    if !entries_fit(entries) || config.check().is_err() || number >= config.stripes {
+    if shape.out_size != JC_OUT_SIZE || !entries_fit(entries) {
+        return false;
+    }
+    if config.check().is_err() || number >= config.stripes {
         return false;
     }
     entries.len() <= config.capacity
@@ -118,9 +123,19 @@ pub(crate) fn config_of(shape: &CacheShape) -> Config
     }
 }
 
+/// The version of this library. A host that was compiled for another one compares it with its header's `JC_VERSION`: before version
+/// 1.0 the numbers but the patch's have to be the same.
+#[unsafe(no_mangle)]
+pub extern "C" fn jc_version() -> u32
+    ensures { result ≡ JC_VERSION }
+{
+    JC_VERSION
+}
+
 /// Opens a desk over the stripe with this number, with these entries, the first one the most recently used. `JC_BAD_ARGUMENT`
-/// says that the shape or an entry is out of its limits, that there is no such stripe, that a key is there twice or is of another
-/// stripe, or that there are more entries than the stripe keeps. All this is tested before an allocation.
+/// says that the shape or an entry is out of its limits, that the host's `jc_out` has another size, that there is no such stripe,
+/// that a key is there twice or is of another stripe, or that there are more entries than the stripe keeps. All this is tested
+/// before an allocation.
 #[unsafe(no_mangle)]
 pub extern "C" fn jc_open(
     h: &mut Handle,

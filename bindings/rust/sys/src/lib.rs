@@ -21,6 +21,8 @@ use core::mem::{offset_of, size_of};
 
 pub const KEY_MAX: usize = 32;
 pub const VALUE_MAX: usize = 256;
+pub const VERSION: u32 = 2000;
+pub const OUT_SIZE: u32 = 856;
 
 #[repr(C)]
 pub struct Handle {
@@ -36,6 +38,7 @@ pub struct Shape {
     pub read_through: bool,
     pub write_through: bool,
     pub keeps_events: bool,
+    pub out_size: u32,
 }
 
 #[repr(C)]
@@ -125,11 +128,11 @@ const _: () = {
     assert!(size_of::<Shape>() == 32);
     assert!(offset_of!(Shape, capacity) == 8 && offset_of!(Shape, history) == 16);
     assert!(offset_of!(Shape, read_through) == 24 && offset_of!(Shape, write_through) == 25);
-    assert!(offset_of!(Shape, keeps_events) == 26);
+    assert!(offset_of!(Shape, keeps_events) == 26 && offset_of!(Shape, out_size) == 28);
     assert!(size_of::<Value>() == 260 && offset_of!(Value, bytes) == 4);
     assert!(size_of::<Key>() == 36 && offset_of!(Key, bytes) == 4);
     assert!(size_of::<Entry>() == 296 && offset_of!(Entry, value) == 36);
-    assert!(size_of::<Out>() == 856);
+    assert!(size_of::<Out>() == OUT_SIZE as usize);
     assert!(offset_of!(Out, reply) == 4 && offset_of!(Out, code) == 8);
     assert!(offset_of!(Out, place) == 12 && offset_of!(Out, shared) == 16);
     assert!(offset_of!(Out, moves) == 20 && offset_of!(Out, number) == 24);
@@ -287,6 +290,7 @@ pub const PROCESS_FAILED: u32 = 3;
 pub const NOT_RUN: u32 = 4;
 
 unsafe extern "C" {
+    pub fn jc_version() -> u32;
     pub fn jc_open(
         h: *mut Handle,
         shape: *const Shape,
