@@ -528,7 +528,7 @@ def index_page(library, with_definitions):
              "",
              "No other crate has: a program has no use for the tables of a stripe, its lock, gates, phases and rounds, nor for worlds. If a "
              "signature names a type of them all the same, it is on the page of the first crate that does. What `jc_c` exports is in its "
-             "[header](../../crates/jc_c/include/cadwrelch.h). All crates are in [crates](../matrix/crates.md).", "")
+             "[header](../../bindings/core/include/cadwrelch.h). All crates are in [crates](../matrix/crates.md).", "")
     page.heading(2, "All items")
     put_names(page)
     page.heading(2, "Of the toolchain")

@@ -3,7 +3,7 @@
 //!
 //! Each export returns a code (`codes.rt`). It tests in this order: the handle is open; the arguments fit; the desk accepts the
 //! call. On any code but `JC_OK` nothing was done, except that a full generation may have ended. The host's duties are in
-//! `include/cadwrelch.h`.
+//! `bindings/core/include/cadwrelch.h`.
 //!
 //! Why it is so:
 //! - A handle owns the box of its desk as a ghost while it is open, so that a call can take the box out and put it back without a

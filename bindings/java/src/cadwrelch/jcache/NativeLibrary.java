@@ -6,6 +6,8 @@ import java.nio.file.Files;
 import java.nio.file.Path;
 import java.nio.file.StandardCopyOption;
 import java.util.Locale;
+import java.util.stream.Collectors;
+import java.util.stream.Stream;
 import javax.cache.CacheException;
 
 /**
@@ -49,11 +51,10 @@ final class NativeLibrary {
 
     private static void loadFromJar() {
         String platform = platform();
-        String resource = "/META-INF/native/" + platform + "/" + FILE;
-        try (InputStream library = NativeLibrary.class.getResourceAsStream(resource)) {
+        try (InputStream library = NativeLibrary.class.getResourceAsStream(resource(platform))) {
             if (library == null) {
                 throw new UnsupportedOperationException("cadwrelch.jcache has no native library for " + platform
-                        + ", but for linux-x86_64; the property " + PROPERTY + " may name the path of one");
+                        + ", but for " + platformsOfJar() + "; the property " + PROPERTY + " may name the path of one");
             }
             Path copy = Files.createTempFile("cadwrelch", ".so");
             try {
@@ -65,6 +66,16 @@ final class NativeLibrary {
         } catch (IOException e) {
             throw new CacheException("the native library can't be copied to a temporary file", e);
         }
+    }
+
+    private static String resource(String platform) {
+        return "/META-INF/native/" + platform + "/" + FILE;
+    }
+
+    private static String platformsOfJar() {
+        return Stream.of("linux-x86_64", "linux-aarch64")
+                .filter(platform -> NativeLibrary.class.getResource(resource(platform)) != null)
+                .collect(Collectors.joining(" and "));
     }
 
     /** The name of this platform, as {@code linux-x86_64}. */
