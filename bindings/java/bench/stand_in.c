@@ -123,6 +123,10 @@ static uint32_t answer(jc_out *out, uint32_t next, uint32_t reply) {
     return JC_OK;
 }
 
+uint32_t jc_version(void) {
+    return JC_VERSION;
+}
+
 uint32_t jc_open(jc_desk *h, const jc_shape *shape, size_t number, const jc_entry *entries, size_t count) {
     (void)number, (void)entries, (void)count;
     size_t buckets = 16;

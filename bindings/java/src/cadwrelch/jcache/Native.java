@@ -96,15 +96,21 @@ final class Native {
 
     static {
         NativeLibrary.require(System.getProperty(NativeLibrary.PROPERTY));
-        if (register() != 0) {
-            throw new UnsatisfiedLinkError("the library of cadwrelch.jcache has other functions than its classes");
+        int refused = register();
+        if (refused != 0) {
+            throw new UnsatisfiedLinkError("the native library isn't of the version of cadwrelch.jcache's classes: "
+                    + (refused < 0 ? "it has other functions" : "its core is of version " + refused));
         }
     }
 
     private Native() {
     }
 
-    /** Binds all methods below, which needs stack that a first call may not have. */
+    /**
+     * Binds all methods below, which needs stack that a first call may not have.
+     *
+     * @return 0; or, with nothing bound, the core's version if that isn't the one that the library was compiled for; or less than 0
+     */
     private static native int register();
 
     /** Whether the thread has stack left for a first phase and for the last one of the same call. */
