@@ -99,7 +99,7 @@ class Deadlocks(unittest.TestCase):
     def test_a_call_of_many_keys_that_waits_for_itself(self):
         store = Store()
         store.write_fails = Broken('no write')
-        cache = cadwrelch.Cache(loader=lambda key: cache.set_many({'other': 1, key: 2}), writer=store)
+        cache = cadwrelch.Cache(loader=lambda key: cache.put_many({'other': 1, key: 2}), writer=store)
         with self.assertRaises(cadwrelch.LoaderError) as caught:
             cache.get('a')
         stopped = caught.exception.__cause__
@@ -174,7 +174,7 @@ class Reentrant(unittest.TestCase):
                 cache.get(Key(number % 6))
                 cache.put(Key(number % 6), Value(2))
                 cache.replace_if(Key(number % 6), Value(2), Value(3))
-                cache.set_many({Key(number % 6): Value(4)})
+                cache.put_many({Key(number % 6): Value(4)})
                 cache.invoke(Key(number % 6), lambda entry: setattr(entry, 'value', Value(5)))
                 cache.get_many([Key(1), Key(2), Key(1)])
                 cache.remove_if(Key(number % 6), Value(5))
@@ -222,7 +222,7 @@ class Stress(unittest.TestCase):
         calls = [lambda: cache.get(key)] * 6 + [
             lambda: cache.put(key, value), lambda: cache.remove(key), lambda: cache.put_if_absent(key, value),
             lambda: cache.replace_if(key, value, value + 1), lambda: cache.invoke(key, add_one), lambda: cache.get_many(few),
-            lambda: cache.set_many(dict.fromkeys(few, value)), lambda: cache.delete_many(few)]
+            lambda: cache.put_many(dict.fromkeys(few, value)), lambda: cache.remove_many(few)]
         try:
             chance.choice(calls)()
         except cadwrelch.CacheError:

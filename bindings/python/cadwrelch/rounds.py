@@ -1,0 +1,163 @@
+"""A call of many keys, in rounds: what of it waits for nobody. Who drives it asks and waits (cache.py, aio.py).
+
+A round makes the first phase of each key that has no reply. Then the loader or the writer is asked, for all keys that the round has
+reserved, and these are committed; then the round waits for the loads that it has joined. A key that is busy is put off to the next round.
+A call waits for a busy key only if its round has reserved and joined nothing.
+
+What fails is kept as a pair of a result and an exception, of which one is None. A frame that catches an exception is in its traceback, so
+none of these keeps it: otherwise values and callers' frames would live until the collector runs.
+"""
+from . import _core
+from .errors import BulkError, CacheError, NotWritten
+
+
+def attempt(function, *arguments):
+    """What a function returns, and what it raises."""
+    try:
+        return function(*arguments), None
+    except BaseException as error:
+        return None, error
+
+
+def values_of(found, keys):
+    """The values that a load_many has returned for these keys."""
+    if not hasattr(found, 'get'):
+        raise TypeError(f'load_many returns a mapping: {found!r} was returned')
+    return [found.get(key) for key in keys]
+
+
+def written(reserved, error):
+    """The outcome of each call whose writer was asked for all of them: what it has done, and why not more."""
+    if error is None:
+        return [(_core.WRITTEN, None)] * len(reserved)
+    if not isinstance(error, NotWritten):
+        return [(outcome_of(error), error)] * len(reserved)
+    keys, cause = set(error.keys), error.__cause__ or error
+    return [(_core.FAILED, cause) if item.key in keys else (_core.WRITTEN, None) for item in reserved]
+
+
+def outcome_of(error):
+    """What a writer has done that raised this. One that was interrupted may have written."""
+    if error is None:
+        return _core.WRITTEN
+    return _core.FAILED if isinstance(error, Exception) else _core.UNKNOWN
+
+
+class Item:
+    """A key of a call of many keys."""
+
+    __slots__ = ('op', 'key', 'value', 'ttl', 'call')
+
+    def __init__(self, op, key, value, ttl):
+        self.op = op
+        self.key = key
+        self.value = value
+        self.ttl = ttl
+        self.call = None
+        """What it has out."""
+
+
+class Round:
+    """A call of many keys. life(key, value) says the seconds that a value lives, or None."""
+
+    def __init__(self, stripes, life, work):
+        self.life = life
+        self.items = [Item(op, key, value, life(key, value)) for op, key, value in work]
+        """What has no reply."""
+        self._stripes = stripes
+        self._replies = []
+        self._failed = []
+        self._error = None
+
+    def begin(self):
+        """The first phases: what is reserved, what is joined, and what the first busy key waits for. If one is stopped, what was reserved
+        is given up; if nothing was done, what has stopped it is raised."""
+        items, self.items = self.items, []
+        reserved, joined, blocked = [], [], None
+        try:
+            for place, item in enumerate(items):
+                begun = self._stripes._begin(item.op, item.key, item.value, None, item.ttl)
+                if isinstance(begun, tuple):
+                    self._replies.append((item.key, begun[1]))
+                elif isinstance(begun, _core.Call):
+                    item.call = begun
+                    (joined if begun.next == _core.JOINED else reserved).append(item)
+                else:
+                    blocked = blocked or begun
+                    self.items.append(item)
+        except BaseException as error:
+            for item in reserved:
+                item.call.withdraw()
+            for item in joined:
+                item.call.abandon()
+            if isinstance(error, CacheError) and (self._replies or self._failed):
+                self.stop([*self.items, *reserved, *joined, *items[place:]], error)
+            raise
+        return reserved, joined, blocked
+
+    def commit_loads(self, reserved, answers):
+        """The last phases of calls whose loader was asked: what it found at each key, or why it failed."""
+        for item, (value, error) in zip(reserved, answers):
+            ttl = None
+            if value is not None:
+                ttl, error = attempt(self.life, item.key, value)
+            reply = item.call.commit_load(value, error, ttl)
+            self.end(item, reply[1], error)
+
+    def commit_writes(self, reserved, outcomes):
+        """The last phases of calls whose writer was asked: its outcome at each key, and why it failed."""
+        for item, (outcome, error) in zip(reserved, outcomes):
+            reply = item.call.commit_write(outcome)
+            self.end(item, reply[1], error)
+
+    def end(self, item, value, error):
+        """A key that has its reply, or has failed."""
+        item.call = None
+        if error is None:
+            self._replies.append((item.key, value))
+        else:
+            self._failed.append(item.key)
+            self._note(error)
+
+    def picked_up(self, item, reply, error):
+        """A join that has its reply, has failed, or (no reply) begins anew."""
+        if error is not None:
+            self.end(item, None, error)
+        elif reply is None:
+            item.call = None
+            self.items.append(item)
+        else:
+            self.end(item, reply[1], None)
+
+    def raise_interrupt(self):
+        """Raises what isn't an Exception as it is: an interrupt, or the end of the program."""
+        if self._error is not None and not isinstance(self._error, Exception):
+            self._raise(self._take_error())
+
+    def stop(self, left, error):
+        """Raises the first failure, which is this error if there was none before. What is left has failed, too."""
+        self._failed.extend(item.key for item in left)
+        self._note(error)
+        self.result()
+
+    def result(self):
+        """What was found, as a dict; or BulkError."""
+        found = {key: value for key, value in self._replies if value is not None}
+        if self._error is not None:
+            raise BulkError(self._failed, found) from self._take_error()
+        return found
+
+    def _note(self, error):
+        if self._error is None or (isinstance(self._error, Exception) and not isinstance(error, Exception)):
+            self._error = error
+
+    def _take_error(self):
+        error, self._error = self._error, None
+        return error
+
+    @staticmethod
+    def _raise(error):
+        try:
+            raise error
+        finally:
+            del error
