@@ -46,19 +46,24 @@ async def _nothing(*_):
     return None
 
 
-async def _attempt(function, *arguments, **words):
+async def _attempt(function, *arguments):
     """What a coroutine function returns, and what it raises: see rounds."""
     try:
-        return await function(*arguments, **words), None
+        return await function(*arguments), None
     except BaseException as error:
         return None, error
 
 
-async def _attempt_each(function, arguments):
-    """The same of several calls at once."""
-    if len(arguments) == 1:
-        return [await _attempt(function, *arguments[0])]
-    return await asyncio.gather(*[_attempt(function, *each) for each in arguments])
+async def _answer(item, function, *arguments):
+    item.answer, item.error = await _attempt(function, *arguments)
+
+
+async def _each(coroutines):
+    """Awaits them at once."""
+    if len(coroutines) == 1:
+        await coroutines[0]
+    else:
+        await asyncio.gather(*coroutines)
 
 
 async def _processed(processor, entry, arguments):
@@ -155,43 +160,56 @@ class _Calls(rounds.Round):
 
     async def _load(self, reserved):
         with waiting.holding(*[item.call.flight for item in reserved]):
-            answers, error = await _attempt(self._ask_loader, [item.key for item in reserved])
-            self.commit_loads(reserved, [(None, error)] * len(reserved) if answers is None else answers)
-        del answers, error
+            _, error = await _attempt(self._ask_loader, reserved)
+            if error is not None:
+                self.loaded(reserved, None, error)
+                del error
+            self.commit_loads(reserved)
         self.raise_interrupt()
 
-    async def _ask_loader(self, keys):
-        """A value or an exception of each key. A loader of one key is asked for all at once."""
+    async def _ask_loader(self, reserved):
+        """Asks the loader. One of one key is asked for all at once."""
         loader = self._cache._loader
         if loader.load_many is None:
-            return await _attempt_each(loader.load, [(key,) for key in keys])
-        return [(value, None) for value in rounds.values_of(await loader.load_many(keys), keys)]
+            await _each([_answer(item, loader.load, item.key) for item in reserved])
+        else:
+            keys = [item.key for item in reserved]
+            self.loaded(reserved, rounds.values_of(await loader.load_many(keys), keys), None)
 
     async def _write(self, reserved):
         with waiting.holding(*[item.call.flight for item in reserved]):
-            outcomes, error = await _attempt(self._ask_writer, reserved)
-            self.commit_writes(reserved, rounds.written(reserved, error) if outcomes is None else outcomes)
-        del outcomes, error
+            _, error = await _attempt(self._ask_writer, reserved)
+            if error is not None:
+                self.written(reserved, error)
+                del error
+            self.commit_writes(reserved)
         self.raise_interrupt()
 
     async def _ask_writer(self, reserved):
-        """The outcome and an exception of each key. A writer of one key is asked for all at once."""
+        """Asks the writer. One of one key is asked for all at once."""
         writer = self._cache._writer
         is_write = reserved[0].call.next == _core.HAVE_WRITTEN
         if is_write and writer.write_many is not None:
-            _, error = await _attempt(writer.write_many, {item.key: item.value for item in reserved})
-            return rounds.written(reserved, error)
-        if not is_write and writer.delete_many is not None:
-            _, error = await _attempt(writer.delete_many, [item.key for item in reserved])
-            return rounds.written(reserved, error)
-        raised = await _attempt_each(self._cache._ask_writer, [(item.key, item.value) for item in reserved])
-        return [(rounds.outcome_of(error), error) for _, error in raised]
+            await writer.write_many({item.key: item.value for item in reserved})
+        elif not is_write and writer.delete_many is not None:
+            await writer.delete_many([item.key for item in reserved])
+        else:
+            await _each([_answer(item, self._cache._ask_writer, item.key, item.value) for item in reserved])
+            for item in reserved:
+                item.answer = rounds.outcome_of(item.error)
+            return
+        self.written(reserved, None)
 
     async def _pick_up(self, item):
-        joined, error = await _attempt(self._cache._join, item.call)
-        self.picked_up(item, *((None, error) if joined is None else joined))
-        del joined, error
-        self.raise_interrupt()
+        joined, item.error = await _attempt(self._cache._join, item.call)
+        if joined is not None:
+            reply, item.error = joined
+            del joined
+            self.picked_up(item, reply)
+        else:
+            # It is abandoned.
+            self.end(item, None, item.error)
+            self.raise_interrupt()
 
 
 class AsyncCache:
@@ -469,7 +487,10 @@ class AsyncCache:
         task = asyncio.ensure_future(writing)
         self._tasks[task] = _End()
         task.add_done_callback(self._forget)
-        return await asyncio.shield(task)
+        try:
+            return await asyncio.shield(task)
+        finally:
+            del task
 
     def _forget(self, task):
         end = self._tasks.pop(task, None)
@@ -494,7 +515,8 @@ class AsyncCache:
 
     # The cache as a whole.
 
-    __class_getitem__ = classmethod(types.GenericAlias)
+    def __class_getitem__(cls, item):
+        return types.GenericAlias(cls, item)
 
     def keys(self):
         """The keys that are cached, as a list, stripe by stripe."""

@@ -154,9 +154,11 @@ class _Calls(rounds.Round):
         try:
             with waiting.holding(*[item.call.flight for item in reserved]):
                 if reserved and reserved[0].call.next == _core.ASK_LOADER:
-                    self.commit_loads(reserved, self._load([item.key for item in reserved]))
+                    self._load(reserved)
+                    self.commit_loads(reserved)
                 elif reserved:
-                    self.commit_writes(reserved, self._write(reserved))
+                    self._write(reserved)
+                    self.commit_writes(reserved)
             self.raise_interrupt()
             while joined:
                 self._pick_up(joined.pop())
@@ -171,46 +173,47 @@ class _Calls(rounds.Round):
         except CacheError as error:
             self.stop(self.items, error)
 
-    def _load(self, keys):
-        """Asks the loader: a value or an exception of each key. A loader of one key is asked for the others after a failure, too."""
+    def _load(self, reserved):
+        """Asks the loader. One of one key is asked for the others after a failure, too."""
         loader = self._cache._loader
-        if loader.load_many is None:
-            answers = []
-            for key in keys:
-                answers.append(rounds.attempt(loader.load, key))
-                if not isinstance(answers[-1][1], (Exception, type(None))):
-                    return answers + [answers[-1]] * (len(keys) - len(answers))
-            return answers
-        values, error = rounds.attempt(lambda: rounds.values_of(loader.load_many(keys), keys))
-        return [(None, error)] * len(keys) if values is None else [(value, None) for value in values]
+        if loader.load_many is not None:
+            keys = [item.key for item in reserved]
+            self.loaded(reserved, *rounds.attempt(lambda: rounds.values_of(loader.load_many(keys), keys)))
+            return
+        for place, item in enumerate(reserved):
+            item.answer, item.error = rounds.attempt(loader.load, item.key)
+            if rounds.is_interrupt(item.error):
+                self.fail_from(reserved, place, None)
+                break
 
     def _write(self, reserved):
-        """Asks the writer: its outcome and an exception of each key. A writer of one key stops at its first failure."""
+        """Asks the writer. One of one key stops at its first failure."""
         writer = self._cache._writer
         is_write = reserved[0].call.next == _core.HAVE_WRITTEN
         if is_write and writer.write_many is not None:
-            return rounds.written(reserved, rounds.attempt(writer.write_many, {item.key: item.value for item in reserved})[1])
+            self.written(reserved, rounds.attempt(writer.write_many, {item.key: item.value for item in reserved})[1])
+            return
         if not is_write and writer.delete_many is not None:
-            return rounds.written(reserved, rounds.attempt(writer.delete_many, [item.key for item in reserved])[1])
-        outcomes = []
-        for item in reserved:
-            _, error = rounds.attempt(self._cache._ask_writer, item.key, item.value)
-            outcomes.append((rounds.outcome_of(error), error))
-            if error is not None:
-                return outcomes + [(_core.FAILED, error)] * (len(reserved) - len(outcomes))
-        return outcomes
+            self.written(reserved, rounds.attempt(writer.delete_many, [item.key for item in reserved])[1])
+            return
+        for place, item in enumerate(reserved):
+            _, item.error = rounds.attempt(self._cache._ask_writer, item.key, item.value)
+            item.answer = rounds.outcome_of(item.error)
+            if item.error is not None:
+                self.fail_from(reserved, place, _core.FAILED)
+                break
 
     def _pick_up(self, item):
-        _, error = rounds.attempt(waiting.until_over, item.call)
-        if error is not None:
+        _, item.error = rounds.attempt(waiting.until_over, item.call)
+        if item.error is not None:
             # It is abandoned.
-            self.end(item, None, error)
-            del error
+            self.end(item, None, item.error)
             self.raise_interrupt()
             return
         reply = item.call.pick_up()
-        is_failed = reply is not None and reply[0] == _core.LOADER_FAILED
-        self.picked_up(item, reply, item.call.flight.error if is_failed else None)
+        if reply is not None and reply[0] == _core.LOADER_FAILED:
+            item.error = item.call.flight.error
+        self.picked_up(item, reply)
 
 
 class Cache(_core.Stripes):
@@ -244,7 +247,8 @@ class Cache(_core.Stripes):
         super().__init__(*shape(maxsize, stripes, capacity), history, reads, writes, ttl, tti, timer, self._loader.load, self._writer.write,
                          self._writer.delete)
 
-    __class_getitem__ = classmethod(types.GenericAlias)
+    def __class_getitem__(cls, item):
+        return types.GenericAlias(cls, item)
 
     def __bool__(self):
         """A cache is true, also if it is empty."""

@@ -4,15 +4,16 @@ A round makes the first phase of each key that has no reply. Then the loader or 
 reserved, and these are committed; then the round waits for the loads that it has joined. A key that is busy is put off to the next round.
 A call waits for a busy key only if its round has reserved and joined nothing.
 
-What fails is kept as a pair of a result and an exception, of which one is None. A frame that catches an exception is in its traceback, so
-none of these keeps it: otherwise values and callers' frames would live until the collector runs.
+What a key's loader or writer has answered is kept at its item, an exception, too, until the key is committed. An exception has a traceback,
+and that has the frames of all that were under way when it was caught: if one of them kept the exception, values and callers' frames would
+live until the collector runs.
 """
 from . import _core
 from .errors import BulkError, CacheError, NotWritten
 
 
 def attempt(function, *arguments):
-    """What a function returns, and what it raises."""
+    """What a function returns, and what it raises: one of them is None."""
     try:
         return function(*arguments), None
     except BaseException as error:
@@ -26,27 +27,22 @@ def values_of(found, keys):
     return [found.get(key) for key in keys]
 
 
-def written(reserved, error):
-    """The outcome of each call whose writer was asked for all of them: what it has done, and why not more."""
-    if error is None:
-        return [(_core.WRITTEN, None)] * len(reserved)
-    if not isinstance(error, NotWritten):
-        return [(outcome_of(error), error)] * len(reserved)
-    keys, cause = set(error.keys), error.__cause__ or error
-    return [(_core.FAILED, cause) if item.key in keys else (_core.WRITTEN, None) for item in reserved]
+def is_interrupt(error):
+    """Whether it isn't an Exception, but an interrupt, a cancellation, or the end of the program."""
+    return error is not None and not isinstance(error, Exception)
 
 
 def outcome_of(error):
     """What a writer has done that raised this. One that was interrupted may have written."""
     if error is None:
         return _core.WRITTEN
-    return _core.FAILED if isinstance(error, Exception) else _core.UNKNOWN
+    return _core.UNKNOWN if is_interrupt(error) else _core.FAILED
 
 
 class Item:
     """A key of a call of many keys."""
 
-    __slots__ = ('op', 'key', 'value', 'ttl', 'call')
+    __slots__ = ('op', 'key', 'value', 'ttl', 'call', 'answer', 'error')
 
     def __init__(self, op, key, value, ttl):
         self.op = op
@@ -55,6 +51,10 @@ class Item:
         self.ttl = ttl
         self.call = None
         """What it has out."""
+        self.answer = None
+        """Of a loader: its value. Of a writer: its outcome."""
+        self.error = None
+        """Why it has failed."""
 
 
 class Round:
@@ -95,44 +95,69 @@ class Round:
             raise
         return reserved, joined, blocked
 
-    def commit_loads(self, reserved, answers):
-        """The last phases of calls whose loader was asked: what it found at each key, or why it failed."""
-        for item, (value, error) in zip(reserved, answers):
-            ttl = None
-            if value is not None:
-                ttl, error = attempt(self.life, item.key, value)
-            reply = item.call.commit_load(value, error, ttl)
-            self.end(item, reply[1], error)
+    @staticmethod
+    def fail_from(reserved, place, outcome):
+        """What is behind a key that has failed was not asked for, and fails as it did."""
+        for item in reserved[place + 1:]:
+            item.answer, item.error = outcome, reserved[place].error
 
-    def commit_writes(self, reserved, outcomes):
-        """The last phases of calls whose writer was asked: its outcome at each key, and why it failed."""
-        for item, (outcome, error) in zip(reserved, outcomes):
-            reply = item.call.commit_write(outcome)
-            self.end(item, reply[1], error)
+    @staticmethod
+    def loaded(reserved, values, error):
+        """What a loader of many keys has answered, or why it has failed."""
+        for place, item in enumerate(reserved):
+            item.answer, item.error = None if values is None else values[place], error
+
+    @staticmethod
+    def written(reserved, error):
+        """Why a writer of many keys hasn't done all, or None."""
+        if not isinstance(error, NotWritten):
+            for item in reserved:
+                item.answer, item.error = outcome_of(error), error
+            return
+        keys, cause = set(error.keys), error.__cause__ or error
+        for item in reserved:
+            item.answer, item.error = (_core.FAILED, cause) if item.key in keys else (_core.WRITTEN, None)
+
+    def commit_loads(self, reserved):
+        """The last phases of calls whose loader was asked."""
+        for item in reserved:
+            ttl = None
+            if item.answer is not None:
+                ttl, item.error = attempt(self.life, item.key, item.answer)
+            reply = item.call.commit_load(item.answer, item.error, ttl)
+            self.end(item, reply[1], item.error)
+
+    def commit_writes(self, reserved):
+        """The last phases of calls whose writer was asked."""
+        for item in reserved:
+            reply = item.call.commit_write(item.answer)
+            self.end(item, reply[1], item.error)
+
+    def picked_up(self, item, reply):
+        """A join that has its reply or (none) begins anew, or has failed."""
+        if item.error is None and reply is None:
+            item.call = None
+            self.items.append(item)
+        else:
+            self.end(item, None if reply is None else reply[1], item.error)
 
     def end(self, item, value, error):
         """A key that has its reply, or has failed."""
-        item.call = None
+        item.call = item.answer = item.error = None
         if error is None:
             self._replies.append((item.key, value))
         else:
             self._failed.append(item.key)
             self._note(error)
 
-    def picked_up(self, item, reply, error):
-        """A join that has its reply, has failed, or (no reply) begins anew."""
-        if error is not None:
-            self.end(item, None, error)
-        elif reply is None:
-            item.call = None
-            self.items.append(item)
-        else:
-            self.end(item, reply[1], None)
-
     def raise_interrupt(self):
         """Raises what isn't an Exception as it is: an interrupt, or the end of the program."""
-        if self._error is not None and not isinstance(self._error, Exception):
-            self._raise(self._take_error())
+        if is_interrupt(self._error):
+            error = self._take_error()
+            try:
+                raise error
+            finally:
+                del error
 
     def stop(self, left, error):
         """Raises the first failure, which is this error if there was none before. What is left has failed, too."""
@@ -148,16 +173,9 @@ class Round:
         return found
 
     def _note(self, error):
-        if self._error is None or (isinstance(self._error, Exception) and not isinstance(error, Exception)):
+        if self._error is None or (is_interrupt(error) and not is_interrupt(self._error)):
             self._error = error
 
     def _take_error(self):
         error, self._error = self._error, None
         return error
-
-    @staticmethod
-    def _raise(error):
-        try:
-            raise error
-        finally:
-            del error

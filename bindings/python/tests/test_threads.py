@@ -1,12 +1,12 @@
 """Threads that share a cache."""
+import gc
 import random
 import threading
-import time
 import unittest
 
 import cadwrelch
 
-from .stores import Broken, Store
+from .stores import Broken, Store, Waits
 
 
 def run(*calls):
@@ -49,11 +49,11 @@ class Joins(unittest.TestCase):
         self.cache = cadwrelch.Cache(loader=self.loader, stripes=1)
 
     def joined(self):
-        results = run(*[lambda: self.cache.get('a')] * 8)
-        self.assertTrue(self.loader.asked.wait(60))
-        time.sleep(0.05)
-        self.loader.may_answer.set()
-        results = results()
+        with Waits() as waits:
+            results = run(*[lambda: self.cache.get('a')] * 8)
+            waits.of(7)
+            self.loader.may_answer.set()
+            results = results()
         self.assertEqual(self.loader.loads, 1)
         self.assertTrue(self.cache._agrees())
         return results
@@ -79,10 +79,11 @@ class Joins(unittest.TestCase):
     def test_a_close_wakes_who_waits_to_begin(self):
         results = run(lambda: self.cache.get('a'))
         self.assertTrue(self.loader.asked.wait(60))
-        waits = run(lambda: self.cache.put('a', 2))
-        time.sleep(0.05)
-        self.cache.close()
-        self.assertIsInstance(waits()[0], cadwrelch.ClosedError)
+        with Waits() as waits:
+            put = run(lambda: self.cache.put('a', 2))
+            waits.of(1)
+            self.cache.close()
+            self.assertIsInstance(put()[0], cadwrelch.ClosedError)
         self.loader.may_answer.set()
         self.assertEqual(results(), [7])
         self.assertTrue(self.cache._agrees())
@@ -185,6 +186,8 @@ class Reentrant(unittest.TestCase):
         self.assertTrue(cache._agrees())
         cache.close()
         self.assertEqual(sorted(calls), ['del of a key', 'del of a value', 'eq of a key', 'eq of a value', 'hash'])
+        # Its keys and values are gone, with their finalizers.
+        gc.collect()
 
 
 class Shaky(Store):
