@@ -145,11 +145,10 @@ class _Calls(rounds.Round):
                 await self._load(reserved)
             elif reserved:
                 await self._cache._to_its_end(self._write(reserved))
-            while joined:
-                await self._pick_up(joined.pop())
-        finally:
             for item in joined:
-                item.call.abandon()
+                await self._pick_up(item)
+        finally:
+            self.forget(joined)
         return None
 
     async def _wait(self, blocked):
@@ -159,12 +158,15 @@ class _Calls(rounds.Round):
             self.stop(self.items, error)
 
     async def _load(self, reserved):
-        with waiting.holding(*[item.call.flight for item in reserved]):
-            _, error = await _attempt(self._ask_loader, reserved)
-            if error is not None:
-                self.loaded(reserved, None, error)
-                del error
-            self.commit_loads(reserved)
+        try:
+            with waiting.holding(*[item.call.flight for item in reserved]):
+                _, error = await _attempt(self._ask_loader, reserved)
+                if error is not None:
+                    self.loaded(reserved, None, error)
+                    del error
+                self.commit_loads(reserved)
+        finally:
+            self.forget(reserved)
         self.raise_interrupt()
 
     async def _ask_loader(self, reserved):
@@ -177,12 +179,15 @@ class _Calls(rounds.Round):
             self.loaded(reserved, rounds.values_of(await loader.load_many(keys), keys), None)
 
     async def _write(self, reserved):
-        with waiting.holding(*[item.call.flight for item in reserved]):
-            _, error = await _attempt(self._ask_writer, reserved)
-            if error is not None:
-                self.written(reserved, error)
-                del error
-            self.commit_writes(reserved)
+        try:
+            with waiting.holding(*[item.call.flight for item in reserved]):
+                _, error = await _attempt(self._ask_writer, reserved)
+                if error is not None:
+                    self.written(reserved, error)
+                    del error
+                self.commit_writes(reserved)
+        finally:
+            self.forget(reserved)
         self.raise_interrupt()
 
     async def _ask_writer(self, reserved):
@@ -383,19 +388,31 @@ class AsyncCache:
             begun = self._stripes._begin(op, key, value, old, ttl)
             if isinstance(begun, tuple):
                 return begun
-            if isinstance(begun, _core.Blocked):
-                await self._until_free(begun)
-                continue
-            if begun.next == _core.ASK_LOADER:
-                reply, error = await self._load(begun, self._loader.load, begun.key)
-            elif begun.next == _core.JOINED:
-                reply, error = await self._join(begun)
-            else:
-                return await self._to_its_end(self._write(begun))
-            if error is not None:
-                _raise_from(loader_failed, key, error)
+            try:
+                reply = await self._finished(begun)
+            finally:
+                del begun
             if reply is not None:
                 return reply
+
+    async def _finished(self, begun):
+        """The reply of a call that isn't done in one phase; None to begin anew. No frame keeps its exception: see rounds."""
+        error = None
+        try:
+            if isinstance(begun, _core.Blocked):
+                await self._until_free(begun)
+                return None
+            if begun.next not in (_core.ASK_LOADER, _core.JOINED):
+                return await self._to_its_end(self._write(begun))
+            if begun.next == _core.JOINED:
+                reply, error = await self._join(begun)
+            else:
+                reply, error = await self._load(begun, self._loader.load, begun.key)
+            if error is not None:
+                raise loader_failed(begun.key) from error
+            return reply
+        finally:
+            begun = error = None
 
     async def _get_or_load(self, key, function, arguments, words):
         """A get whose loader is this function, for None of which NONE is cached. What it raises is raised as it is. Without read-through a
@@ -408,41 +425,47 @@ class AsyncCache:
                     return begun[1]
                 op = _core.LOAD if op == _core.GET else _core.GET
                 continue
-            value, error = await self._loaded_by(begun, function, arguments, words)
-            del begun
-            if error is not None:
-                try:
-                    raise error
-                finally:
-                    del error
+            try:
+                value = await self._loaded_by(begun, function, arguments, words)
+            finally:
+                del begun
             if value is not None:
                 return value
 
     async def _loaded_by(self, begun, function, arguments, words):
-        """The value of a key whose call asks this function, or waits; or why it has failed; (None, None) to begin anew."""
-        if isinstance(begun, _core.Blocked):
-            await self._until_free(begun)
-            return _shared(begun.flight)
-        if begun.next == _core.JOINED:
-            reply, error = await self._join(begun)
-            return None if reply is None else reply[1], error
-        _, error = await self._load(begun, _none_as_value, function, arguments, words)
-        return begun.flight.value, error
+        """The value of a key whose call asks this function, or waits; None to begin anew."""
+        value = error = None
+        try:
+            if isinstance(begun, _core.Blocked):
+                await self._until_free(begun)
+                value, error = _shared(begun.flight)
+            elif begun.next == _core.JOINED:
+                reply, error = await self._join(begun)
+                value = None if reply is None else reply[1]
+            else:
+                _, error = await self._load(begun, _none_as_value, function, arguments, words)
+                value = begun.flight.value
+            if error is not None:
+                raise error
+            return value
+        finally:
+            begun = error = None
 
     async def _load(self, call, function, *arguments):
         """Asks for a value, and commits it: the reply, or why it has failed. An interrupt is raised."""
-        with waiting.holding(call.flight):
-            value, error = await _attempt(function, *arguments)
-            ttl = None
-            if value is not None:
-                ttl, error = rounds.attempt(self._life, call.key, value)
-        if error is None or isinstance(error, Exception):
-            return call.commit_load(value, error, ttl), error
-        call.commit_load(None, _CANCELLED)
         try:
+            with waiting.holding(call.flight):
+                value, error = await _attempt(function, *arguments)
+                ttl = None
+                if value is not None:
+                    ttl, error = rounds.attempt(self._life, call.key, value)
+            if not rounds.is_interrupt(error):
+                return call.commit_load(value, error, ttl), error
+            call.commit_load(None, _CANCELLED)
             raise error
         finally:
-            del error
+            call.forget()
+            call = error = None
 
     async def _join(self, call):
         """What the load replies, or why it has failed; (None, None) to begin anew."""
@@ -459,28 +482,32 @@ class AsyncCache:
         return None, call.flight.error if isinstance(call.flight.error, Exception) else None
 
     async def _write(self, call):
-        with waiting.holding(call.flight):
-            value = call.value if call.next == _core.HAVE_WRITTEN else None
-            _, error = await _attempt(self._ask_writer, call.key, value)
-        reply = call.commit_write(rounds.outcome_of(error))
-        if error is not None:
-            try:
+        try:
+            with waiting.holding(call.flight):
+                value = call.value if call.next == _core.HAVE_WRITTEN else None
+                _, error = await _attempt(self._ask_writer, call.key, value)
+            reply = call.commit_write(rounds.outcome_of(error))
+            if error is not None:
                 _raise_from(writer_failed, call.key, error)
-            finally:
-                del error
-        return reply
+            return reply
+        finally:
+            call.forget()
+            error = None
 
     async def _process(self, call, processor, arguments):
-        entry = AsyncEntry(self, call.key, call.cached, call.may_load)
-        run = Processing()
-        with waiting.holding(call.flight):
-            run.result, run.failure = await _attempt(_processed, processor, entry, arguments)
-            if run.failure is None and entry._error is None:
-                run.ttl, run.failure = rounds.attempt(self._life, call.key, entry._value)
-            if run.failure is None and entry._error is None and self._writes and entry._effect != _core.KEEP:
-                _, run.failure = await _attempt(self._ask_writer, call.key, entry._value)
-                run.write = rounds.outcome_of(run.failure)
-        return run.end(call, entry)
+        try:
+            entry = AsyncEntry(self, call.key, call.cached, call.may_load)
+            run = Processing()
+            with waiting.holding(call.flight):
+                run.result, run.failure = await _attempt(_processed, processor, entry, arguments)
+                if run.failure is None and entry._error is None:
+                    run.ttl, run.failure = rounds.attempt(self._life, call.key, entry._value)
+                if run.failure is None and entry._error is None and self._writes and entry._effect != _core.KEEP:
+                    _, run.failure = await _attempt(self._ask_writer, call.key, entry._value)
+                    run.write = rounds.outcome_of(run.failure)
+            return run.end(call, entry)
+        finally:
+            call.forget()
 
     async def _to_its_end(self, writing):
         """Awaits what isn't cancelled with its caller."""

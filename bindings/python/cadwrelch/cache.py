@@ -160,11 +160,11 @@ class _Calls(rounds.Round):
                     self._write(reserved)
                     self.commit_writes(reserved)
             self.raise_interrupt()
-            while joined:
-                self._pick_up(joined.pop())
-        finally:
             for item in joined:
-                item.call.abandon()
+                self._pick_up(item)
+        finally:
+            self.forget(reserved)
+            self.forget(joined)
         return None
 
     def _wait(self, blocked):
@@ -312,16 +312,19 @@ class Cache(_core.Stripes):
             waiting.until_free(begun)
 
     def _process(self, call, processor, arguments):
-        entry = Entry(self, call.key, call.cached, call.may_load)
-        run = Processing()
-        with waiting.holding(call.flight):
-            run.result, run.failure = rounds.attempt(processor, entry, *arguments)
-            if run.failure is None and entry._error is None and entry._value is not None:
-                run.ttl, run.failure = rounds.attempt(self._life, call.key, entry._value)
-            if run.failure is None and entry._error is None and self._writes and entry._effect != _core.KEEP:
-                _, run.failure = rounds.attempt(self._ask_writer, call.key, entry._value)
-                run.write = rounds.outcome_of(run.failure)
-        return run.end(call, entry)
+        try:
+            entry = Entry(self, call.key, call.cached, call.may_load)
+            run = Processing()
+            with waiting.holding(call.flight):
+                run.result, run.failure = rounds.attempt(processor, entry, *arguments)
+                if run.failure is None and entry._error is None and entry._value is not None:
+                    run.ttl, run.failure = rounds.attempt(self._life, call.key, entry._value)
+                if run.failure is None and entry._error is None and self._writes and entry._effect != _core.KEEP:
+                    _, run.failure = rounds.attempt(self._ask_writer, call.key, entry._value)
+                    run.write = rounds.outcome_of(run.failure)
+            return run.end(call, entry)
+        finally:
+            call.forget()
 
     # Whom they ask.
 

@@ -10,7 +10,7 @@ def short(key):
     try:
         return _SHORT.repr(key)
     except Exception:
-        return f'<a key of type {type(key).__name__}>'
+        return f'<{type(key).__name__} instance>'
 
 
 class CacheError(Exception):

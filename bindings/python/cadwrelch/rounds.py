@@ -73,7 +73,7 @@ class Round:
         """The first phases: what is reserved, what is joined, and what the first busy key waits for. If one is stopped, what was reserved
         is given up; if nothing was done, what has stopped it is raised."""
         items, self.items = self.items, []
-        reserved, joined, blocked = [], [], None
+        reserved, joined, blocked, begun = [], [], None, None
         try:
             for place, item in enumerate(items):
                 begun = self._stripes._begin(item.op, item.key, item.value, None, item.ttl)
@@ -86,14 +86,23 @@ class Round:
                     blocked = blocked or begun
                     self.items.append(item)
         except BaseException as error:
-            for item in reserved:
-                item.call.withdraw()
-            for item in joined:
-                item.call.abandon()
+            for item in items:
+                if item.call is not None:
+                    (item.call.abandon if item.call.next == _core.JOINED else item.call.withdraw)()
+                    item.call = None
+            del begun
             if isinstance(error, CacheError) and (self._replies or self._failed):
                 self.stop([*self.items, *reserved, *joined, *items[place:]], error)
             raise
         return reserved, joined, blocked
+
+    @staticmethod
+    def forget(items):
+        """Whatever happens, no key stays reserved."""
+        for item in items:
+            if item.call is not None:
+                item.call.forget()
+                item.call = item.error = None
 
     @staticmethod
     def fail_from(reserved, place, outcome):

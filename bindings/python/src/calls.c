@@ -135,7 +135,7 @@ static PyObject *call_abandon(Call *call, PyObject *nothing) {
     Py_RETURN_NONE;
 }
 
-/* A call that is forgotten while it has something out was not ended by its host. Nothing here takes a reference of the call. */
+/* Ends a call that is forgotten while it has something out: its host has not ended it. Nothing here takes a reference of the call. */
 static void call_finalize(Call *call) {
     if (call->seat.node == NULL || call->cache == NULL) return;
     PyObject *kind, *value, *trace;
@@ -150,6 +150,12 @@ static void call_finalize(Call *call) {
     }
     if (PyErr_Occurred()) PyErr_WriteUnraisable(NULL);
     PyErr_Restore(kind, value, trace);
+}
+
+static PyObject *call_forget(Call *call, PyObject *nothing) {
+    (void)nothing;
+    call_finalize(call);
+    Py_RETURN_NONE;
 }
 
 static int call_traverse(Call *call, visitproc visit, void *arg) {
@@ -185,6 +191,8 @@ static PyMethodDef call_methods[] = {
     {"withdraw", (PyCFunction)call_withdraw, METH_NOARGS, "Gives up a call that has asked nobody."},
     {"pick_up", (PyCFunction)call_pick_up, METH_NOARGS, "Of a load that was joined and is over: what it replies, or None to begin anew."},
     {"abandon", (PyCFunction)call_abandon, METH_NOARGS, "Nobody waits for a load that was joined."},
+    {"forget", (PyCFunction)call_forget, METH_NOARGS,
+     "Ends a call that is still out, of which nobody knows what it has asked: a load has failed, a write may have been made."},
     {NULL, NULL, 0, NULL},
 };
 static PyMemberDef call_members[] = {

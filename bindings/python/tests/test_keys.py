@@ -142,7 +142,7 @@ class Made(unittest.TestCase):
             raise ValueError
 
         cache = cadwrelch.Cache(loader=fail, writer=fail)
-        for key, named in (('page', "'page'"), (Odd(), '<a key of type Odd>'), ('x' * 1000, "'xxx.*xxx'"), (list, "<class 'list'>")):
+        for key, named in (('page', "'page'"), (Odd(), '<Odd instance.*>'), ('x' * 1000, "'xxx.*xxx'"), (list, "<class 'list'>")):
             for call, kind in ((lambda: cache.get(key), cadwrelch.LoaderError), (lambda: cache.put(key, 1), cadwrelch.WriterError)):
                 with self.assertRaisesRegex(kind, f'^the (loader|writer) failed at {named}$') as caught:
                     call()
