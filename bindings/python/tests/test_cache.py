@@ -209,6 +209,28 @@ class Failures(unittest.TestCase):
                     call()
                 self.assertTrue(self.cache._agrees())
 
+    def test_a_writer_that_was_interrupted_leaves_no_entry(self):
+        """Nobody knows what the store has."""
+        cache, store = self.cache, self.store
+        for call in (lambda: cache.put('a', 9), lambda: cache.get_and_put('a', 9), lambda: cache.remove('a'), lambda: cache.remove_if('a', 1),
+                     lambda: cache.get_and_remove('a'), lambda: cache.replace('a', 9), lambda: cache.replace_if('a', 1, 9),
+                     lambda: cache.get_and_replace('a', 9), lambda: cache.invoke('a', lambda entry: setattr(entry, 'value', 9)),
+                     lambda: cache.put_many({'a': 9}), lambda: cache.remove_many('a')):
+            store.held['a'] = 1
+            cache.load_many('a', replace=True)
+            store.write_fails = KeyboardInterrupt()
+            self.assertRaises(KeyboardInterrupt, call)
+            self.assertEqual((cache.hit('a'), 'a' in cache, len(cache), cache.keys()), (None, False, 0, []))
+            store.write_fails = None
+            store.held['a'] = 2
+            self.assertEqual((cache['a'], cache.hit('a'), cache.replace_if('a', 2, 1), cache.hit('a')), (2, 2, True, 1))
+            self.assertTrue(cache._agrees())
+            store.write_fails = KeyboardInterrupt()
+            self.assertRaises(KeyboardInterrupt, call)
+            self.assertEqual((cache['a'], cache.hit('a')), (1, 1))
+            self.assertRaises(KeyboardInterrupt, cache.put, 'a', 4)
+            self.assertEqual((cache.expire(), cache._agrees()), (1, True))
+
     def test_closed(self):
         self.cache.close()
         self.assertTrue(self.cache.closed)

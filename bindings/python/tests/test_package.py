@@ -48,7 +48,7 @@ class Versions(unittest.TestCase):
             installed = importlib.metadata.distribution('cadwrelch')
         except importlib.metadata.PackageNotFoundError:
             self.skipTest('it is not installed')
-        if not os.path.samefile(installed.locate_file('cadwrelch'), os.path.dirname(cadwrelch.__file__)):
+        if os.path.realpath(installed.locate_file('cadwrelch')) != os.path.realpath(os.path.dirname(cadwrelch.__file__)):
             self.skipTest('another one is installed')
         self.assertEqual(installed.version, cadwrelch.__version__)
 
