@@ -1,7 +1,7 @@
 //! Each operation of one key: present and missing, and with a loader or a writer that fails or panics.
 mod common;
-use common::{Broken, Mode, Texts, cache_of, text};
 use cadwrelch::{BuildError, Cache, Error};
+use common::{Broken, Mode, Texts, cache_of, text};
 use std::panic::{AssertUnwindSafe, catch_unwind};
 use std::sync::atomic::Ordering::SeqCst;
 

@@ -1,8 +1,8 @@
 //! Calls in phases: withdrawn, cancelled, joined and awaited.
 mod common;
-use common::{Broken, Texts, cache_of, text};
 use cadwrelch::call::{Begun, Change, Processing};
 use cadwrelch::{Cache, Error, Expected, Op, Reply};
+use common::{Broken, Texts, cache_of, text};
 use std::future::Future;
 use std::panic::{AssertUnwindSafe, catch_unwind};
 use std::pin::pin;

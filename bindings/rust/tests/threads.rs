@@ -1,7 +1,7 @@
 //! Calls on threads: joined loads, waiting, deadlocks, and a long run over a store that fails.
 mod common;
-use common::{Broken, Store};
 use cadwrelch::{BytesCache, Cache, Error, Loader, Writer};
+use common::{Broken, Store};
 use std::collections::HashMap;
 use std::sync::atomic::{AtomicUsize, Ordering::SeqCst};
 use std::sync::mpsc::{Receiver, Sender, channel};
