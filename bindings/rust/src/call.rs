@@ -1,16 +1,25 @@
 //! Calls in phases: for hosts that ask their store themselves, as async ones do.
 //!
 //! [`Cache::begin`](crate::Cache::begin) makes the first phase. A [`Ticket`] reserves the key: [`ask`](Ticket::ask) says that the store
-//! is being asked, and the call then ends with a commit. A ticket that is dropped is withdrawn; a call that has asked and is dropped,
-//! because it was cancelled or panicked, is committed as failed. So no key stays reserved.
+//! is being asked, and the call then ends with a commit. So no key stays reserved, whatever becomes of a future:
 //!
-//! Who has a ticket or an asked call should await nothing but its store: whoever waits for the key waits for that.
+//! | Dropped | leaves |
+//! |---|---|
+//! | a [`Ticket`] | nothing: it is withdrawn, and calls that have joined its load begin anew |
+//! | an [`AskedLoad`] | no entry: it has failed, and calls that have joined it begin anew. If it is dropped by a panic, they fail with [`Error::LoaderPanicked`] |
+//! | an [`AskedWrite`] | the entry as it was, though the writer may have changed the store: whoever drops it has to know, or to uncache the key ([`Op::Clear`](crate::Op::Clear)) |
+//! | a [`Processing`] | the entry as it was; if it was writing, the same holds |
+//! | a [`Join`], a [`Busy`] | nothing |
+//!
+//! Who has a ticket or an asked call should await nothing but its store: whoever waits for the key waits for that. Entries [expire](crate::Expiry)
+//! here as in whole calls: a first phase that meets an expired entry uncaches it, or is [`Begun::Busy`] if the key is reserved; a commit asks
+//! the policy.
 use crate::Error;
 use crate::core::{self, Written};
-use crate::op::{Op, Reply};
+use crate::op::Reply;
 pub use crate::processing::Processing;
 use crate::processing::{Process, Reserved};
-use crate::side::{Answer, Blocked, FAILED, Fault, First, Loaded, Out, Stop};
+use crate::step::{Answer, Blocked, Call, FAILED, Fault, First, Loaded, Out, Stop};
 use crate::stripe::Stripe;
 use crate::table::Failure;
 use std::future::Future;
@@ -80,7 +89,11 @@ impl<K, V, L> Drop for Held<'_, K, V, L> {
 }
 
 fn failed_load<V, L>(_process: &mut Process<V, L>) -> Answer<V, L> {
-    Answer::Load(Err(Failure::Panicked))
+    Answer::Load(Err(if std::thread::panicking() {
+        Failure::Panicked
+    } else {
+        Failure::Cancelled
+    }))
 }
 
 fn failed_write<V, L>(_process: &mut Process<V, L>) -> Answer<V, L> {
@@ -156,6 +169,9 @@ impl<K, V, L, W> AskedLoad<'_, K, V, L, W> {
     }
 
     /// Ends the call with what the loader answered. All calls that have joined this load get the same.
+    ///
+    /// # Errors
+    /// [`Error::Loader`]: it failed, and nothing is cached.
     pub fn commit(self, loaded: Result<Option<V>, L>) -> Result<Reply<V>, Error<L, W>> {
         let loaded = loaded
             .map(|found| found.map(Arc::new))
@@ -181,7 +197,8 @@ impl<L, W> From<Failure<L>> for Error<L, W> {
     fn from(failure: Failure<L>) -> Self {
         match failure {
             Failure::Error(error) => Error::Loader(error),
-            Failure::Panicked => Error::LoaderPanicked,
+            // Who has joined a cancelled load is told to begin anew, and nobody else is told.
+            Failure::Panicked | Failure::Cancelled => Error::LoaderPanicked,
             Failure::Limits => Error::Limits,
         }
     }
@@ -224,6 +241,9 @@ impl<K, V, L, W> AskedWrite<'_, K, V, L, W> {
     }
 
     /// Ends the call with what the writer answered.
+    ///
+    /// # Errors
+    /// [`Error::Writer`]: it failed, and the entry is as it was.
     pub fn commit(self, written: Result<(), W>) -> Result<Reply<V>, Error<L, W>> {
         match (self.end(written.is_ok()), written) {
             (Some(reply), _) => Ok(reply),
@@ -246,7 +266,10 @@ pub(crate) fn written(is_written: bool) -> Written {
     }
 }
 
-/// A call that has joined another call's load. Dropped, it gives up its answer.
+/// A call that has joined another call's load. It is awaited, or waited for. Dropped, it gives up its answer.
+///
+/// A join needs one place of its stripe's history until it is picked up, also one that was dropped, until its load is over. So in a stripe of a
+/// history shorter than the default joins of a slow load can keep calls at other keys [busy](Begun::Busy).
 #[must_use]
 pub struct Join<'c, K, V, L, W> {
     stripe: &'c Stripe<K, V, L>,
@@ -256,15 +279,24 @@ pub struct Join<'c, K, V, L, W> {
     writer: PhantomData<fn() -> W>,
 }
 
-/// What a joiner is told: the reply, or none if it is to begin anew, since the load was withdrawn.
+/// What a joiner is told: the reply, or none if it is to begin anew, since the load was withdrawn or cancelled.
 pub type Joined<V, L, W> = Result<Option<Reply<V>>, Error<L, W>>;
 
 fn joined<V, L, W>(picked: Option<Result<Reply<V>, Failure<L>>>) -> Joined<V, L, W> {
-    Ok(picked.transpose()?)
+    match picked {
+        Some(Err(Failure::Cancelled)) => Ok(None),
+        picked => Ok(picked.transpose()?),
+    }
 }
 
 impl<K, V, L, W> Join<'_, K, V, L, W> {
-    /// Sleeps until the load is over. None: it was withdrawn; begin anew.
+    /// Sleeps until the load is over. None: it was withdrawn or cancelled; begin anew.
+    ///
+    /// # Errors
+    /// [`Error::Loader`], [`Error::LoaderPanicked`], [`Error::Limits`] of the load. [`Error::WouldDeadlock`]: this thread would wait for itself.
+    ///
+    /// # Panics
+    /// If it was awaited to its end.
     pub fn wait(mut self) -> Joined<V, L, W> {
         let join = self.join.expect("it was not picked up");
         let picked = self.stripe.wait_and_pick_up(&self.out, join)?;
@@ -306,6 +338,9 @@ pub struct Busy<'c, K, V, L> {
 
 impl<K, V, L> Busy<'_, K, V, L> {
     /// Sleeps until the call may begin anew.
+    ///
+    /// # Errors
+    /// [`Error::WouldDeadlock`]: this thread would wait for itself.
     pub fn wait<W>(self) -> Result<(), Error<L, W>> {
         self.stripe.wait(&self.blocked).map_err(Stop::into)
     }
@@ -327,9 +362,7 @@ impl<K, V, L> Future for Busy<'_, K, V, L> {
 /// Begins a call at a stripe.
 pub(crate) fn begin<'c, K: Eq, V, L, W>(
     stripe: &'c Stripe<K, V, L>,
-    key: &Arc<K>,
-    hash: u64,
-    op: &Op<V>,
+    call: &Call<'_, K, V>,
 ) -> Result<Begun<'c, K, V, L, W>, Error<L, W>> {
-    Ok(begun(stripe, stripe.begin(key, hash, op)?))
+    Ok(begun(stripe, stripe.begin(call)?))
 }

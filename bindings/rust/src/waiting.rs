@@ -33,6 +33,11 @@ impl Waiters {
         guard
     }
 
+    /// How many sleep.
+    pub(crate) fn sleepers(&self) -> usize {
+        self.state().sleepers
+    }
+
     /// Keeps a waker, unless it is kept already: then it is handed back, to be dropped with no lock held.
     pub(crate) fn keep(&self, waker: Waker) -> Option<Waker> {
         let mut state = self.state();

@@ -44,6 +44,24 @@ fn a_ticket_that_is_dropped_is_withdrawn() {
 }
 
 #[test]
+fn joiners_of_a_load_that_a_panic_drops_fail() {
+    let (_store, cache) = cache_of(1, 8);
+    let Begun::Load(ticket) = begin(&cache, &Op::Get) else {
+        panic!("it loads")
+    };
+    let Begun::Joined(join) = begin(&cache, &Op::Get) else {
+        panic!("it joins")
+    };
+    let panics = AssertUnwindSafe(|| {
+        let _asked = ticket.ask();
+        panic!("the store is gone")
+    });
+    assert!(catch_unwind(panics).is_err());
+    assert!(matches!(join.wait(), Err(Error::LoaderPanicked)));
+    assert!(cache.agrees());
+}
+
+#[test]
 fn a_call_that_has_asked_and_is_dropped_has_failed() {
     let (_store, cache) = cache_of(1, 8);
     let Begun::Load(ticket) = begin(&cache, &Op::Get) else {
@@ -53,7 +71,7 @@ fn a_call_that_has_asked_and_is_dropped_has_failed() {
         panic!("it joins")
     };
     drop(ticket.ask());
-    assert!(matches!(join.wait(), Err(Error::LoaderPanicked)));
+    assert!(matches!(join.wait(), Ok(None)), "it begins anew");
     let Begun::Write(ticket) = begin(&cache, &put()) else {
         panic!("it writes")
     };

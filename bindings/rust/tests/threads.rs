@@ -6,8 +6,7 @@ use std::collections::HashMap;
 use std::sync::atomic::{AtomicUsize, Ordering::SeqCst};
 use std::sync::mpsc::{Receiver, Sender, channel};
 use std::sync::{Arc, Barrier, Mutex};
-use std::thread::{self, scope};
-use std::time::Duration;
+use std::thread::{self, scope, yield_now};
 
 /// A loader that says when it is asked, and answers when it is told to.
 struct Gated {
@@ -56,6 +55,13 @@ fn gate() -> Gate {
     }
 }
 
+/// Until so many calls sleep. By then they have joined what they joined.
+fn wait_for_sleepers(cache: &Cache<String, u32, Gated>, count: usize) {
+    while cache.waiting() < count {
+        yield_now();
+    }
+}
+
 /// One call loads and seven join it; then the loader answers.
 fn joined(answer: impl FnOnce(&mut Option<Sender<Result<u32, Broken>>>)) -> Vec<String> {
     let mut gate = gate();
@@ -64,7 +70,7 @@ fn joined(answer: impl FnOnce(&mut Option<Sender<Result<u32, Broken>>>)) -> Vec<
         let first = threads.spawn(|| cache.get("a"));
         gate.asked.recv().unwrap();
         let others: Vec<_> = (0..7).map(|_| threads.spawn(|| cache.get("a"))).collect();
-        thread::sleep(Duration::from_millis(50));
+        wait_for_sleepers(cache, 7);
         answer(&mut gate.answers);
         let said = |it: thread::Result<Result<Option<Arc<u32>>, _>>| match it {
             Ok(reply) => format!("{reply:?}"),
@@ -124,7 +130,7 @@ fn a_slow_loader_holds_up_its_own_key_alone() {
         cache.put("b".into(), 1u32).unwrap();
         assert_eq!(cache.get("b").unwrap().as_deref(), Some(&1));
         let waits = threads.spawn(|| cache.put("a".into(), 2u32));
-        thread::sleep(Duration::from_millis(20));
+        wait_for_sleepers(cache, 1);
         assert!(!waits.is_finished());
         gate.answers.as_ref().unwrap().send(Ok(7)).unwrap();
         assert_eq!(slow.join().unwrap().unwrap().as_deref(), Some(&7));
@@ -141,7 +147,7 @@ fn a_close_wakes_who_waits_to_begin() {
         let slow = threads.spawn(|| cache.get("a"));
         gate.asked.recv().unwrap();
         let waits = threads.spawn(|| cache.put("a".into(), 2u32));
-        thread::sleep(Duration::from_millis(20));
+        wait_for_sleepers(cache, 1);
         cache.close();
         assert!(matches!(waits.join().unwrap(), Err(Error::Closed)));
         gate.answers.as_ref().unwrap().send(Ok(7)).unwrap();

@@ -1,0 +1,230 @@
+//! What goes into the phases of a call at a stripe, and what comes of them.
+use crate::core::{self, Written};
+use crate::lives::Question;
+use crate::op::{Op, Reply};
+use crate::table::{Failure, Flight, Found, Table, Versioned};
+use std::sync::Arc;
+use std::time::Duration;
+
+/// The session of calls that are done at once in any case.
+pub(crate) const AT_ONCE: u32 = 0;
+
+/// Who failed.
+#[derive(Clone, Copy, Debug, PartialEq, Eq)]
+pub(crate) enum Fault {
+    Loader,
+    Writer,
+    Processor,
+}
+
+/// Why a call stops before its first phase.
+#[derive(Clone, Copy, Debug)]
+pub(crate) enum Stop {
+    Closed,
+    HistoryFull,
+    WouldDeadlock,
+    Limits,
+}
+
+impl<L, W> From<Stop> for crate::Error<L, W> {
+    fn from(stop: Stop) -> Self {
+        match stop {
+            Stop::Closed => crate::Error::Closed,
+            Stop::HistoryFull => crate::Error::HistoryFull,
+            Stop::WouldDeadlock => crate::Error::WouldDeadlock,
+            Stop::Limits => crate::Error::Limits,
+        }
+    }
+}
+
+/// A first phase that is to be made.
+pub(crate) struct Call<'a, K, V> {
+    pub key: &'a Arc<K>,
+    pub hash: u64,
+    pub op: &'a Op<V>,
+    /// How long the value lives that the operation brings, if it has a life of its own.
+    pub life: Option<Duration>,
+}
+
+/// A call that has something out at a stripe.
+pub(crate) struct Out<K, V, E> {
+    pub key: Arc<K>,
+    pub slot: usize,
+    pub session: u32,
+    pub flight: Arc<Flight<V, E>>,
+    /// The value that the operation brings, and its life, if that is its own.
+    pub brought: Option<Versioned<V>>,
+    pub life: Option<Duration>,
+}
+
+/// What the first phase of a call asks for.
+pub(crate) enum First<K, V, E> {
+    Done(Reply<V>),
+    Load(Out<K, V, E>),
+    Write(Out<K, V, E>),
+    Delete(Out<K, V, E>),
+    Process {
+        out: Out<K, V, E>,
+        entry: Option<Arc<V>>,
+        may_load: bool,
+    },
+    Joined(Out<K, V, E>, core::Join),
+    Busy(Blocked<V, E>),
+}
+
+/// What a call waits for that was refused.
+pub(crate) enum Blocked<V, E> {
+    /// The end of the call that has reserved the key.
+    Key(Arc<Flight<V, E>>),
+    /// A change of the stripe, after so many.
+    Room(u64),
+}
+
+/// What a loader answered: the value, none, or why it failed.
+pub(crate) type Loaded<V, E> = Result<Option<Arc<V>>, Failure<E>>;
+
+/// The net effect of a processor.
+pub(crate) enum Effect<V> {
+    Keep,
+    Set(Arc<V>),
+    Remove,
+    Failed,
+}
+
+/// What was answered outside.
+pub(crate) enum Answer<V, E> {
+    Load(Loaded<V, E>),
+    Write(Written),
+    Process {
+        load: Option<Loaded<V, E>>,
+        effect: Effect<V>,
+        write: Option<Written>,
+        /// Whether it has looked at the value.
+        has_read: bool,
+        /// How long the value lives that it has set, if that has a life of its own.
+        life: Option<Duration>,
+    },
+}
+
+impl<V, E> Answer<V, E> {
+    /// What a call does by it for the life of its key's entry, with the value that counts; nothing if it has failed.
+    pub(crate) fn question<K>(
+        &self,
+        out: &Out<K, V, E>,
+        entry: Option<&Versioned<V>>,
+    ) -> Option<(Question, Arc<V>)> {
+        let comes = match entry {
+            Some(_) => Question::Update,
+            None => Question::Create,
+        };
+        match self {
+            Answer::Load(Ok(Some(value))) => Some((comes, value.clone())),
+            Answer::Write(Written::Done) => Some((comes, out.brought.as_ref()?.value.clone())),
+            Answer::Process {
+                load: Some(Err(_)), ..
+            }
+            | Answer::Process {
+                write: Some(Written::Failed(_)),
+                ..
+            } => None,
+            Answer::Process {
+                effect: Effect::Set(value),
+                ..
+            } => Some((comes, value.clone())),
+            Answer::Process {
+                effect: Effect::Keep,
+                load,
+                has_read,
+                ..
+            } => match (load, entry) {
+                (Some(Ok(Some(value))), _) => Some((comes, value.clone())),
+                (_, Some(entry)) if *has_read => Some((Question::Read, entry.value.clone())),
+                _ => None,
+            },
+            _ => None,
+        }
+    }
+
+    /// The life of its own that the value has.
+    pub(crate) fn life<K>(&self, out: &Out<K, V, E>) -> Option<Duration> {
+        match self {
+            Answer::Load(_) => None,
+            Answer::Write(_) => out.life,
+            Answer::Process { life, .. } => *life,
+        }
+    }
+}
+
+/// The sessions of a desk: each has at most one call out.
+pub(crate) struct Sessions {
+    free: Vec<u32>,
+    last: u32,
+    out: usize,
+}
+
+impl Sessions {
+    pub(crate) fn new() -> Sessions {
+        Sessions {
+            free: Vec::new(),
+            last: AT_ONCE,
+            out: 0,
+        }
+    }
+
+    /// One that has no call out.
+    pub(crate) fn next(&self) -> u32 {
+        self.free.last().copied().unwrap_or(self.last + 1)
+    }
+
+    /// The next one has a call out.
+    pub(crate) fn take(&mut self) {
+        if self.free.pop().is_none() {
+            self.last += 1;
+        }
+        self.out += 1;
+    }
+
+    pub(crate) fn give(&mut self, session: u32) {
+        self.free.push(session);
+        self.out -= 1;
+    }
+
+    pub(crate) fn is_idle(&self) -> bool {
+        self.out == 0
+    }
+}
+
+pub(crate) fn found_of<K, V, E>(table: &mut Table<K, V, E>, load: &Loaded<V, E>) -> Found<V, E> {
+    match load {
+        Ok(Some(value)) => Ok(Some(table.version(value.clone()))),
+        Ok(None) => Ok(None),
+        Err(failure) => Err(failure.clone()),
+    }
+}
+
+/// The code that the core has for any failure: what failed is kept beside it.
+pub(crate) const FAILED: u32 = 1;
+
+/// What the core is told of a load, at numbers.
+pub(crate) fn numbered<'a, V, E>(found: &Found<V, E>, bytes: &'a [u8]) -> core::Loaded<'a> {
+    match found {
+        Ok(Some(_)) => core::Loaded::Found(bytes),
+        Ok(None) => core::Loaded::Nothing,
+        Err(_) => core::Loaded::Failed(FAILED),
+    }
+}
+
+pub(crate) fn bytes_of<V>(value: Option<&Versioned<V>>) -> [u8; 8] {
+    value.map_or([0; 8], Versioned::bytes)
+}
+
+impl<V> Effect<V> {
+    pub(crate) fn numbered<'a>(&self, set: &'a [u8]) -> core::Effect<'a> {
+        match self {
+            Effect::Keep => core::Effect::Keep,
+            Effect::Set(_) => core::Effect::Set(set),
+            Effect::Remove => core::Effect::Remove,
+            Effect::Failed => core::Effect::Failed(FAILED),
+        }
+    }
+}
