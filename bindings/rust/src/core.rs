@@ -165,6 +165,8 @@ impl Desk {
     /// of the limits, a key is there twice or of another stripe, or there are more than the capacity. [`Code::NoMemory`].
     /// [`Code::WrongVersion`]: the library that was linked is of another version.
     pub fn open(shape: &Shape, number: usize, entries: &[(&[u8], &[u8])]) -> Result<Desk, Code> {
+        // Nothing of a library of another version is called, not even to close what it didn't open.
+        check_version()?;
         let mut desk = Desk {
             room: Box::new(Room {
                 handle: raw::Handle::CLOSED,
@@ -185,7 +187,6 @@ impl Desk {
         number: usize,
         entries: &[(&[u8], &[u8])],
     ) -> Result<(), Code> {
-        check_version()?;
         let shape = raw_shape(shape);
         let entries = raw_entries(entries);
         let handle = &mut self.room.handle;
