@@ -101,6 +101,7 @@ fn failed_write<V, L>(_process: &mut Process<V, L>) -> Answer<V, L> {
 }
 
 /// The first phase's answer, as calls of this module.
+#[inline]
 fn begun<'c, K, V, L, W>(
     stripe: &'c Stripe<K, V, L>,
     first: First<K, V, L>,
@@ -360,6 +361,7 @@ impl<K, V, L> Future for Busy<'_, K, V, L> {
 }
 
 /// Begins a call at a stripe.
+#[inline]
 pub(crate) fn begin<'c, K: Eq, V, L, W>(
     stripe: &'c Stripe<K, V, L>,
     call: &Call<'_, K, V>,

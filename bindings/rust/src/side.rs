@@ -180,14 +180,12 @@ impl<K, V, E> Side<K, V, E> {
     }
 
     /// Uncaches an entry that has expired, as a step of its own. If that can't be done now: what it waits for.
+    #[cold]
     pub(crate) fn expire(
         &mut self,
         slot: usize,
         leavings: &mut Leavings<K, V, E>,
     ) -> Result<Option<Blocked<V, E>>, Stop> {
-        if let Some(flight) = self.table.flight(slot) {
-            return Ok(Some(Blocked::Key(flight.clone())));
-        }
         let session = self.sessions.next();
         let id = self.table.slot(slot).id.bytes();
         let asked = self.desk.begin(session, core::Op::Clear, &id);

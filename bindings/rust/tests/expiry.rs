@@ -238,6 +238,28 @@ fn a_life_of_its_own_replaces_that_of_the_cache() {
 }
 
 #[test]
+fn the_last_value_of_a_processor_counts_with_its_life() {
+    let clock = Clock::default();
+    let builder = Cache::<String, String>::builder().clock(clock.read());
+    let cache = builder.build().unwrap();
+    let lives = [Some(seconds(5)), None];
+    for (first, last) in [(0, 1), (1, 0)] {
+        let set = |entry: &mut cadwrelch::Entry<'_, _, _, _, _>, life| match life {
+            Some(life) => entry.set_for(new("1"), life),
+            None => entry.set(new("1")),
+        };
+        let processor = |entry: &mut cadwrelch::Entry<'_, _, _, _, _>| {
+            set(entry, lives[first]);
+            set(entry, lives[last]);
+            Ok(())
+        };
+        cache.invoke(a(), processor).unwrap();
+        clock.go(5);
+        assert_eq!(cache.contains_key("a").unwrap(), lives[last].is_none());
+    }
+}
+
+#[test]
 fn an_entry_without_time_to_live_is_never_found() {
     let it = timed(|builder| builder.time_to_live(Duration::ZERO));
     it.store.set("a", "s");
@@ -285,6 +307,9 @@ fn what_has_expired_is_not_there_and_is_swept() {
     assert!(it.cache.is_empty().unwrap());
     assert_eq!(it.cache.stats().unwrap().removals, 0);
     it.cache.clear().unwrap();
+    assert_eq!(it.cache.expire(), 0, "a clear has swept it");
+    it.cache.put(a(), new("1")).unwrap();
+    it.clock.go(10);
     it.cache.close();
     assert_eq!(it.cache.expire(), 0);
 }

@@ -273,6 +273,62 @@ fn a_policy_may_call_the_cache() {
     }
 }
 
+/// A policy that replaces the value of which it is asked, the first time.
+#[derive(Default)]
+struct Meddling {
+    cache: OnceLock<Weak<Cache<String, String>>>,
+    asked: Mutex<Vec<String>>,
+}
+
+impl Meddling {
+    fn run(&self, what: &str, key: &str, value: &str) -> Option<Duration> {
+        self.asked.lock().unwrap().push(format!("{what} {value}"));
+        if matches!((what, value), ("read", "1") | ("create", "2")) {
+            let cache = self.cache.get().and_then(Weak::upgrade).unwrap();
+            cache
+                .put_for(key.to_string(), new("9"), seconds(60))
+                .unwrap();
+        }
+        Some(seconds(u64::from(value == "9") * 60))
+    }
+}
+
+impl Expiry<String, String> for Meddling {
+    fn after_create(&self, key: &String, value: &String) -> Option<Duration> {
+        self.run("create", key, value)
+    }
+
+    fn after_update(&self, key: &String, value: &String, _: Option<Duration>) -> Option<Duration> {
+        self.run("update", key, value).map(|_| seconds(60))
+    }
+
+    fn after_read(&self, key: &String, value: &String, _: Option<Duration>) -> Option<Duration> {
+        self.run("read", key, value)
+    }
+}
+
+#[test]
+fn an_answer_counts_for_the_value_of_which_it_was_asked() {
+    let policy = Arc::new(Meddling::default());
+    let cache = Arc::new(Cache::builder().expiry(policy.clone()).build().unwrap());
+    policy.cache.set(Arc::downgrade(&cache)).unwrap();
+    cache.put_for(a(), new("1"), seconds(60)).unwrap();
+    assert_eq!(cache.get("a").unwrap(), text("9"));
+    assert_eq!(*policy.asked.lock().unwrap(), ["read 1", "read 9"]);
+    cache.remove("a").unwrap();
+    cache.put(a(), new("2")).unwrap();
+    assert_eq!(
+        cache.get("a").unwrap(),
+        text("2"),
+        "it was an update, and lives for 60"
+    );
+    assert_eq!(
+        policy.asked.lock().unwrap()[2..],
+        ["create 2", "update 2", "read 2"]
+    );
+    assert!(cache.agrees());
+}
+
 #[test]
 fn a_policy_that_panics_leaves_no_key_reserved() {
     let (policy, store, cache) = wild(true);
