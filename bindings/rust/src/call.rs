@@ -22,6 +22,7 @@ use crate::processing::{Process, Reserved};
 use crate::step::{Answer, Blocked, Call, FAILED, Fault, First, Loaded, Out, Stop};
 use crate::stripe::Stripe;
 use crate::table::Failure;
+use crate::waiting::Seat;
 use std::future::Future;
 use std::marker::PhantomData;
 use std::pin::Pin;
@@ -145,9 +146,14 @@ fn begun<'c, K, V, L, W>(
             stripe,
             out,
             join: Some(join),
+            seat: None,
             writer,
         }),
-        First::Busy(blocked) => Begun::Busy(Busy { stripe, blocked }),
+        First::Busy(blocked) => Begun::Busy(Busy {
+            stripe,
+            blocked,
+            seat: None,
+        }),
     }
 }
 
@@ -277,6 +283,7 @@ pub struct Join<'c, K, V, L, W> {
     out: Out<K, V, L>,
     /// None: it was picked up.
     join: Option<core::Join>,
+    seat: Seat,
     writer: PhantomData<fn() -> W>,
 }
 
@@ -312,10 +319,11 @@ impl<K, V, L, W> Future for Join<'_, K, V, L, W> {
     fn poll(mut self: Pin<&mut Self>, context: &mut Context<'_>) -> Poll<Self::Output> {
         let join = self.join.expect("it was not picked up");
         let waker = context.waker().clone();
-        match self.stripe.pick_up(&self.out, join, Some(waker)) {
+        let it = &mut *self;
+        match it.stripe.pick_up(&it.out, join, &mut it.seat, waker) {
             None => Poll::Pending,
             Some(picked) => {
-                self.join = None;
+                it.join = None;
                 Poll::Ready(joined(picked))
             }
         }
@@ -325,7 +333,7 @@ impl<K, V, L, W> Future for Join<'_, K, V, L, W> {
 impl<K, V, L, W> Drop for Join<'_, K, V, L, W> {
     fn drop(&mut self) {
         if let Some(join) = self.join {
-            self.stripe.abandon(&self.out, join);
+            self.stripe.abandon(&self.out, join, self.seat);
         }
     }
 }
@@ -335,6 +343,7 @@ impl<K, V, L, W> Drop for Join<'_, K, V, L, W> {
 pub struct Busy<'c, K, V, L> {
     stripe: &'c Stripe<K, V, L>,
     blocked: Blocked<V, L>,
+    seat: Seat,
 }
 
 impl<K, V, L> Busy<'_, K, V, L> {
@@ -350,12 +359,21 @@ impl<K, V, L> Busy<'_, K, V, L> {
 impl<K, V, L> Future for Busy<'_, K, V, L> {
     type Output = ();
 
-    fn poll(self: Pin<&mut Self>, context: &mut Context<'_>) -> Poll<()> {
+    fn poll(mut self: Pin<&mut Self>, context: &mut Context<'_>) -> Poll<()> {
         let waker = context.waker().clone();
-        if self.stripe.poll(&self.blocked, waker) {
+        let it = &mut *self;
+        if it.stripe.poll(&it.blocked, &mut it.seat, waker) {
             Poll::Ready(())
         } else {
             Poll::Pending
+        }
+    }
+}
+
+impl<K, V, L> Drop for Busy<'_, K, V, L> {
+    fn drop(&mut self) {
+        if self.seat.is_some() {
+            self.stripe.forget(&self.blocked, self.seat);
         }
     }
 }

@@ -230,11 +230,38 @@ fn futures_are_woken_when_the_key_is_free() {
         assert!(busy.as_mut().poll(&mut context).is_pending());
     }
     asked.commit(Ok(Some("1".to_string()))).unwrap();
-    assert_eq!(counted.0.load(SeqCst), 1);
+    assert_eq!(counted.0.load(SeqCst), 2);
     assert!(busy.as_mut().poll(&mut context).is_ready());
     match join.as_mut().poll(&mut context) {
         Poll::Ready(Ok(Some(Reply::Value(value)))) => assert_eq!(value, text("1")),
         _ => panic!("it has its answer"),
+    }
+}
+
+#[test]
+fn a_future_that_is_dropped_leaves_no_waker() {
+    let (_store, cache) = cache_of(1, 8);
+    let Begun::Load(_ticket) = begin(&cache, &Op::Get) else {
+        panic!("it loads")
+    };
+    let counted = Arc::new(Counted::default());
+    let waker = Waker::from(counted.clone());
+    let mut context = Context::from_waker(&waker);
+    for _ in 0..3 {
+        let Begun::Joined(join) = begin(&cache, &Op::Get) else {
+            panic!("it joins")
+        };
+        let Begun::Busy(busy) = begin(&cache, &Op::Remove) else {
+            panic!("it is busy")
+        };
+        let (mut join, mut busy) = (Box::pin(join), Box::pin(busy));
+        for _ in 0..2 {
+            assert!(join.as_mut().poll(&mut context).is_pending());
+            assert!(busy.as_mut().poll(&mut context).is_pending());
+        }
+        assert_eq!(Arc::strong_count(&counted), 4);
+        drop((join, busy));
+        assert_eq!(Arc::strong_count(&counted), 2);
     }
 }
 
