@@ -5,15 +5,18 @@
 //!
 //! | Dropped | leaves |
 //! |---|---|
-//! | a [`Ticket`] | nothing: it is withdrawn, and calls that have joined its load begin anew |
-//! | an [`AskedLoad`] | no entry: it has failed, and calls that have joined it begin anew. If it is dropped by a panic, they fail with [`Error::LoaderPanicked`] |
-//! | an [`AskedWrite`] | the entry as it was, though the writer may have changed the store: whoever drops it has to know, or to uncache the key ([`Op::Clear`](crate::Op::Clear)) |
-//! | a [`Processing`] | the entry as it was; if it was writing, the same holds |
+//! | a [`Ticket`] | nothing: it is withdrawn, and who has joined its load begins anew |
+//! | an [`AskedLoad`] | no entry: it has failed, and who has joined it begins anew |
+//! | an [`AskedWrite`] | the entry as it was, though the store may be changed |
+//! | a [`Processing`] | the entry as it was; if it was writing, the store may be changed |
 //! | a [`Join`], a [`Busy`] | nothing |
 //!
-//! Who has a ticket or an asked call should await nothing but its store: whoever waits for the key waits for that. Entries [expire](crate::Expiry)
-//! here as in whole calls: a first phase that meets an expired entry uncaches it, or is [`Begun::Busy`] if the key is reserved; a commit asks
-//! the policy.
+//! If a panic drops an asked load, those who have joined it fail with [`Error::LoaderPanicked`]. Who drops an asked write, and doesn't
+//! know what the store has then, uncaches the key: [`Op::Clear`](crate::Op::Clear).
+//!
+//! Who has a ticket or an asked call should await nothing but its store: whoever waits for the key waits for that. Entries
+//! [expire](crate::Expiry) here as in whole calls: a first phase that meets an expired entry uncaches it, or is [`Begun::Busy`] if the
+//! key is reserved; a commit asks the policy.
 use crate::Error;
 use crate::core::{self, Written};
 use crate::op::Reply;
@@ -68,7 +71,22 @@ pub(crate) struct Held<'c, K, V, L> {
     is_over: bool,
 }
 
-impl<K, V, L> Held<'_, K, V, L> {
+impl<'c, K, V, L> Held<'c, K, V, L> {
+    fn new(
+        stripe: &'c Stripe<K, V, L>,
+        out: Out<K, V, L>,
+        if_dropped: fn(&mut Process<V, L>) -> Answer<V, L>,
+    ) -> Self {
+        Held {
+            stripe,
+            out,
+            if_dropped,
+            process: Process::default(),
+            is_asked: false,
+            is_over: false,
+        }
+    }
+
     pub(crate) fn commit(&mut self, answer: &Answer<V, L>) -> Result<Reply<V>, Fault> {
         self.is_over = true;
         self.stripe.commit(&self.out, answer)
@@ -107,37 +125,19 @@ fn begun<'c, K, V, L, W>(
     stripe: &'c Stripe<K, V, L>,
     first: First<K, V, L>,
 ) -> Begun<'c, K, V, L, W> {
-    let held = |out, if_dropped| Held {
-        stripe,
-        out,
-        if_dropped,
-        process: Process::default(),
-        is_asked: false,
-        is_over: false,
-    };
     let writer = PhantomData;
     match first {
         First::Done(reply) => Begun::Done(reply),
         First::Load(out) => {
-            let held = held(out, failed_load);
+            let held = Held::new(stripe, out, failed_load);
             Begun::Load(Ticket(AskedLoad { held, writer }))
         }
-        First::Write(out) => Begun::Write(Ticket(AskedWrite {
-            held: held(out, failed_write),
-            is_delete: false,
-            writer,
-        })),
-        First::Delete(out) => Begun::Write(Ticket(AskedWrite {
-            held: held(out, failed_write),
-            is_delete: true,
-            writer,
-        })),
-        First::Process {
-            out,
-            entry,
-            may_load,
-        } => {
-            let mut held = held(out, Process::failed);
+        First::Write(out) => {
+            let held = Held::new(stripe, out, failed_write);
+            Begun::Write(Ticket(AskedWrite { held, writer }))
+        }
+        First::Process(out, entry, may_load) => {
+            let mut held = Held::new(stripe, out, Process::failed);
             held.process.entry = entry;
             held.process.may_load = may_load;
             Begun::Process(Ticket(Processing::new(held)))
@@ -223,7 +223,6 @@ pub enum Change<'a, V> {
 /// A call that asks the writer.
 pub struct AskedWrite<'c, K, V, L, W> {
     held: Held<'c, K, V, L>,
-    is_delete: bool,
     writer: PhantomData<fn() -> W>,
 }
 
@@ -242,8 +241,8 @@ impl<K, V, L, W> AskedWrite<'_, K, V, L, W> {
     /// What the writer is to do.
     pub fn change(&self) -> Change<'_, V> {
         match &self.held.out.brought {
-            Some(value) if !self.is_delete => Change::Write(&value.value),
-            _ => Change::Delete,
+            Some(value) => Change::Write(&value.value),
+            None => Change::Delete,
         }
     }
 
@@ -275,8 +274,8 @@ pub(crate) fn written(is_written: bool) -> Written {
 
 /// A call that has joined another call's load. It is awaited, or waited for. Dropped, it gives up its answer.
 ///
-/// A join needs one place of its stripe's history until it is picked up, also one that was dropped, until its load is over. So in a stripe of a
-/// history shorter than the default joins of a slow load can keep calls at other keys [busy](Begun::Busy).
+/// A join needs one place of its stripe's history until it is picked up, also one that was dropped, until its load is over. So in a
+/// stripe of a history shorter than the default joins of a slow load can keep calls at other keys [busy](Begun::Busy).
 #[must_use]
 pub struct Join<'c, K, V, L, W> {
     stripe: &'c Stripe<K, V, L>,
@@ -301,7 +300,8 @@ impl<K, V, L, W> Join<'_, K, V, L, W> {
     /// Sleeps until the load is over. None: it was withdrawn or cancelled; begin anew.
     ///
     /// # Errors
-    /// [`Error::Loader`], [`Error::LoaderPanicked`], [`Error::Limits`] of the load. [`Error::WouldDeadlock`]: this thread would wait for itself.
+    /// [`Error::Loader`], [`Error::LoaderPanicked`], [`Error::Limits`] of the load. [`Error::WouldDeadlock`]: this thread would wait
+    /// for itself.
     ///
     /// # Panics
     /// If it was awaited to its end.

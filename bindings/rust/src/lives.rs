@@ -1,7 +1,7 @@
 //! When entries expire: the times of a cache, and the life of each entry.
 //!
-//! An entry has three deadlines: its own, of the policy or of the call that brought its value; that of the cache's time to live; and that of its
-//! time to idle. It has expired once the first of them has come.
+//! An entry has three deadlines: its own, of the policy or of the call that brought its value; that of the cache's time to live; and
+//! that of its time to idle. It has expired once the first of them has come.
 use crate::expiry::Expiry;
 use std::fmt;
 use std::panic::{RefUnwindSafe, UnwindSafe};

@@ -61,13 +61,10 @@ pub(crate) struct Out<K, V, E> {
 pub(crate) enum First<K, V, E> {
     Done(Reply<V>),
     Load(Out<K, V, E>),
+    /// The writer is to write the value that is brought, or to delete the key.
     Write(Out<K, V, E>),
-    Delete(Out<K, V, E>),
-    Process {
-        out: Out<K, V, E>,
-        entry: Option<Arc<V>>,
-        may_load: bool,
-    },
+    /// The entry that the processor sees, and whether the loader may be asked.
+    Process(Out<K, V, E>, Option<Arc<V>>, bool),
     Joined(Out<K, V, E>, core::Join),
     Busy(Blocked<V, E>),
 }

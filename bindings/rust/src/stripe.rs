@@ -1,5 +1,5 @@
-//! One stripe: a desk and its table under a mutex, the last phases of calls, and who waits. First phases are in `first`. Nothing of the user's is
-//! called while the mutex is held.
+//! One stripe: a desk and its table under a mutex, the last phases of calls, and who waits. First phases are in `first`. Nothing of the
+//! user's is called while the mutex is held.
 use crate::core::{self, Shape, Statistics, Ticket};
 use crate::lives::{Asking, Lives, Nanos, Renewal};
 use crate::op::Reply;

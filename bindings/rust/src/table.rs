@@ -339,7 +339,8 @@ impl<K, V, E> Table<K, V, E> {
         self.slots[before as usize].next = next;
     }
 
-    /// Does what the core says came and went with a step of the slot's key, which brought this value; and the entry lives as the step says.
+    /// Does what the core says came and went with a step of the slot's key, which brought this value; and the entry lives as the step
+    /// says.
     pub(crate) fn follow(
         &mut self,
         at: usize,

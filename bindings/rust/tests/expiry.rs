@@ -5,7 +5,7 @@ use cadwrelch::{Cache, Op, Reply};
 use common::timed::{CASES, Call, Clock, Noting, Timed, a, new, seconds, timed, under};
 use common::{Mode, Store, Texts, text};
 use std::panic::{AssertUnwindSafe, catch_unwind};
-use std::sync::atomic::{AtomicUsize, Ordering::SeqCst};
+use std::sync::atomic::{AtomicU64, AtomicUsize, Ordering::SeqCst};
 use std::sync::{Arc, Weak};
 use std::time::Duration;
 
@@ -186,6 +186,18 @@ fn what_the_policy_does_not_change_stays_to_the_second() {
     it.clock.go(1_000_000);
     assert_eq!(it.cache.get("a").unwrap(), text("3"));
     assert_eq!(policy.take(), "read 3 ever");
+}
+
+#[test]
+fn a_deadline_that_stays_does_not_drift() {
+    let ticks = AtomicU64::new(0);
+    let clock = move || seconds(ticks.fetch_add(1, SeqCst));
+    let builder = Cache::builder().expiry(Noting::new(1000)).clock(clock);
+    let cache = builder.build().unwrap();
+    cache.put(a(), new("1")).unwrap();
+    // Each looks at the clock before it asks the policy, and after that.
+    let reads = (0..1000).take_while(|_| cache.get("a").unwrap().is_some());
+    assert!((490..510).contains(&reads.count()));
 }
 
 #[test]
