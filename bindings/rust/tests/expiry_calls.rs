@@ -334,27 +334,24 @@ fn a_policy_that_panics_leaves_no_key_reserved() {
     let (policy, store, cache) = wild(true);
     store.set("b", "s");
     *policy.panics.lock().unwrap() = true;
-    let b = || "b".to_string();
+    let of = |keys: [&str; 2]| keys.map(|key| (key.to_string(), new("2")));
     assert!(catch_unwind(AssertUnwindSafe(|| cache.put(a(), new("1")))).is_err());
     assert!(catch_unwind(AssertUnwindSafe(|| cache.get("b"))).is_err());
-    let both = [(a(), new("2")), (b(), new("2"))];
-    assert!(catch_unwind(AssertUnwindSafe(|| cache.put_all(both))).is_err());
-    assert!(catch_unwind(AssertUnwindSafe(|| cache.load_all([b(), a()], true))).is_err());
     assert!(
         catch_unwind(AssertUnwindSafe(|| cache.get("a"))).is_err(),
         "a read asks first"
     );
+    assert!(catch_unwind(AssertUnwindSafe(|| cache.put_all(of(["a", "c"])))).is_err());
+    assert_eq!(cache.len().unwrap(), 3, "what was written is cached");
+    ["d", "e"].map(|key| store.set(key, "s"));
+    let keys = ["d", "e"].map(str::to_string);
+    assert!(catch_unwind(AssertUnwindSafe(|| cache.load_all(keys, false))).is_err());
+    assert_eq!(cache.len().unwrap(), 5, "what was loaded is cached");
     *policy.panics.lock().unwrap() = false;
-    assert_eq!(
-        (store.get("a"), store.get("b")),
-        (Some(new("2")), Some(new("2")))
-    );
-    assert_eq!(
-        cache.get("a").unwrap(),
-        text("2"),
-        "what was written is cached"
-    );
-    assert_eq!(cache.get("b").unwrap(), text("2"));
+    for (key, value) in [("a", "2"), ("b", "s"), ("c", "2"), ("d", "s"), ("e", "s")] {
+        assert_eq!(cache.get(key).unwrap(), text(value));
+        assert_eq!(store.get(key).as_deref(), Some(value));
+    }
     assert!(cache.agrees());
     let (policy, _store, cache) = wild(false);
     *policy.panics.lock().unwrap() = true;
