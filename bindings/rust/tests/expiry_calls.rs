@@ -343,8 +343,8 @@ fn a_policy_that_panics_leaves_no_key_reserved() {
     );
     assert!(catch_unwind(AssertUnwindSafe(|| cache.put_all(of(["a", "c"])))).is_err());
     assert_eq!(cache.len().unwrap(), 3, "what was written is cached");
-    ["d", "e"].map(|key| store.set(key, "s"));
     let keys = ["d", "e"].map(str::to_string);
+    keys.iter().for_each(|key| store.set(key, "s"));
     assert!(catch_unwind(AssertUnwindSafe(|| cache.load_all(keys, false))).is_err());
     assert_eq!(cache.len().unwrap(), 5, "what was loaded is cached");
     *policy.panics.lock().unwrap() = false;
