@@ -2,7 +2,7 @@
 mod common;
 use cadwrelch::call::Begun;
 use cadwrelch::{Cache, Error, Expiry, Op};
-use common::timed::{CASES, Noting, a, new, seconds, timed, under};
+use common::timed::{CASES, Clock, Noting, a, new, seconds, timed, under};
 use common::{Outside, Store, Texts, text};
 use std::future::Future;
 use std::panic::{AssertUnwindSafe, catch_unwind};
@@ -185,6 +185,26 @@ fn phases_of_async_code() {
     it.clock.go(1);
     assert!(!it.cache.contains_key("a").unwrap());
     assert!(it.cache.agrees());
+}
+
+#[test]
+fn a_first_phase_brings_a_life_to_any_cache() {
+    let clock = Clock::default();
+    let cache = Cache::<String, String>::builder()
+        .clock(clock.read())
+        .build()
+        .unwrap();
+    for op in [
+        Op::Put(Arc::new(new("1"))),
+        Op::Replace(Arc::new(new("2"))),
+        Op::Get,
+    ] {
+        let begun = cache.begin_for(a(), &op, seconds(3)).unwrap();
+        assert!(matches!(begun, Begun::Done(_)));
+        clock.go(2);
+    }
+    assert!(!cache.contains_key("a").unwrap(), "a get brings none");
+    assert!(cache.agrees());
 }
 
 #[test]
