@@ -234,6 +234,8 @@ fn an_expired_entry_waits_for_room() {
 struct Wild {
     cache: OnceLock<Weak<Cache<String, String, Outside, Outside>>>,
     panics: Mutex<bool>,
+    /// What its own calls were answered.
+    answers: Mutex<Vec<String>>,
 }
 
 impl Wild {
@@ -247,8 +249,8 @@ impl Wild {
             .and_then(Weak::upgrade)
             .filter(|_| key != "inner")
         {
-            cache.put("inner".to_string(), new("9")).unwrap();
-            cache.get("inner").unwrap();
+            let put = cache.put("inner".to_string(), new("9"));
+            self.answers.lock().unwrap().push(format!("{put:?}"));
         }
         Some(seconds(10))
     }
@@ -284,13 +286,54 @@ fn wild(has_writer: bool) -> (Arc<Wild>, Arc<Store>, Arc<Texts>) {
 fn a_policy_may_call_the_cache() {
     for has_writer in [true, false] {
         for (name, call, _, _) in CASES {
-            let (_policy, store, cache) = wild(has_writer);
+            let (policy, store, cache) = wild(has_writer);
             store.set("a", "s");
             call(&cache);
             call(&cache);
-            assert!(cache.agrees(), "{name}");
+            let answers = policy.answers.lock().unwrap();
+            assert!(answers.iter().all(|it| it == "Ok(())"), "{name}");
+            assert!(cache.agrees());
         }
     }
+}
+
+#[test]
+fn a_policy_that_would_wait_for_room_is_told() {
+    let (policy, store) = (Arc::new(Wild::default()), Arc::new(Store::default()));
+    let builder = Cache::builder()
+        .stripes(1)
+        .history(16)
+        .expiry(policy.clone());
+    let cache = Arc::new(builder.store(store).build().unwrap());
+    policy.cache.set(Arc::downgrade(&cache)).unwrap();
+    let begin = |i: usize| cache.begin(format!("key{i}"), &Op::Get).unwrap();
+    let mut tickets: Vec<_> = (0..8).map(begin).collect();
+    tickets.retain(|it| matches!(it, Begun::Load(_)));
+    let Some(Begun::Load(last)) = tickets.pop() else {
+        panic!("it loads")
+    };
+    last.ask().commit(Ok(Some(new("1")))).unwrap();
+    assert_eq!(*policy.answers.lock().unwrap(), ["Err(WouldDeadlock)"]);
+    drop(tickets);
+    assert!(cache.agrees());
+}
+
+#[test]
+fn a_policy_is_not_asked_for_a_value_that_can_not_come_in() {
+    let policy = Noting::new(10);
+    let it = timed(|builder| builder.expiry(policy.clone()).write_through(false));
+    it.cache.put(a(), new("1")).unwrap();
+    let processing = it.cache.begin(a(), &Op::Invoke).unwrap();
+    policy.take();
+    let put = Op::Put(Arc::new(new("2")));
+    assert!(matches!(it.cache.begin(a(), &put).unwrap(), Begun::Busy(_)));
+    assert!(matches!(
+        it.cache.begin(a(), &Op::Get).unwrap(),
+        Begun::Done(_)
+    ));
+    assert_eq!(policy.take(), "read 1 10");
+    drop(processing);
+    assert!(it.cache.agrees());
 }
 
 /// A policy that replaces the value of which it is asked, the first time.
