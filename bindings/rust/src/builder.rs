@@ -114,10 +114,10 @@ impl<K, V, L, W> Builder<K, V, L, W> {
         self.loader(Shared(store.clone())).writer(Shared(store))
     }
 
-    /// How long an entry lives after its value was put or loaded.
+    /// How long an entry lives after its value was put or loaded. One that lives for `Duration::ZERO` is never found.
     ///
     /// The call that meets an expired entry uncaches it, as a step of its own, and then goes on as if the key hadn't been cached. If
-    /// another call has reserved the key, it waits for that. Time costs a cache nothing until it has a reason to look at it.
+    /// another call has reserved the key, it waits for that. While no entry can expire, the clock isn't read.
     ///
     /// ```
     /// use cadwrelch::Cache;

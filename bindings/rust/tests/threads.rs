@@ -56,8 +56,8 @@ fn gate() -> Gate {
     }
 }
 
-/// Until so many calls sleep. By then they have joined what they joined.
-fn wait_for_sleepers(cache: &Cache<String, u32, Gated>, count: usize) {
+/// Until so many calls wait: by then they have joined what they joined.
+fn wait_until_waiting(cache: &Cache<String, u32, Gated>, count: usize) {
     while cache.waiting() < count {
         yield_now();
     }
@@ -71,7 +71,7 @@ fn joined(answer: impl FnOnce(&mut Option<Sender<Result<u32, Broken>>>)) -> Vec<
         let first = threads.spawn(|| cache.get("a"));
         gate.asked.recv().unwrap();
         let others: Vec<_> = (0..7).map(|_| threads.spawn(|| cache.get("a"))).collect();
-        wait_for_sleepers(cache, 7);
+        wait_until_waiting(cache, 7);
         answer(&mut gate.answers);
         let said = |it: thread::Result<Result<Option<Arc<u32>>, _>>| match it {
             Ok(reply) => format!("{reply:?}"),
@@ -131,7 +131,7 @@ fn a_slow_loader_holds_up_its_own_key_alone() {
         cache.put("b".into(), 1u32).unwrap();
         assert_eq!(cache.get("b").unwrap().as_deref(), Some(&1));
         let waits = threads.spawn(|| cache.put("a".into(), 2u32));
-        wait_for_sleepers(cache, 1);
+        wait_until_waiting(cache, 1);
         assert!(!waits.is_finished());
         gate.answers.as_ref().unwrap().send(Ok(7)).unwrap();
         assert_eq!(slow.join().unwrap().unwrap().as_deref(), Some(&7));
@@ -148,7 +148,7 @@ fn a_close_wakes_who_waits_to_begin() {
         let slow = threads.spawn(|| cache.get("a"));
         gate.asked.recv().unwrap();
         let waits = threads.spawn(|| cache.put("a".into(), 2u32));
-        wait_for_sleepers(cache, 1);
+        wait_until_waiting(cache, 1);
         cache.close();
         assert!(matches!(waits.join().unwrap(), Err(Error::Closed)));
         gate.answers.as_ref().unwrap().send(Ok(7)).unwrap();
