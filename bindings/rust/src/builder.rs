@@ -156,8 +156,8 @@ impl<K, V, L, W> Builder<K, V, L, W> {
         self
     }
 
-    /// What the cache takes the time from: a function that says how much has passed since some moment, and never goes back. Without it
-    /// that is the system's monotonic clock. It is read with no lock held, and only while an entry may expire.
+    /// What the cache takes the time from: a function that says how much has passed since some moment, never goes back, and doesn't call
+    /// the cache. Without it that is the system's monotonic clock. It is read with no lock held, and only while an entry may expire.
     pub fn clock(mut self, clock: impl Fn() -> Duration + Send + Sync + 'static) -> Self {
         self.times.clock = Some(Arc::new(clock));
         self

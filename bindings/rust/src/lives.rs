@@ -193,7 +193,7 @@ impl<K, V> Lives<K, V> {
     #[inline]
     pub(crate) fn now(&self) -> Nanos {
         if self.is_on() {
-            nanos((self.clock)())
+            nanos((self.clock)()).min(NEVER - 1)
         } else {
             0
         }

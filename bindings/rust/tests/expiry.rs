@@ -189,6 +189,16 @@ fn what_the_policy_does_not_change_stays_to_the_second() {
 }
 
 #[test]
+fn a_clock_at_its_end_ends_no_life_without_a_deadline() {
+    let builder = Cache::<String, String>::builder().clock(|| Duration::MAX);
+    let cache = builder.time_to_idle(Duration::MAX).build().unwrap();
+    cache.put(a(), new("1")).unwrap();
+    assert_eq!(cache.get("a").unwrap(), text("1"));
+    cache.put_for(a(), new("1"), Duration::ZERO).unwrap();
+    assert_eq!(cache.get("a").unwrap(), None);
+}
+
+#[test]
 fn a_deadline_that_stays_does_not_drift() {
     let ticks = AtomicU64::new(0);
     let clock = move || seconds(ticks.fetch_add(1, SeqCst));
