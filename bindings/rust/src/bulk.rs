@@ -10,6 +10,7 @@ use crate::op::{Op, Reply};
 use crate::outside::{Loader, Unwritten, Writer, in_call};
 use std::collections::HashMap;
 use std::hash::Hash;
+use std::panic::{AssertUnwindSafe, catch_unwind, resume_unwind};
 use std::sync::Arc;
 
 /// The error of a cache's calls of many keys.
@@ -80,6 +81,21 @@ impl<K, V, L, W> Progress<K, V, L, W> {
     }
 }
 
+/// Ends calls one after the other: also if a policy panics at one of them, and then the panic goes on after the last.
+fn end_all<T>(calls: impl Iterator<Item = T>, mut end: impl FnMut(T)) {
+    let mut panic = None;
+    for call in calls {
+        if let Err(payload) = catch_unwind(AssertUnwindSafe(|| end(call))) {
+            panic.get_or_insert(payload);
+        }
+    }
+    if let Some(payload) = panic {
+        resume_unwind(payload);
+    }
+}
+
+/// Calls of many keys: each key is a step of its own, and the call as a whole isn't atomic. The store is asked once for all keys that
+/// are free; those that another call has reserved are tried again afterwards.
 impl<K, V, L, W> Cache<K, V, L, W>
 where
     K: Eq + Hash,
@@ -87,6 +103,10 @@ where
     W: Writer<K, V>,
 {
     /// The values of these keys, of those that have one. [`Loader::load_all`] is asked for all that are missing.
+    ///
+    /// # Errors
+    /// The first failure, with the keys that failed. What was found for others is cached. [`Error::Closed`] and
+    /// [`Error::WouldDeadlock`] stop it.
     pub fn get_all(
         &self,
         keys: impl IntoIterator<Item = K>,
@@ -102,7 +122,11 @@ where
         Ok(found.collect())
     }
 
-    /// Writes and caches these values, key by key: it isn't atomic. [`Writer::write_all`] is asked.
+    /// Writes and caches these values. [`Writer::write_all`] is asked.
+    ///
+    /// # Errors
+    /// The first failure, with the keys that failed: at all others the call took effect. [`Error::Closed`] and [`Error::WouldDeadlock`]
+    /// stop it.
     pub fn put_all<T: Into<Arc<V>>>(
         &self,
         entries: impl IntoIterator<Item = (K, T)>,
@@ -114,11 +138,19 @@ where
     }
 
     /// Deletes these keys from store and cache. [`Writer::delete_all`] is asked.
+    ///
+    /// # Errors
+    /// The first failure, with the keys that failed: at all others the call took effect. [`Error::Closed`] and [`Error::WouldDeadlock`]
+    /// stop it.
     pub fn remove_all(&self, keys: impl IntoIterator<Item = K>) -> Result<(), Bulk<K, V, L, W>> {
         self.rounds(self.items(keys, || Op::Remove)).map(drop)
     }
 
     /// Loads these keys: those that aren't cached, or all. [`Loader::load_all`] is asked, also without read-through.
+    ///
+    /// # Errors
+    /// The first failure, with the keys that failed: at all others the call took effect. [`Error::Closed`] and [`Error::WouldDeadlock`]
+    /// stop it.
     pub fn load_all(
         &self,
         keys: impl IntoIterator<Item = K>,
@@ -128,8 +160,13 @@ where
         self.rounds(self.items(keys, op)).map(drop)
     }
 
-    /// Uncaches all keys that are cached now. The store keeps them, and the writer isn't asked.
+    /// Uncaches all keys that are cached now. The store keeps them, and the writer isn't asked. It waits for keys that others have
+    /// reserved.
+    ///
+    /// # Errors
+    /// [`Error::Closed`], [`Error::WouldDeadlock`]: keys that it hasn't reached are as they were.
     pub fn clear(&self) -> Result<(), CacheError<K, V, L, W>> {
+        self.expire();
         let items = self
             .keys()?
             .into_iter()
@@ -164,9 +201,7 @@ where
                 Ok(busy) => busy,
                 Err(error) => return Err(progress.stop(error, items)),
             };
-            if let Some(busy) = busy
-                && let Err(error) = busy.wait()
-            {
+            if let Some(Err(error)) = busy.map(Busy::wait) {
                 return Err(progress.stop(error, items));
             }
         }
@@ -210,7 +245,7 @@ where
     ) -> Result<(), (CacheError<K, V, L, W>, Vec<Item<K, V>>)> {
         let mut items = items.into_iter();
         while let Some(item) = items.next() {
-            match self.begin_at(&item.key, item.hash, &item.op) {
+            match self.begin_at(&item.key, item.hash, &item.op, None) {
                 Ok(Begun::Done(reply)) => progress.replies.push((item.key, reply)),
                 Ok(Begun::Load(ticket)) => round.loads.push((item, ticket)),
                 Ok(Begun::Write(ticket)) => round.writes.push((item, ticket)),
@@ -251,9 +286,10 @@ where
         match in_call(|| self.loader().load_all(&borrowed)) {
             Ok(found) => {
                 let found = found.into_iter().chain(std::iter::repeat_with(|| None));
-                for ((key, asked), found) in keys.into_iter().zip(asked).zip(found) {
+                let calls = keys.into_iter().zip(asked).zip(found);
+                end_all(calls, |((key, asked), found)| {
                     progress.note(key, asked.commit(Ok(found)));
-                }
+                });
             }
             Err(error) => {
                 let error = Arc::new(error);
@@ -285,12 +321,13 @@ where
             }
             progress.error.get_or_insert(Error::Writer(error));
         }
-        for ((key, asked), is_written) in keys.into_iter().zip(asked).zip(is_written) {
+        let calls = keys.into_iter().zip(asked).zip(is_written);
+        end_all(calls, |((key, asked), is_written)| {
             match asked.end(is_written) {
                 Some(reply) => progress.replies.push((key, reply)),
                 None => progress.failed.push(key),
             }
-        }
+        });
     }
 
     /// All of a call's keys are to be written, or all to be deleted.

@@ -1,19 +1,19 @@
 //! The cache.
+use crate::Error;
+use crate::builder::Builder;
 use crate::call::{self, Begun, Change};
-use crate::core::{Shape, Statistics};
+use crate::core::Statistics;
 use crate::hashing::Hashing;
+use crate::lives::Lives;
 use crate::op::{Expected, Op, Reply};
-use crate::outside::{Loader, NoLoader, NoWriter, Shared, Writer, in_call};
+use crate::outside::{Loader, NoLoader, NoWriter, Writer, in_call};
+use crate::step::Call;
 use crate::stripe::Stripe;
-use crate::{BuildError, Error};
 use std::borrow::Borrow;
 use std::fmt;
 use std::hash::{BuildHasher, Hash};
-use std::marker::PhantomData;
 use std::sync::Arc;
-
-/// The most stripes of a cache: each is a desk of one stripe, so the core's own limit doesn't count.
-const STRIPES_MAX: usize = 4096;
+use std::time::Duration;
 
 /// A cache of keys `K` and values `V` before a store that `L` reads and `W` changes.
 ///
@@ -23,18 +23,23 @@ const STRIPES_MAX: usize = 4096;
 ///
 /// - A `get` of a missing key asks the loader; calls for the same key meanwhile join that load.
 /// - A mutation is written first, and is in the cache when the writer has written.
-/// - No lock is held while a loader, a writer, a processor, or any method of a key or a value runs. While one call has reserved a key,
-///   other calls at this key wait, and all others don't.
+/// - No lock is held while a loader, a writer, a processor, a policy, a clock, or any method of a key or a value runs. While one call
+///   has reserved a key, other calls at this key wait, and all others don't; a `contains_key`, and a `get` that finds the entry, don't
+///   wait either.
 /// - A loader, writer or processor may call the cache at other keys. Where it would wait for itself it gets
 ///   [`Error::WouldDeadlock`].
 ///
 /// Which keys are evicted is decided in each stripe, which has its part of the keys and its own order of use.
+///
+/// A panic of a loader, a writer or a processor goes on once its call has been ended as failed; of one of a key's or a value's methods
+/// it goes on, and nothing was done. No panic of theirs leaves a key reserved, or a lock.
 pub struct Cache<K, V, L = NoLoader, W = NoWriter>
 where
     L: Loader<K, V>,
     W: Writer<K, V>,
 {
     stripes: Box<[Stripe<K, V, L::Error>]>,
+    lives: Arc<Lives<K, V>>,
     hashing: Hashing,
     loader: L,
     writer: W,
@@ -55,140 +60,26 @@ pub type CacheError<K, V, L, W> = Error<<L as Loader<K, V>>::Error, <W as Writer
 pub type CacheBegun<'c, K, V, L, W> =
     Begun<'c, K, V, <L as Loader<K, V>>::Error, <W as Writer<K, V>>::Error>;
 
-/// Builds a [`Cache`].
-#[derive(Clone, Debug)]
-pub struct Builder<K, V, L = NoLoader, W = NoWriter> {
-    stripes: usize,
-    capacity: usize,
-    history: usize,
-    read_through: bool,
-    write_through: bool,
-    loader: L,
-    writer: W,
-    kinds: PhantomData<fn() -> (K, V)>,
-}
-
 impl<K, V> Cache<K, V> {
-    /// Begins to build a cache: 16 stripes of 1,024 entries, no loader, no writer.
+    /// Begins to build a cache: 16 stripes of 1,024 entries, no loader, no writer, and entries that don't expire.
     pub fn builder() -> Builder<K, V> {
-        Builder {
-            stripes: 16,
-            capacity: 1024,
-            history: 64,
-            read_through: false,
-            write_through: false,
-            loader: NoLoader,
-            writer: NoWriter,
-            kinds: PhantomData,
-        }
-    }
-}
-
-impl<K, V, L, W> Builder<K, V, L, W> {
-    /// How many stripes: 1 to 4,096. Calls in different stripes don't share a lock.
-    pub fn stripes(mut self, stripes: usize) -> Self {
-        self.stripes = stripes;
-        self
-    }
-
-    /// How many entries of each stripe: 1 to 4,096.
-    pub fn capacity(mut self, capacity: usize) -> Self {
-        self.capacity = capacity;
-        self
-    }
-
-    /// How many events of each stripe's history, 16 to 65,536, before it begins a new one; 884 bytes each. A call under way needs room
-    /// for three and one that has joined a load for one: 64, the default, are for 21 calls of a stripe at a time, and 260 for the most
-    /// that there can be. Other calls wait.
-    pub fn history(mut self, history: usize) -> Self {
-        self.history = history;
-        self
-    }
-
-    /// Whether a `get` of a missing key asks the loader: true once a loader is given. If not, only `load_all` asks it.
-    pub fn read_through(mut self, is_on: bool) -> Self {
-        self.read_through = is_on;
-        self
-    }
-
-    /// Whether mutations are written: true once a writer is given.
-    pub fn write_through(mut self, is_on: bool) -> Self {
-        self.write_through = is_on;
-        self
-    }
-
-    /// What reads the store.
-    pub fn loader<N: Loader<K, V>>(self, loader: N) -> Builder<K, V, N, W> {
-        Builder {
-            stripes: self.stripes,
-            capacity: self.capacity,
-            history: self.history,
-            read_through: true,
-            write_through: self.write_through,
-            loader,
-            writer: self.writer,
-            kinds: PhantomData,
-        }
-    }
-
-    /// What changes the store.
-    pub fn writer<N: Writer<K, V>>(self, writer: N) -> Builder<K, V, L, N> {
-        Builder {
-            stripes: self.stripes,
-            capacity: self.capacity,
-            history: self.history,
-            read_through: self.read_through,
-            write_through: true,
-            loader: self.loader,
-            writer,
-            kinds: PhantomData,
-        }
-    }
-
-    /// What reads the store and changes it.
-    pub fn store<T>(self, store: Arc<T>) -> Builder<K, V, Shared<T>, Shared<T>>
-    where
-        T: Loader<K, V> + Writer<K, V>,
-    {
-        self.loader(Shared(store.clone())).writer(Shared(store))
-    }
-
-    /// The cache.
-    pub fn build(self) -> Result<Cache<K, V, L, W>, BuildError>
-    where
-        L: Loader<K, V>,
-        W: Writer<K, V>,
-    {
-        if !(1..=STRIPES_MAX).contains(&self.stripes) {
-            return Err(BuildError::Limits);
-        }
-        // A key's number says nothing of its stripe, which is chosen by its hash: each desk is a cache of one stripe.
-        let shape = Shape {
-            stripes: 1,
-            capacity: self.capacity,
-            history: self.history,
-            read_through: self.read_through,
-            write_through: self.write_through,
-            keeps_events: false,
-        };
-        let stripes: Result<_, _> = (0..self.stripes).map(|_| Stripe::open(&shape)).collect();
-        Ok(Cache {
-            stripes: stripes?,
-            hashing: Hashing::new(),
-            loader: self.loader,
-            writer: self.writer,
-        })
+        Builder::new()
     }
 }
 
 /// Calls of one key.
+///
+/// A call waits while another one has reserved the key, or the stripe has no room for it.
 impl<K, V, L, W> Cache<K, V, L, W>
 where
     K: Eq + Hash,
     L: Loader<K, V>,
     W: Writer<K, V>,
 {
-    /// The value of a key: the cached one, or what the loader finds.
+    /// The value of a key: the cached one, or what the loader finds. If another call is loading the key, it joins that load.
+    ///
+    /// # Errors
+    /// [`Error::Loader`], [`Error::LoaderPanicked`], [`Error::WouldDeadlock`], [`Error::Closed`]: nothing is cached.
     pub fn get<Q>(&self, key: &Q) -> Result<Option<Arc<V>>, CacheError<K, V, L, W>>
     where
         K: Borrow<Q>,
@@ -198,11 +89,14 @@ where
         let stripe = self.stripe(hash);
         match stripe.hit(hash, |held| held.borrow() == key)? {
             Some(value) => Ok(Some(value)),
-            None => value_of(self.call_at(Arc::new(key.to_owned()), hash, &Op::Get)),
+            None => value_of(self.call_at(Arc::new(key.to_owned()), hash, &Op::Get, None)),
         }
     }
 
     /// Whether a key is cached. The loader isn't asked.
+    ///
+    /// # Errors
+    /// [`Error::WouldDeadlock`], [`Error::Closed`].
     pub fn contains_key<Q>(&self, key: &Q) -> Result<bool, CacheError<K, V, L, W>>
     where
         K: Borrow<Q>,
@@ -212,11 +106,17 @@ where
     }
 
     /// Writes and caches a value.
+    ///
+    /// # Errors
+    /// [`Error::Writer`], [`Error::WouldDeadlock`], [`Error::Closed`]: the entry is as it was.
     pub fn put(&self, key: K, value: impl Into<Arc<V>>) -> Result<(), CacheError<K, V, L, W>> {
         self.call(key, &Op::Put(value.into())).map(drop)
     }
 
-    /// The same. It returns the value that was cached.
+    /// Writes and caches a value. It returns the value that was cached.
+    ///
+    /// # Errors
+    /// [`Error::Writer`], [`Error::WouldDeadlock`], [`Error::Closed`]: the entry is as it was.
     pub fn get_and_put(
         &self,
         key: K,
@@ -226,6 +126,9 @@ where
     }
 
     /// Writes and caches a value if none is cached, and says whether.
+    ///
+    /// # Errors
+    /// [`Error::Writer`], [`Error::WouldDeadlock`], [`Error::Closed`]: the entry is as it was.
     pub fn put_if_absent(
         &self,
         key: K,
@@ -235,6 +138,9 @@ where
     }
 
     /// Deletes a key from store and cache, and says whether it was cached.
+    ///
+    /// # Errors
+    /// [`Error::Writer`], [`Error::WouldDeadlock`], [`Error::Closed`]: the entry is as it was.
     pub fn remove<Q>(&self, key: &Q) -> Result<bool, CacheError<K, V, L, W>>
     where
         K: Borrow<Q>,
@@ -243,7 +149,10 @@ where
         flag_of(self.call(key.to_owned(), &Op::Remove))
     }
 
-    /// Deletes a key if this value is cached, and says whether.
+    /// Deletes a key from store and cache if this value is cached, and says whether.
+    ///
+    /// # Errors
+    /// [`Error::Writer`], [`Error::WouldDeadlock`], [`Error::Closed`]: the entry is as it was.
     pub fn remove_if<Q>(
         &self,
         key: &Q,
@@ -257,7 +166,10 @@ where
         flag_of(self.call(key.to_owned(), &Op::RemoveIf(Expected::equal_to(old))))
     }
 
-    /// Deletes a key. It returns the value that was cached.
+    /// Deletes a key from store and cache. It returns the value that was cached.
+    ///
+    /// # Errors
+    /// [`Error::Writer`], [`Error::WouldDeadlock`], [`Error::Closed`]: the entry is as it was.
     pub fn get_and_remove<Q>(&self, key: &Q) -> Result<Option<Arc<V>>, CacheError<K, V, L, W>>
     where
         K: Borrow<Q>,
@@ -267,6 +179,9 @@ where
     }
 
     /// Writes and caches a value if one is cached, and says whether.
+    ///
+    /// # Errors
+    /// [`Error::Writer`], [`Error::WouldDeadlock`], [`Error::Closed`]: the entry is as it was.
     pub fn replace(
         &self,
         key: K,
@@ -276,6 +191,9 @@ where
     }
 
     /// Writes and caches a value if `old` is cached, and says whether.
+    ///
+    /// # Errors
+    /// [`Error::Writer`], [`Error::WouldDeadlock`], [`Error::Closed`]: the entry is as it was.
     pub fn replace_if(
         &self,
         key: K,
@@ -293,6 +211,9 @@ where
     }
 
     /// Writes and caches a value if one is cached, and returns that one.
+    ///
+    /// # Errors
+    /// [`Error::Writer`], [`Error::WouldDeadlock`], [`Error::Closed`]: the entry is as it was.
     pub fn get_and_replace(
         &self,
         key: K,
@@ -303,7 +224,19 @@ where
 
     fn call(&self, key: K, op: &Op<V>) -> Result<Reply<V>, CacheError<K, V, L, W>> {
         let hash = self.hashing.hash_one(&key);
-        self.call_at(Arc::new(key), hash, op)
+        self.call_at(Arc::new(key), hash, op, None)
+    }
+
+    /// The same, with a value that lives so long.
+    pub(crate) fn call_for(
+        &self,
+        key: K,
+        op: &Op<V>,
+        life: Duration,
+    ) -> Result<Reply<V>, CacheError<K, V, L, W>> {
+        self.lives.turn_on();
+        let hash = self.hashing.hash_one(&key);
+        self.call_at(Arc::new(key), hash, op, Some(life))
     }
 
     /// A whole call: phases, and whom they ask between.
@@ -312,10 +245,10 @@ where
         key: Arc<K>,
         hash: u64,
         op: &Op<V>,
+        life: Option<Duration>,
     ) -> Result<Reply<V>, CacheError<K, V, L, W>> {
-        let stripe = self.stripe(hash);
         loop {
-            match call::begin(stripe, &key, hash, op)? {
+            match self.begin_at(&key, hash, op, life)? {
                 Begun::Done(reply) => return Ok(reply),
                 Begun::Load(ticket) => {
                     let asked = ticket.ask();
@@ -345,14 +278,17 @@ where
         })
     }
 
-    /// The first phase of a call, for callers that ask the store themselves: see [`call`](crate::call).
+    /// The first phase of a call, for callers that ask the store themselves: see [`call`]. It never waits.
+    ///
+    /// # Errors
+    /// [`Error::Closed`].
     pub fn begin(
         &self,
         key: K,
         op: &Op<V>,
     ) -> Result<CacheBegun<'_, K, V, L, W>, CacheError<K, V, L, W>> {
         let hash = self.hash_of(&key);
-        self.begin_at(&Arc::new(key), hash, op)
+        self.begin_at(&Arc::new(key), hash, op, None)
     }
 
     pub(crate) fn hash_of(&self, key: &K) -> u64 {
@@ -364,20 +300,50 @@ where
         key: &Arc<K>,
         hash: u64,
         op: &Op<V>,
+        life: Option<Duration>,
     ) -> Result<CacheBegun<'_, K, V, L, W>, CacheError<K, V, L, W>> {
-        call::begin(self.stripe(hash), key, hash, op)
+        let call = Call {
+            key,
+            hash,
+            op,
+            life,
+        };
+        call::begin(self.stripe(hash), &call)
     }
 }
 
-/// The cache as a whole.
+/// The cache as a whole. None of these calls waits for another one.
 impl<K, V, L, W> Cache<K, V, L, W>
 where
     L: Loader<K, V>,
     W: Writer<K, V>,
 {
+    pub(crate) fn new(
+        stripes: Box<[Stripe<K, V, L::Error>]>,
+        lives: Arc<Lives<K, V>>,
+        loader: L,
+        writer: W,
+    ) -> Self {
+        Cache {
+            stripes,
+            lives,
+            hashing: Hashing::new(),
+            loader,
+            writer,
+        }
+    }
+
     /// The table of a stripe has its buckets by the lowest bits of a hash, and its tags by the highest.
     fn stripe(&self, hash: u64) -> &Stripe<K, V, L::Error> {
         &self.stripes[(hash >> 32) as usize % self.stripes.len()]
+    }
+
+    pub(crate) fn stripes(&self) -> &[Stripe<K, V, L::Error>] {
+        &self.stripes
+    }
+
+    pub(crate) fn lives(&self) -> &Lives<K, V> {
+        &self.lives
     }
 
     /// The loader.
@@ -391,6 +357,9 @@ where
     }
 
     /// Hits, misses, puts, removals and evictions since the cache was built.
+    ///
+    /// # Errors
+    /// [`Error::Closed`].
     pub fn stats(&self) -> Result<Statistics, CacheError<K, V, L, W>> {
         let mut sum = Statistics::default();
         for stripe in &self.stripes {
@@ -400,12 +369,43 @@ where
     }
 
     /// The keys that are cached, stripe by stripe.
+    ///
+    /// # Errors
+    /// [`Error::Closed`].
     pub fn keys(&self) -> Result<Vec<Arc<K>>, CacheError<K, V, L, W>> {
+        let now = self.lives.now();
         let mut keys = Vec::new();
         for stripe in &self.stripes {
-            keys.append(&mut stripe.keys()?);
+            keys.append(&mut stripe.keys(now)?);
         }
         Ok(keys)
+    }
+
+    /// How many keys are cached: it looks at all of them.
+    ///
+    /// # Errors
+    /// [`Error::Closed`].
+    pub fn len(&self) -> Result<usize, CacheError<K, V, L, W>> {
+        let now = self.lives.now();
+        let mut sum = 0;
+        for stripe in &self.stripes {
+            sum += stripe.len(now)?;
+        }
+        Ok(sum)
+    }
+
+    /// Whether no key is cached.
+    ///
+    /// # Errors
+    /// [`Error::Closed`].
+    pub fn is_empty(&self) -> Result<bool, CacheError<K, V, L, W>> {
+        Ok(self.len()? == 0)
+    }
+
+    /// How many threads sleep in calls of this cache: they wait for a load that they have joined, for a key or for room. It is a figure
+    /// for monitors, and for tests; a future that waits isn't counted.
+    pub fn waiting(&self) -> usize {
+        self.stripes.iter().map(Stripe::waiting).sum()
     }
 
     /// Closes the cache: later calls, and those that wait to begin, fail with [`Error::Closed`]. Calls under way end as they would.
@@ -422,14 +422,14 @@ where
     }
 }
 
-fn value_of<V, E>(reply: Result<Reply<V>, E>) -> Result<Option<Arc<V>>, E> {
+pub(crate) fn value_of<V, E>(reply: Result<Reply<V>, E>) -> Result<Option<Arc<V>>, E> {
     match reply? {
         Reply::Value(value) => Ok(value),
         _ => unreachable!("the operation answers a value"),
     }
 }
 
-fn flag_of<V, E>(reply: Result<Reply<V>, E>) -> Result<bool, E> {
+pub(crate) fn flag_of<V, E>(reply: Result<Reply<V>, E>) -> Result<bool, E> {
     match reply? {
         Reply::Flag(flag) => Ok(flag),
         _ => unreachable!("the operation answers yes or no"),

@@ -7,12 +7,14 @@
 //!
 //! What a desk can't test, its host owes: between a ticket and its commit the loader, writer or processor was asked once, at the
 //! ticket's key, and the commit says what it answered; a ticket is withdrawn only if nobody was asked.
+//!
+//! No call of a desk waits.
 #![allow(unsafe_code)]
 
 mod events;
-use cadwrelch_sys as raw;
 mod words;
 
+use cadwrelch_sys as raw;
 pub use events::{Event, Outside, What, legal};
 use std::fmt;
 pub use words::{
@@ -25,11 +27,28 @@ pub const KEY_MAX: usize = raw::KEY_MAX;
 /// The most bytes of a value.
 pub const VALUE_MAX: usize = raw::VALUE_MAX;
 /// The most stripes of a cache.
-pub const STRIPES_MAX: usize = 64;
+pub const STRIPES_MAX: usize = raw::STRIPES_MAX;
 /// The most entries of a stripe.
-pub const CAPACITY_MAX: usize = 4096;
+pub const CAPACITY_MAX: usize = raw::CAPACITY_MAX;
 /// The fewest and the most events of a generation.
-pub const HISTORY: std::ops::RangeInclusive<usize> = 16..=65536;
+pub const HISTORY: std::ops::RangeInclusive<usize> = raw::HISTORY_MIN..=raw::HISTORY_MAX;
+/// The version of the library that this crate is written for: 1,000,000 * major + 1,000 * minor + patch.
+pub const VERSION: u32 = raw::VERSION;
+
+/// The version of the library that was linked.
+pub fn version() -> u32 {
+    // SAFETY: it has no requirement.
+    unsafe { raw::jc_version() }
+}
+
+/// Before 1.0 the structs of the interface may change with the minor number.
+fn check_version() -> Result<(), Code> {
+    if version() / 1000 == VERSION / 1000 {
+        Ok(())
+    } else {
+        Err(Code::WrongVersion)
+    }
+}
 
 /// The handle and the room for answers, at one address as long as the desk is there.
 struct Room {
@@ -113,7 +132,7 @@ impl Answer for raw::Out {
             raw::HAVE_DELETED => Asked::Delete(ticket),
             raw::RUN_PROCESSOR => Asked::Process {
                 ticket,
-                entry: (self.reply == 4).then(|| self.value.get()),
+                entry: (self.reply == raw::VALUE).then(|| self.value.get()),
                 may_load: self.code == 1,
             },
             raw::JOINED => Asked::Joined(Join {
@@ -129,10 +148,10 @@ impl Answer for raw::Out {
 
     fn refusal(&self) -> Refusal {
         match self.reply {
-            0 => Refusal::HistoryFull,
-            1 => Refusal::Busy,
-            2 => Refusal::TooManyInFlight,
-            3 => Refusal::TooManyJoiners,
+            raw::HISTORY_FULL => Refusal::HistoryFull,
+            raw::BUSY => Refusal::Busy,
+            raw::TOO_MANY_IN_FLIGHT => Refusal::TooManyInFlight,
+            raw::TOO_MANY_JOINERS => Refusal::TooManyJoiners,
             reply => unreachable!("the core answered refusal {reply}"),
         }
     }
@@ -140,21 +159,28 @@ impl Answer for raw::Out {
 
 impl Desk {
     /// Opens a desk over stripe `number` (from 0) with these entries, the first one the most recently used.
+    ///
+    /// # Errors
+    /// [`Code::BadArgument`]: the shape is out of its limits, no stripe has this number, or the entries don't fit: one has a key or a
+    /// value out of the limits, a key is there twice or of another stripe, or there are more than the capacity. [`Code::NoMemory`].
+    /// [`Code::WrongVersion`]: the library that was linked is of another version.
     pub fn open(shape: &Shape, number: usize, entries: &[(&[u8], &[u8])]) -> Result<Desk, Code> {
+        // Nothing of a library of another version is called, not even to close what it didn't open.
+        check_version()?;
         let mut desk = Desk {
             room: Box::new(Room {
-                handle: raw::Handle {
-                    at: std::ptr::null_mut(),
-                    is_open: false,
-                },
-                out: raw::Out::new(),
+                handle: raw::Handle::CLOSED,
+                out: raw::Out::EMPTY,
             }),
         };
         desk.reopen(shape, number, entries)?;
         Ok(desk)
     }
 
-    /// Opens a desk that was closed. `WrongHandle`: it is open.
+    /// Opens a desk that was closed.
+    ///
+    /// # Errors
+    /// As [`open`](Desk::open); and [`Code::WrongHandle`]: it is open, and stays as it is.
     pub fn reopen(
         &mut self,
         shape: &Shape,
@@ -168,13 +194,20 @@ impl Desk {
         checked(unsafe { raw::jc_open(handle, &shape, number, entries.as_ptr(), entries.len()) })
     }
 
-    /// Closes the desk and frees it. `InUse`: a ticket or a join is out, and it stays open.
+    /// Closes the desk and frees it.
+    ///
+    /// # Errors
+    /// [`Code::InUse`]: a ticket or a join is out, and it stays open. [`Code::WrongHandle`]: it isn't open.
     pub fn close(&mut self) -> Result<(), Code> {
         // SAFETY: the handle is the library's.
         checked(unsafe { raw::jc_close(&mut self.room.handle) })
     }
 
     /// The first phase of the session's next call. A session is whoever has at most one call out at this desk.
+    ///
+    /// # Errors
+    /// [`Code::BadArgument`]: a key or a value is out of its limits. [`Code::Misuse`]: the key is of another stripe, or the session has
+    /// another call out. [`Code::NoMemory`], [`Code::WrongHandle`]. Nothing was done.
     #[inline]
     pub fn begin(&mut self, session: u32, op: Op<'_>, key: &[u8]) -> Result<Asked<'_>, Code> {
         let (op, value, other) = op.parts();
@@ -199,6 +232,9 @@ impl Desk {
     }
 
     /// A `get` that finds its entry. None: nothing was done, and [`begin`](Desk::begin) says why.
+    ///
+    /// # Errors
+    /// [`Code::BadArgument`]: the key is out of its limits. [`Code::WrongHandle`].
     #[inline]
     pub fn hit(&mut self, session: u32, key: &[u8]) -> Result<Option<&[u8]>, Code> {
         let Room { handle, out } = &mut *self.room;
@@ -211,6 +247,10 @@ impl Desk {
     }
 
     /// The last phase of a call whose loader was asked.
+    ///
+    /// # Errors
+    /// [`Code::Misuse`]: the ticket isn't out here, or asks for another phase. [`Code::BadArgument`]: a value is out of its limits.
+    /// [`Code::NoMemory`], [`Code::WrongHandle`]. Nothing was done, and the ticket is as it was.
     pub fn commit_load(&mut self, ticket: Ticket, loaded: Loaded<'_>) -> Result<Done<'_>, Code> {
         let (answer, code, value) = loaded.parts();
         let Room { handle, out } = &mut *self.room;
@@ -221,6 +261,10 @@ impl Desk {
     }
 
     /// The last phase of a call whose writer was asked.
+    ///
+    /// # Errors
+    /// [`Code::Misuse`]: the ticket isn't out here, or asks for another phase. [`Code::NoMemory`], [`Code::WrongHandle`]. Nothing was
+    /// done, and the ticket is as it was.
     pub fn commit_write(&mut self, ticket: Ticket, written: Written) -> Result<Done<'_>, Code> {
         let (answer, code) = written_parts(Some(written));
         let Room { handle, out } = &mut *self.room;
@@ -230,6 +274,10 @@ impl Desk {
     }
 
     /// The last phase of a call whose processor ran.
+    ///
+    /// # Errors
+    /// As [`commit_load`](Desk::commit_load); and [`Code::Misuse`]: the loader answered though it may not be asked, or the writer was
+    /// (not) asked though it wasn't (was) due.
     pub fn commit_process(
         &mut self,
         ticket: Ticket,
@@ -243,12 +291,18 @@ impl Desk {
     }
 
     /// Gives a ticket back whose loader, writer or processor was not asked: its joiners are told to begin anew.
+    ///
+    /// # Errors
+    /// [`Code::Misuse`]: the ticket isn't out here. [`Code::WrongHandle`].
     pub fn withdraw(&mut self, ticket: Ticket) -> Result<(), Code> {
         // SAFETY: as in `begin`.
         checked(unsafe { raw::jc_withdraw(&mut self.room.handle, ticket.0) })
     }
 
     /// Picks up the answer of a load that was joined.
+    ///
+    /// # Errors
+    /// [`Code::Misuse`]: no such join is out at this key. [`Code::BadArgument`]: the key is out of its limits. [`Code::WrongHandle`].
     pub fn pick_up(&mut self, join: Join, key: &[u8]) -> Result<PickedUp<'_>, Code> {
         let Join {
             session,
@@ -268,6 +322,9 @@ impl Desk {
     }
 
     /// The key's entry. No call is made, and the order of use stays.
+    ///
+    /// # Errors
+    /// [`Code::BadArgument`]: the key is out of its limits. [`Code::WrongHandle`].
     pub fn peek(&mut self, key: &[u8]) -> Result<Option<&[u8]>, Code> {
         let Room { handle, out } = &mut *self.room;
         // SAFETY: as in `begin`.
@@ -278,6 +335,9 @@ impl Desk {
     }
 
     /// What all events since the opening count; in constant time.
+    ///
+    /// # Errors
+    /// [`Code::WrongHandle`].
     pub fn statistics(&mut self) -> Result<Statistics, Code> {
         let mut counts = raw::Statistics::default();
         // SAFETY: as in `begin`.
@@ -292,15 +352,12 @@ impl Desk {
     }
 
     /// What is cached, the most recently used first.
+    ///
+    /// # Errors
+    /// [`Code::WrongHandle`].
     pub fn entries(&mut self) -> Result<Vec<(Vec<u8>, Vec<u8>)>, Code> {
         let len = self.entries_into(&mut [])?;
-        let mut room = vec![
-            raw::Entry {
-                key: raw::Key::EMPTY,
-                value: raw::Value::EMPTY,
-            };
-            len
-        ];
+        let mut room = vec![raw::Entry::EMPTY; len];
         self.entries_into(&mut room)?;
         Ok(room
             .iter()
@@ -323,6 +380,9 @@ impl Desk {
     }
 
     /// The event at a place of the present generation, from 0; or none, if it has no such place.
+    ///
+    /// # Errors
+    /// [`Code::WrongHandle`].
     pub fn event(&mut self, place: usize) -> Result<Option<Event>, Code> {
         let mut event = Event::empty();
         // SAFETY: as in `begin`.
@@ -332,7 +392,10 @@ impl Desk {
         }
     }
 
-    /// Ends the present generation. `InUse`: it has no event, or an answer is parked.
+    /// Ends the present generation: its events are gone.
+    ///
+    /// # Errors
+    /// [`Code::InUse`]: it has no event, or an answer is parked. [`Code::WrongHandle`].
     pub fn end_generation(&mut self) -> Result<(), Code> {
         // SAFETY: as in `begin`.
         checked(unsafe { raw::jc_end_generation(&mut self.room.handle) })

@@ -1,24 +1,25 @@
 //! What may go wrong.
+use crate::core;
 use std::error::Error as StdError;
 use std::fmt;
 use std::sync::Arc;
 
 /// Why a call has no answer: `L` is the loader's error, `W` the writer's.
 ///
-/// After any of these the entry is as it was before the call.
+/// After any of these the entry is as it was before the call, with what it had left to live.
 #[derive(Debug)]
 #[non_exhaustive]
 pub enum Error<L, W> {
     /// The loader failed. All calls that have joined this load share its error.
     Loader(Arc<L>),
-    /// The loader that another call has asked panicked, or that call was cancelled.
+    /// The loader panicked: in another call, whose load this one had joined; or in a processor that has caught it and gone on.
     LoaderPanicked,
     /// The writer failed.
     Writer(W),
     /// The processor of an `invoke` failed, with an error of its own.
     Processor(Box<dyn StdError + Send + Sync>),
-    /// The call would wait for its own thread: it was made inside a loader, a writer or a processor, at a key that this thread has
-    /// reserved, at one whose call waits for this thread, or in a stripe that has no room for a call more.
+    /// The call would wait for its own thread: it was made inside a loader, a writer, a processor or a policy, at a key that this thread
+    /// has reserved, at one whose call waits for this thread, or in a stripe that has no room for a call more.
     WouldDeadlock,
     /// Of a [`BytesCache`](crate::BytesCache): a key has 1 to 32 bytes, and a value 0 to 256, also one that a loader finds.
     Limits,
@@ -89,30 +90,58 @@ where
 
 /// Why a cache can't be built.
 #[derive(Clone, Copy, Debug, PartialEq, Eq)]
+#[non_exhaustive]
 pub enum BuildError {
     /// Stripes are 1 to 4,096 (of a cache of bytes to 64), the capacity of a stripe is 1 to 4,096, a history 16 to 65,536 events.
     Limits,
     /// An allocation failed.
     NoMemory,
+    /// The library that `CADWRELCH_CORE` named at the build is of another version: 1,000,000 * major + 1,000 * minor + patch.
+    Version {
+        /// The library's.
+        found: u32,
+        /// That which this crate is written for. Another patch will do, and nothing else.
+        wanted: u32,
+    },
+}
+
+/// A version as one writes it.
+struct Version(u32);
+
+impl fmt::Display for Version {
+    fn fmt(&self, f: &mut fmt::Formatter<'_>) -> fmt::Result {
+        let (major, minor) = (self.0 / 1_000_000, self.0 / 1000 % 1000);
+        write!(f, "{major}.{minor}.{}", self.0 % 1000)
+    }
 }
 
 impl fmt::Display for BuildError {
     fn fmt(&self, f: &mut fmt::Formatter<'_>) -> fmt::Result {
-        f.write_str(match self {
-            BuildError::Limits => {
-                "stripes are 1 to 64, capacity is 1 to 4,096 a stripe, history 16 to 65,536"
-            }
-            BuildError::NoMemory => "out of memory",
-        })
+        match self {
+            BuildError::Limits => f.write_str(
+                "stripes are 1 to 4,096 (of a cache of bytes to 64), capacity is 1 to 4,096 a stripe, history 16 to 65,536",
+            ),
+            BuildError::NoMemory => f.write_str("out of memory"),
+            BuildError::Version { found, wanted } => write!(
+                f,
+                "the core is of version {}, and this crate is for {}: build it without CADWRELCH_CORE, or with an archive of that version",
+                Version(*found),
+                Version(*wanted)
+            ),
+        }
     }
 }
 
 impl StdError for BuildError {}
 
-impl From<crate::core::Code> for BuildError {
-    fn from(code: crate::core::Code) -> BuildError {
+impl From<core::Code> for BuildError {
+    fn from(code: core::Code) -> BuildError {
         match code {
-            crate::core::Code::NoMemory => BuildError::NoMemory,
+            core::Code::NoMemory => BuildError::NoMemory,
+            core::Code::WrongVersion => BuildError::Version {
+                found: core::version(),
+                wanted: core::VERSION,
+            },
             _ => BuildError::Limits,
         }
     }

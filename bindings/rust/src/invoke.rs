@@ -5,6 +5,7 @@ use crate::op::Op;
 use crate::outside::{Loader, Writer, in_call};
 use std::hash::Hash;
 use std::sync::Arc;
+use std::time::Duration;
 
 /// An entry while its processor runs: no other call changes it meanwhile. What the processor does is one change, when it has
 /// returned: of several the last counts.
@@ -24,8 +25,11 @@ impl<K, V, L: Loader<K, V>, W: Writer<K, V>> Entry<'_, K, V, L, W> {
         self.processing.exists()
     }
 
-    /// The value. With read-through the loader is asked if there is none and the processor has changed nothing; if it fails, the call
-    /// fails.
+    /// The value. With read-through the loader is asked if there is none and the processor has changed nothing.
+    ///
+    /// # Errors
+    /// [`Error::Loader`](crate::Error::Loader): it failed, and so will the call, whatever the processor does.
+    /// [`Error::LoaderPanicked`](crate::Error::LoaderPanicked): the same, of one that panicked, if the processor has caught that.
     pub fn value(&mut self) -> Result<Option<Arc<V>>, CacheError<K, V, L, W>> {
         if self.processing.must_load() {
             self.processing.start_load();
@@ -35,12 +39,17 @@ impl<K, V, L: Loader<K, V>, W: Writer<K, V>> Entry<'_, K, V, L, W> {
         Ok(self.processing.value()?.cloned())
     }
 
-    /// Sets the value.
+    /// Sets the value. After a failed load it changes nothing.
     pub fn set(&mut self, value: impl Into<Arc<V>>) {
         self.processing.set(value);
     }
 
-    /// Removes the entry.
+    /// Sets the value, which lives so long: see [`Cache::put_for`].
+    pub fn set_for(&mut self, value: impl Into<Arc<V>>, life: Duration) {
+        self.processing.set_for(value, life);
+    }
+
+    /// Removes the entry. After a failed load it changes nothing.
     pub fn remove(&mut self) {
         self.processing.remove();
     }
@@ -54,7 +63,8 @@ where
 {
     /// Runs a processor on the entry of a key, and returns what it returns.
     ///
-    /// If it fails ([`Error::processor`](crate::Error::processor) makes an error of its own) or panics, nothing is changed.
+    /// It waits if another call has reserved the key, or the stripe has no room. The writer is asked after the processor, for the net
+    /// effect alone.
     ///
     /// ```
     /// # let cache = cadwrelch::Cache::<String, u32>::builder().build()?;
@@ -66,6 +76,12 @@ where
     /// assert_eq!(visits, 1);
     /// # Ok::<(), Box<dyn std::error::Error>>(())
     /// ```
+    ///
+    /// # Errors
+    /// What the processor returned ([`Error::processor`](crate::Error::processor) makes an error of its own);
+    /// [`Error::Loader`](crate::Error::Loader), also if the processor has made light of it; [`Error::Writer`](crate::Error::Writer);
+    /// [`Error::WouldDeadlock`](crate::Error::WouldDeadlock), [`Error::Closed`](crate::Error::Closed). After any of these the entry is
+    /// as it was. So it is if the processor panics, and the panic goes on.
     pub fn invoke<T>(
         &self,
         key: K,
@@ -81,12 +97,11 @@ where
             Ok(value) => value,
             Err(error) => return Err(processing.end_failed().unwrap_or(error)),
         };
-        let mut written = None;
         if processing.change().is_some() {
             processing.start_write();
-            let change = processing.change().expect("it is due");
-            written = Some(self.write(processing.key(), change));
         }
+        let change = processing.change();
+        let written = change.map(|change| self.write(processing.key(), change));
         processing.commit(written)?;
         Ok(value)
     }
@@ -98,7 +113,7 @@ where
         let hash = self.hash_of(&key);
         let key = Arc::new(key);
         loop {
-            match self.begin_at(&key, hash, &Op::Invoke)? {
+            match self.begin_at(&key, hash, &Op::Invoke, None)? {
                 Begun::Process(ticket) => return Ok(ticket.ask()),
                 Begun::Busy(busy) => busy.wait()?,
                 _ => unreachable!("an invoke runs its processor, or is refused"),

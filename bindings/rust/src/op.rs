@@ -1,8 +1,9 @@
 //! Operations at one key, and their replies.
 use crate::core;
+use crate::lives::Question;
 use std::sync::Arc;
 
-/// A value that a conditional operation compares with the cached one.
+/// A value that a conditional operation compares with the cached one, with no lock held.
 pub struct Expected<V> {
     value: Arc<V>,
     is_equal: fn(&V, &V) -> bool,
@@ -26,21 +27,33 @@ impl<V: PartialEq> Expected<V> {
 }
 
 /// An operation at one key.
-#[allow(missing_docs)]
 pub enum Op<V> {
+    /// The cached value, or what the loader finds.
     Get,
+    /// Whether the key is cached.
     ContainsKey,
+    /// Writes and caches a value.
     Put(Arc<V>),
+    /// The same; the value that was cached is answered.
     GetAndPut(Arc<V>),
+    /// Writes and caches a value if none is cached.
     PutIfAbsent(Arc<V>),
+    /// Deletes the key from store and cache.
     Remove,
+    /// The same, if this value is cached.
     RemoveIf(Expected<V>),
+    /// Deletes the key; the value that was cached is answered.
     GetAndRemove,
+    /// Writes and caches a value if one is cached.
     Replace(Arc<V>),
+    /// The same, if `old` is cached.
     ReplaceIf {
+        /// The value that is to be cached.
         old: Expected<V>,
+        /// The value that comes.
         new: Arc<V>,
     },
+    /// Writes and caches a value if one is cached, which is answered.
     GetAndReplace(Arc<V>),
     /// Uncaches the key: no writer is asked.
     Clear,
@@ -48,6 +61,7 @@ pub enum Op<V> {
     Load,
     /// Loads the key in any case.
     Reload,
+    /// Runs a processor on the key's entry.
     Invoke,
 }
 
@@ -67,6 +81,31 @@ impl<V> Op<V> {
     pub(crate) fn expected(&self) -> Option<&Expected<V>> {
         match self {
             Op::RemoveIf(old) | Op::ReplaceIf { old, .. } => Some(old),
+            _ => None,
+        }
+    }
+
+    /// What a first phase does for the life of its key's entry if it asks nobody. If it asks somebody, its last phase says that.
+    pub(crate) fn question(
+        &self,
+        has_entry: bool,
+        is_equal: bool,
+        is_written: bool,
+    ) -> Option<Question> {
+        let comes = match (is_written, has_entry) {
+            (true, _) => None,
+            (false, true) => Some(Question::Update),
+            (false, false) => Some(Question::Create),
+        };
+        match self {
+            Op::Get if has_entry => Some(Question::Read),
+            Op::Put(_) | Op::GetAndPut(_) => comes,
+            Op::PutIfAbsent(_) if !has_entry => comes,
+            Op::Replace(_) | Op::GetAndReplace(_) if has_entry => comes,
+            Op::ReplaceIf { .. } if has_entry && is_equal => comes,
+            Op::ReplaceIf { .. } | Op::RemoveIf(_) if has_entry && !is_equal => {
+                Some(Question::Read)
+            }
             _ => None,
         }
     }

@@ -8,6 +8,8 @@ use std::sync::Arc;
 /// A function or closure `Fn(&K) -> Result<Option<V>, E>` is a loader, too. A loader is called with no lock held, for each key by one
 /// call at a time. If it panics its call has failed, and the panic goes on.
 ///
+/// What it returns as None is not cached: the next `get` asks it again.
+///
 /// ```
 /// use cadwrelch::{Cache, Loader, Writer};
 /// use std::collections::HashMap;
@@ -50,10 +52,16 @@ pub trait Loader<K: ?Sized, V> {
     type Error;
 
     /// The store's value of the key, if it has one.
+    ///
+    /// # Errors
+    /// Its own: the call fails with [`Error::Loader`](crate::Error::Loader), and so do those that have joined it.
     fn load(&self, key: &K) -> Result<Option<V>, Self::Error>;
 
-    /// The store's value of each of these keys, in their order. If it fails, each of them has failed; if the answer is shorter, the
-    /// other keys have no value.
+    /// The store's value of each of these keys, in their order. If the answer is shorter, the other keys have no value. Without a
+    /// method of its own it asks for one key after the other, up to the first failure.
+    ///
+    /// # Errors
+    /// Its own: each of these keys has failed.
     fn load_all(&self, keys: &[&K]) -> Result<Vec<Option<V>>, Self::Error> {
         keys.iter().map(|key| self.load(key)).collect()
     }
@@ -79,17 +87,29 @@ pub trait Writer<K: ?Sized, V: ?Sized> {
     type Error;
 
     /// Writes the value at the key.
+    ///
+    /// # Errors
+    /// Its own: the call fails with [`Error::Writer`](crate::Error::Writer), and its entry stays.
     fn write(&self, key: &K, value: &V) -> Result<(), Self::Error>;
 
     /// Deletes the key, which may have no value.
+    ///
+    /// # Errors
+    /// Its own: the call fails with [`Error::Writer`](crate::Error::Writer), and its entry stays.
     fn delete(&self, key: &K) -> Result<(), Self::Error>;
 
-    /// Writes many entries, and says which ones it did not.
+    /// Writes many entries. Without a method of its own it writes one after the other, up to the first failure.
+    ///
+    /// # Errors
+    /// Its own, with the entries that it did not write.
     fn write_all(&self, entries: &[(&K, &V)]) -> Result<(), Unwritten<Self::Error>> {
         one_by_one(entries, |(key, value)| self.write(key, value))
     }
 
-    /// Deletes many keys, and says which ones it did not.
+    /// Deletes many keys. Without a method of its own it deletes one after the other, up to the first failure.
+    ///
+    /// # Errors
+    /// Its own, with the keys that it did not delete.
     fn delete_all(&self, keys: &[&K]) -> Result<(), Unwritten<Self::Error>> {
         one_by_one(keys, |key| self.delete(key))
     }

@@ -2,10 +2,12 @@
 use crate::Error;
 use crate::call::{Change, Held, written};
 use crate::core::Written;
-use crate::side::{Answer, Effect, Fault, Loaded};
+use crate::step::{Answer, Effect, Fault, Loaded};
 use crate::table::Failure;
 use std::marker::PhantomData;
 use std::sync::Arc;
+use std::sync::atomic::{AtomicBool, Ordering::Relaxed};
+use std::time::Duration;
 
 /// A call that has reserved its key.
 pub trait Reserved {
@@ -17,10 +19,14 @@ pub trait Reserved {
 pub(crate) struct Process<V, L> {
     pub entry: Option<Arc<V>>,
     pub may_load: bool,
-    /// Whether the loader is being asked, and has not answered.
+    /// Whether the loader is being asked, and has not answered. If the processor goes on all the same, the loader has panicked.
     is_loading: bool,
     load: Option<Loaded<V, L>>,
     effect: Effect<V>,
+    /// How long the value lives that was set, if it has a life of its own.
+    life: Option<Duration>,
+    /// Whether the value was looked at.
+    has_read: AtomicBool,
     /// Whether the writer is being asked, and has not answered.
     is_writing: bool,
 }
@@ -33,6 +39,8 @@ impl<V, L> Default for Process<V, L> {
             is_loading: false,
             load: None,
             effect: Effect::Keep,
+            life: None,
+            has_read: AtomicBool::new(false),
             is_writing: false,
         }
     }
@@ -40,7 +48,23 @@ impl<V, L> Default for Process<V, L> {
 
 impl<V, L> Process<V, L> {
     fn has_failed_load(&self) -> bool {
-        matches!(self.load, Some(Err(_)))
+        self.is_loading || matches!(self.load, Some(Err(_)))
+    }
+
+    fn load_failure(&self) -> Option<Failure<L>> {
+        match &self.load {
+            Some(Err(failure)) => Some(failure.clone()),
+            _ if self.is_loading => Some(Failure::Panicked),
+            _ => None,
+        }
+    }
+
+    fn set(&mut self, value: Arc<V>, life: Option<Duration>) {
+        if !self.has_failed_load() {
+            self.entry = Some(value.clone());
+            self.effect = Effect::Set(value);
+            self.life = life;
+        }
     }
 
     fn change(&self) -> Option<Change<'_, V>> {
@@ -54,9 +78,6 @@ impl<V, L> Process<V, L> {
 
     /// What is told of a processor that panicked, or whose loader or writer did.
     pub(crate) fn failed(&mut self) -> Answer<V, L> {
-        if self.is_loading {
-            self.load = Some(Err(Failure::Panicked));
-        }
         if !self.is_writing {
             self.effect = Effect::Failed;
         }
@@ -64,10 +85,15 @@ impl<V, L> Process<V, L> {
     }
 
     fn answer(&mut self, write: Option<Written>) -> Answer<V, L> {
+        if self.is_loading {
+            self.load = Some(Err(Failure::Panicked));
+        }
         Answer::Process {
             load: self.load.take(),
             effect: std::mem::replace(&mut self.effect, Effect::Keep),
             write,
+            has_read: self.has_read.load(Relaxed),
+            life: self.life,
         }
     }
 }
@@ -105,18 +131,29 @@ impl<'c, K, V, L, W> Processing<'c, K, V, L, W> {
     /// removed it.
     pub fn must_load(&self) -> bool {
         let process = &self.held.process;
-        process.may_load && process.load.is_none() && matches!(process.effect, Effect::Keep)
+        process.may_load
+            && !process.is_loading
+            && process.load.is_none()
+            && matches!(process.effect, Effect::Keep)
     }
 
-    /// The loader is being asked: it is to be.
+    /// The loader is being asked: it is to be. If its answer never comes, because it panicked, the call fails with
+    /// [`Error::LoaderPanicked`], whatever the processor does.
+    ///
+    /// # Panics
+    /// If [`must_load`](Processing::must_load) is false. The call fails then as if the processor had.
     pub fn start_load(&mut self) {
         assert!(self.must_load(), "the loader was not to be asked");
         self.held.process.is_loading = true;
     }
 
     /// What the loader answered. If it failed the call will fail, whatever the processor does.
+    ///
+    /// # Panics
+    /// If the loader was not to be asked. The call fails then as if the processor had.
     pub fn loaded(&mut self, loaded: Result<Option<V>, L>) {
-        assert!(self.must_load(), "the loader was not to be asked");
+        let is_asked = self.held.process.is_loading || self.must_load();
+        assert!(is_asked, "the loader was not to be asked");
         let process = &mut self.held.process;
         process.is_loading = false;
         process.load = Some(match loaded {
@@ -134,24 +171,30 @@ impl<'c, K, V, L, W> Processing<'c, K, V, L, W> {
     }
 
     /// The value, as it is after what the processor has done so far.
+    ///
+    /// # Errors
+    /// [`Error::Loader`], [`Error::LoaderPanicked`]: a load failed, or has begun and has no answer.
     pub fn value(&self) -> Result<Option<&Arc<V>>, Error<L, W>> {
-        match &self.held.process.load {
-            Some(Err(failure)) => Err(failure.clone().into()),
-            _ => Ok(self.held.process.entry.as_ref()),
+        let process = &self.held.process;
+        process.has_read.store(true, Relaxed);
+        match process.load_failure() {
+            Some(failure) => Err(failure.into()),
+            None => Ok(process.entry.as_ref()),
         }
     }
 
-    /// Sets the value.
+    /// Sets the value. After a failed load it changes nothing.
     pub fn set(&mut self, value: impl Into<Arc<V>>) {
-        let process = &mut self.held.process;
-        if !process.has_failed_load() {
-            let value = value.into();
-            process.entry = Some(value.clone());
-            process.effect = Effect::Set(value);
-        }
+        self.held.process.set(value.into(), None);
     }
 
-    /// Removes the entry.
+    /// Sets the value, which lives so long: see [`Cache::put_for`](crate::Cache::put_for).
+    pub fn set_for(&mut self, value: impl Into<Arc<V>>, life: Duration) {
+        self.held.stripe.lives.turn_on();
+        self.held.process.set(value.into(), Some(life));
+    }
+
+    /// Removes the entry. After a failed load it changes nothing.
     pub fn remove(&mut self) {
         let process = &mut self.held.process;
         if !process.has_failed_load() {
@@ -170,12 +213,21 @@ impl<'c, K, V, L, W> Processing<'c, K, V, L, W> {
     }
 
     /// The writer is being asked: there is a change.
+    ///
+    /// # Panics
+    /// If there is none. The call fails then as if the processor had.
     pub fn start_write(&mut self) {
         assert!(self.change().is_some(), "the writer was not to be asked");
         self.held.process.is_writing = true;
     }
 
     /// Ends the call with what the writer answered: it is asked if there is a change, and only then.
+    ///
+    /// # Errors
+    /// [`Error::Loader`], [`Error::LoaderPanicked`] after a failed load, [`Error::Writer`]. The entry is as it was.
+    ///
+    /// # Panics
+    /// If the writer was asked without a change, or not asked with one. The call fails then as if the processor had.
     pub fn commit(mut self, write: Option<Result<(), W>>) -> Result<(), Error<L, W>> {
         assert_eq!(
             write.is_some(),
@@ -183,7 +235,7 @@ impl<'c, K, V, L, W> Processing<'c, K, V, L, W> {
             "the writer is asked just if there is a change"
         );
         let told = write.as_ref().map(|result| written(result.is_ok()));
-        let failure = self.load_failure();
+        let failure = self.held.process.load_failure();
         let answer = self.held.process.answer(told);
         match self.held.commit(&answer) {
             Ok(_) => Ok(()),
@@ -195,24 +247,18 @@ impl<'c, K, V, L, W> Processing<'c, K, V, L, W> {
         }
     }
 
-    /// Ends the call with a failure of the processor: nothing of it counts.
+    /// Ends the call with a failure of the processor: nothing of it counts. It returns that error, or that of a load, which comes
+    /// before it.
     pub fn fail(self, error: impl Into<Box<dyn std::error::Error + Send + Sync>>) -> Error<L, W> {
         self.end_failed().unwrap_or_else(|| Error::processor(error))
     }
 
     /// The same. It returns the failure of a load, which comes before the processor's.
     pub(crate) fn end_failed(mut self) -> Option<Error<L, W>> {
-        let failure = self.load_failure();
+        let failure = self.held.process.load_failure();
         self.held.process.effect = Effect::Failed;
         let answer = self.held.process.answer(None);
         let _ = self.held.commit(&answer);
         failure.map(Failure::into)
-    }
-
-    fn load_failure(&self) -> Option<Failure<L>> {
-        match &self.held.process.load {
-            Some(Err(failure)) => Some(failure.clone()),
-            _ => None,
-        }
     }
 }

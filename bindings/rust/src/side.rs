@@ -1,135 +1,16 @@
 //! What the mutex of a stripe guards: a desk, its table, and who has a call out.
-use crate::core::{self, Asked, Desk, Done, PickedUp, Refusal, Shape, Ticket, Written};
-use crate::op::{Op, Reply};
-use crate::table::{Failure, Flight, Found, Leavings, Table, Versioned};
+use crate::core::{self, Asked, Desk, Done, PickedUp, Refusal, Shape, Ticket};
+use crate::lives::{Nanos, Renewal};
+use crate::op::Reply;
+use crate::step::{AT_ONCE, Answer, Blocked, Call, Effect, Fault, First, Out, Sessions, Stop};
+use crate::step::{bytes_of, found_of, numbered};
+use crate::table::{Failure, Flight, Leavings, Table, Versioned};
 use crate::waiting::{Waiters, this_thread};
 use std::sync::atomic::Ordering::Relaxed;
 use std::sync::{Arc, OnceLock};
 
-/// The session of calls that are done at once in any case.
-const AT_ONCE: u32 = 0;
-
-/// Who failed.
-#[derive(Clone, Copy, Debug, PartialEq, Eq)]
-pub(crate) enum Fault {
-    Loader,
-    Writer,
-    Processor,
-}
-
-/// Why a call stops before its first phase.
-#[derive(Clone, Copy, Debug)]
-pub(crate) enum Stop {
-    Closed,
-    HistoryFull,
-    WouldDeadlock,
-    Limits,
-}
-
-impl<L, W> From<Stop> for crate::Error<L, W> {
-    fn from(stop: Stop) -> Self {
-        match stop {
-            Stop::Closed => crate::Error::Closed,
-            Stop::HistoryFull => crate::Error::HistoryFull,
-            Stop::WouldDeadlock => crate::Error::WouldDeadlock,
-            Stop::Limits => crate::Error::Limits,
-        }
-    }
-}
-
-/// A call that has something out at a stripe.
-pub(crate) struct Out<K, V, E> {
-    pub key: Arc<K>,
-    pub slot: usize,
-    session: u32,
-    pub flight: Arc<Flight<V, E>>,
-    /// The value that the operation brings.
-    pub brought: Option<Versioned<V>>,
-}
-
-/// What the first phase of a call asks for.
-pub(crate) enum First<K, V, E> {
-    Done(Reply<V>),
-    Load(Out<K, V, E>),
-    Write(Out<K, V, E>),
-    Delete(Out<K, V, E>),
-    Process {
-        out: Out<K, V, E>,
-        entry: Option<Arc<V>>,
-        may_load: bool,
-    },
-    Joined(Out<K, V, E>, core::Join),
-    Busy(Blocked<V, E>),
-}
-
-/// What a call waits for that was refused.
-pub(crate) enum Blocked<V, E> {
-    /// The end of the call that has reserved the key.
-    Key(Arc<Flight<V, E>>),
-    /// A change of the stripe, after so many.
-    Room(u64),
-}
-
-/// What a loader answered: the value, none, or why it failed.
-pub(crate) type Loaded<V, E> = Result<Option<Arc<V>>, Failure<E>>;
-
-/// The net effect of a processor.
-pub(crate) enum Effect<V> {
-    Keep,
-    Set(Arc<V>),
-    Remove,
-    Failed,
-}
-
-/// What was answered outside.
-pub(crate) enum Answer<V, E> {
-    Load(Loaded<V, E>),
-    Write(Written),
-    Process {
-        load: Option<Loaded<V, E>>,
-        effect: Effect<V>,
-        write: Option<Written>,
-    },
-}
-
-/// The sessions of a desk: each has at most one call out.
-pub(crate) struct Sessions {
-    free: Vec<u32>,
-    last: u32,
-    out: usize,
-}
-
-impl Sessions {
-    pub(crate) fn new() -> Sessions {
-        Sessions {
-            free: Vec::new(),
-            last: AT_ONCE,
-            out: 0,
-        }
-    }
-
-    /// One that has no call out.
-    pub(crate) fn next(&self) -> u32 {
-        self.free.last().copied().unwrap_or(self.last + 1)
-    }
-
-    /// The next one has a call out.
-    pub(crate) fn take(&mut self) {
-        if self.free.pop().is_none() {
-            self.last += 1;
-        }
-        self.out += 1;
-    }
-
-    pub(crate) fn give(&mut self, session: u32) {
-        self.free.push(session);
-        self.out -= 1;
-    }
-
-    pub(crate) fn is_idle(&self) -> bool {
-        self.out == 0
-    }
-}
+/// What is wrong if the core answers so: its rules are broken, by it or by the host.
+const RULES: &str = "the host keeps the core's rules";
 
 pub(crate) struct Side<K, V, E> {
     pub desk: Desk,
@@ -176,70 +57,64 @@ impl<K, V, E> Side<K, V, E> {
         Some(entry.value.clone())
     }
 
+    /// The first phase of a call at the slot of its key, whose entry has not expired.
     pub(crate) fn make(
         &mut self,
-        key: &Arc<K>,
+        call: &Call<'_, K, V>,
         slot: usize,
-        op: &Op<V>,
         old: u64,
+        renewal: &Renewal,
+        leavings: &mut Leavings<K, V, E>,
+    ) -> Result<First<K, V, E>, Stop> {
+        let brought = call.op.brought();
+        let brought = brought.map(|value| self.table.version(value.clone()));
+        let first = self.step(call, slot, old, brought, renewal, leavings);
+        self.table.release(slot, &mut leavings.keys[0]);
+        first
+    }
+
+    fn step(
+        &mut self,
+        call: &Call<'_, K, V>,
+        slot: usize,
+        old: u64,
+        brought: Option<Versioned<V>>,
+        renewal: &Renewal,
         leavings: &mut Leavings<K, V, E>,
     ) -> Result<First<K, V, E>, Stop> {
         let session = self.sessions.next();
-        let brought = op.brought().map(|value| self.table.version(value.clone()));
-        let bytes = bytes_of(brought.as_ref());
-        let old = old.to_le_bytes();
+        let (bytes, old) = (bytes_of(brought.as_ref()), old.to_le_bytes());
         let id = self.table.slot(slot).id.bytes();
-        let asked = self.desk.begin(session, op.numbered(&bytes, &old), &id);
-        let asked = asked.expect("the host keeps the core's rules");
-        let first = match asked {
+        let op = call.op.numbered(&bytes, &old);
+        let asked = self.desk.begin(session, op, &id).expect(RULES);
+        let (ticket, next): (_, fn(_) -> _) = match asked {
             Asked::Done(done) => {
                 let reply = reply_of(&self.table, slot, &done, None);
-                self.table
-                    .follow(slot, &done.moves, brought.as_ref(), leavings);
-                First::Done(reply.expect("a first phase has no fault"))
+                let table = &mut self.table;
+                table.follow(slot, &done.moves, brought.as_ref(), renewal, leavings);
+                return Ok(First::Done(reply.expect("a first phase has no fault")));
             }
-            Asked::Refused(refusal) => {
-                let blocked = self.refused(slot, refusal);
-                self.table.release(slot, &mut leavings.keys[0]);
-                return blocked.map(First::Busy);
-            }
+            Asked::Refused(refusal) => return self.refused(slot, refusal).map(First::Busy),
             Asked::Full => unreachable!("a full generation ends by itself"),
-            Asked::Joined(join) => self.joined(key, slot, session, join),
-            Asked::Load(Ticket(number)) => {
-                First::Load(self.reserve(key, slot, session, number, brought))
-            }
-            Asked::Write(Ticket(number), value) => {
+            Asked::Joined(join) => return Ok(self.joined(call, slot, session, join)),
+            Asked::Load(ticket) => (ticket, First::Load),
+            Asked::Write(ticket, value) => {
                 assert_eq!(value, bytes, "the core has another value");
-                First::Write(self.reserve(key, slot, session, number, brought))
+                (ticket, First::Write)
             }
-            Asked::Delete(Ticket(number)) => {
-                First::Delete(self.reserve(key, slot, session, number, brought))
-            }
-            Asked::Process {
-                ticket: Ticket(number),
-                entry,
-                may_load,
-            } => {
-                let held = self.table.slot(slot).entry.as_ref();
-                let known = held.map(Versioned::bytes);
-                assert_eq!(
-                    entry,
-                    known.as_ref().map(|it| &it[..]),
-                    "the core has another value"
-                );
-                First::Process {
-                    entry: held.map(|held| held.value.clone()),
-                    out: self.reserve(key, slot, session, number, brought),
-                    may_load,
-                }
+            Asked::Delete(ticket) => (ticket, First::Write),
+            #[rustfmt::skip]
+            Asked::Process { ticket, entry, may_load } => {
+                let entry = self.table.check(slot, entry);
+                let out = self.reserve(call, slot, session, ticket, None);
+                return Ok(First::Process(out, entry, may_load));
             }
         };
-        self.table.release(slot, &mut leavings.keys[0]);
-        Ok(first)
+        Ok(next(self.reserve(call, slot, session, ticket, brought)))
     }
 
-    fn refused(&mut self, slot: usize, refusal: Refusal) -> Result<Blocked<V, E>, Stop> {
-        match (refusal, &self.table.slot(slot).flight) {
+    fn refused(&self, slot: usize, refusal: Refusal) -> Result<Blocked<V, E>, Stop> {
+        match (refusal, self.table.flight(slot)) {
             (Refusal::HistoryFull, _) => Err(Stop::HistoryFull),
             (Refusal::Busy, Some(flight)) => Ok(Blocked::Key(flight.clone())),
             _ => Ok(Blocked::Room(self.changes)),
@@ -248,39 +123,39 @@ impl<K, V, E> Side<K, V, E> {
 
     fn joined(
         &mut self,
-        key: &Arc<K>,
+        call: &Call<'_, K, V>,
         slot: usize,
         session: u32,
         join: core::Join,
     ) -> First<K, V, E> {
-        let flight = self.table.slot(slot).flight.clone();
+        let flight = self.table.flight(slot).cloned();
         let flight = flight.expect("a load that is joined is under way");
         assert_eq!(flight.number, join.load, "the core names another load");
-        First::Joined(self.take_out(key, slot, session, flight, None), join)
+        First::Joined(self.take_out(call, slot, session, flight, None), join)
     }
 
     fn reserve(
         &mut self,
-        key: &Arc<K>,
+        call: &Call<'_, K, V>,
         slot: usize,
         session: u32,
-        number: u64,
+        ticket: Ticket,
         brought: Option<Versioned<V>>,
     ) -> Out<K, V, E> {
         let flight = Arc::new(Flight {
             owner: this_thread(),
-            number,
+            number: ticket.0,
             is_over: false.into(),
             found: OnceLock::new(),
             waiters: Waiters::default(),
         });
         self.table.slot(slot).flight = Some(flight.clone());
-        self.take_out(key, slot, session, flight, brought)
+        self.take_out(call, slot, session, flight, brought)
     }
 
     fn take_out(
         &mut self,
-        key: &Arc<K>,
+        call: &Call<'_, K, V>,
         slot: usize,
         session: u32,
         flight: Arc<Flight<V, E>>,
@@ -289,18 +164,63 @@ impl<K, V, E> Side<K, V, E> {
         self.sessions.take();
         self.table.slot(slot).pins += 1;
         Out {
-            key: key.clone(),
+            key: call.key.clone(),
             slot,
             session,
             flight,
             brought,
+            life: call.life,
         }
+    }
+
+    /// Uncaches an entry that has expired, as a step of its own. If that can't be done now: what it waits for.
+    #[cold]
+    pub(crate) fn expire(
+        &mut self,
+        slot: usize,
+        leavings: &mut Leavings<K, V, E>,
+    ) -> Result<Option<Blocked<V, E>>, Stop> {
+        let session = self.sessions.next();
+        let id = self.table.slot(slot).id.bytes();
+        let asked = self.desk.begin(session, core::Op::Clear, &id);
+        match asked.expect(RULES) {
+            Asked::Done(done) => {
+                let table = &mut self.table;
+                table.follow(slot, &done.moves, None, &Renewal::NONE, leavings);
+                table.release(slot, &mut leavings.keys[0]);
+                Ok(None)
+            }
+            Asked::Refused(refusal) => self.refused(slot, refusal).map(Some),
+            _ => unreachable!("a clear asks nobody"),
+        }
+    }
+
+    /// Uncaches what has expired in these slots, and says how many. What can't be uncached now is left.
+    pub(crate) fn expire_some(
+        &mut self,
+        slots: std::ops::Range<usize>,
+        now: Nanos,
+        leavings: &mut Vec<Leavings<K, V, E>>,
+    ) -> usize {
+        let mut count = 0;
+        for slot in slots {
+            if !self.table.slot(slot).has_expired(now) {
+                continue;
+            }
+            let mut left = Leavings::default();
+            if let Ok(None) = self.expire(slot, &mut left) {
+                count += 1;
+                leavings.push(left);
+            }
+        }
+        count
     }
 
     pub(crate) fn commit(
         &mut self,
         out: &Out<K, V, E>,
         answer: &Answer<V, E>,
+        renewal: &Renewal,
         leavings: &mut Leavings<K, V, E>,
     ) -> Result<Reply<V>, Fault> {
         let ticket = Ticket(out.flight.number);
@@ -318,31 +238,15 @@ impl<K, V, E> Side<K, V, E> {
                 done
             }
             Answer::Write(written) => desk.commit_write(ticket, *written),
-            Answer::Process {
-                load,
-                effect,
-                write,
-            } => {
-                let found = load.as_ref().map(|load| found_of(table, load));
-                let found_value = found.as_ref().and_then(|it| it.as_ref().ok()?.as_ref());
-                let set = match effect {
-                    Effect::Set(value) => Some(table.version(value.clone())),
-                    _ => None,
-                };
-                let (found_bytes, set_bytes) = (bytes_of(found_value), bytes_of(set.as_ref()));
-                let processed = core::Processed {
-                    load: found.as_ref().map(|found| numbered(found, &found_bytes)),
-                    effect: effect.numbered(&set_bytes),
-                    write: *write,
-                    outcome: None,
-                };
-                brought = set.or(found_value.cloned());
-                desk.commit_process(ticket, &processed)
+            Answer::Process { .. } => {
+                let (done, kept) = commit_process(desk, table, ticket, answer);
+                brought = kept;
+                done
             }
         };
-        let done = done.expect("the host keeps the core's rules");
+        let done = done.expect(RULES);
         let reply = reply_of(table, out.slot, &done, loaded.as_ref());
-        table.follow(out.slot, &done.moves, brought.as_ref(), leavings);
+        table.follow(out.slot, &done.moves, brought.as_ref(), renewal, leavings);
         reply
     }
 
@@ -411,6 +315,40 @@ impl<K, V, E> Side<K, V, E> {
     }
 }
 
+/// Commits what a processor did. The second: the value that it leaves, if it leaves a new one.
+#[allow(clippy::type_complexity)]
+fn commit_process<'d, K, V, E>(
+    desk: &'d mut Desk,
+    table: &mut Table<K, V, E>,
+    ticket: Ticket,
+    answer: &Answer<V, E>,
+) -> (Result<Done<'d>, core::Code>, Option<Versioned<V>>) {
+    let Answer::Process {
+        load,
+        effect,
+        write,
+        ..
+    } = answer
+    else {
+        unreachable!("a processor has answered");
+    };
+    let found = load.as_ref().map(|load| found_of(table, load));
+    let found_value = found.as_ref().and_then(|it| it.as_ref().ok()?.as_ref());
+    let set = match effect {
+        Effect::Set(value) => Some(table.version(value.clone())),
+        _ => None,
+    };
+    let (found_bytes, set_bytes) = (bytes_of(found_value), bytes_of(set.as_ref()));
+    let processed = core::Processed {
+        load: found.as_ref().map(|found| numbered(found, &found_bytes)),
+        effect: effect.numbered(&set_bytes),
+        write: *write,
+        outcome: None,
+    };
+    let brought = set.or(found_value.cloned());
+    (desk.commit_process(ticket, &processed), brought)
+}
+
 fn reply_of<K, V, E>(
     table: &Table<K, V, E>,
     slot: usize,
@@ -424,40 +362,5 @@ fn reply_of<K, V, E>(
         core::Reply::LoaderFailed(_) => Err(Fault::Loader),
         core::Reply::WriterFailed(_) => Err(Fault::Writer),
         core::Reply::ProcessorFailed(_) => Err(Fault::Processor),
-    }
-}
-
-fn found_of<K, V, E>(table: &mut Table<K, V, E>, load: &Loaded<V, E>) -> Found<V, E> {
-    match load {
-        Ok(Some(value)) => Ok(Some(table.version(value.clone()))),
-        Ok(None) => Ok(None),
-        Err(failure) => Err(failure.clone()),
-    }
-}
-
-/// The code that the core has for any failure: what failed is kept beside it.
-pub(crate) const FAILED: u32 = 1;
-
-/// What the core is told of a load, at numbers.
-fn numbered<'a, V, E>(found: &Found<V, E>, bytes: &'a [u8]) -> core::Loaded<'a> {
-    match found {
-        Ok(Some(_)) => core::Loaded::Found(bytes),
-        Ok(None) => core::Loaded::Nothing,
-        Err(_) => core::Loaded::Failed(FAILED),
-    }
-}
-
-fn bytes_of<V>(value: Option<&Versioned<V>>) -> [u8; 8] {
-    value.map_or([0; 8], Versioned::bytes)
-}
-
-impl<V> Effect<V> {
-    fn numbered<'a>(&self, set: &'a [u8]) -> core::Effect<'a> {
-        match self {
-            Effect::Keep => core::Effect::Keep,
-            Effect::Set(_) => core::Effect::Set(set),
-            Effect::Remove => core::Effect::Remove,
-            Effect::Failed => core::Effect::Failed(FAILED),
-        }
     }
 }

@@ -1,12 +1,20 @@
-//! One stripe: a desk and its table under a mutex, and the phases of calls. Nothing of the user's is called while the mutex is held.
+//! One stripe: a desk and its table under a mutex, the last phases of calls, and who waits. First phases are in `first`. Nothing of the
+//! user's is called while the mutex is held.
 use crate::core::{self, Shape, Statistics, Ticket};
-use crate::op::{Op, Reply};
-use crate::side::{Answer, Blocked, Fault, First, Out, Side, Stop};
-use crate::table::{Compared, Failure, Flight, Id, Leavings, NO_VERSION, Place};
-use crate::waiting::{self, Waiters};
+use crate::lives::{Asking, Lives, Nanos, Renewal};
+use crate::op::Reply;
+use crate::outside::in_call;
+use crate::side::Side;
+use crate::step::{Answer, Blocked, Fault, Out, Stop};
+use crate::table::{Failure, Flight, Leavings};
+use crate::waiting::{self, Seat, Waiters};
+use std::panic::{AssertUnwindSafe, catch_unwind, resume_unwind};
 use std::sync::atomic::Ordering::Relaxed;
 use std::sync::{Arc, Mutex, MutexGuard};
 use std::task::Waker;
+
+/// How many slots are swept at a time with the lock held.
+const SWEPT_AT_ONCE: usize = 64;
 
 /// What a joiner is told: None: the load isn't over. Some of None: it was withdrawn.
 type Picked<V, E> = Option<Option<Result<Reply<V>, Failure<E>>>>;
@@ -16,102 +24,25 @@ pub(crate) struct Stripe<K, V, E> {
     /// Those who wait for any commit, withdrawal or pick-up.
     room: Waiters,
     pub has_write_through: bool,
+    pub lives: Arc<Lives<K, V>>,
 }
 
 impl<K, V, E> Stripe<K, V, E> {
-    pub(crate) fn open(shape: &Shape) -> Result<Self, core::Code> {
+    pub(crate) fn open(shape: &Shape, lives: Arc<Lives<K, V>>) -> Result<Self, core::Code> {
         Ok(Stripe {
             side: Mutex::new(Side::open(shape)?),
             room: Waiters::default(),
             has_write_through: shape.write_through,
+            lives,
         })
     }
 
-    fn lock(&self) -> MutexGuard<'_, Side<K, V, E>> {
+    pub(crate) fn lock(&self) -> MutexGuard<'_, Side<K, V, E>> {
         self.side.lock().expect("a stripe's lock is poisoned")
     }
 
     fn reservation(&self, flight: &Flight<V, E>) -> waiting::Reservation {
         (std::ptr::from_ref(self).addr(), flight.number)
-    }
-
-    /// A `get` that finds its entry. None: nothing was done.
-    ///
-    /// The first key of this hash is nearly always the key, so that is tried before any list is made of what was compared.
-    pub(crate) fn hit(
-        &self,
-        hash: u64,
-        is_key: impl Fn(&K) -> bool,
-    ) -> Result<Option<Arc<V>>, Stop> {
-        let Some((id, key)) = self.first_of(hash)? else {
-            return Ok(None);
-        };
-        if is_key(&key) {
-            let mut guard = self.lock();
-            if !guard.is_closed && guard.table.is_in_use(id) {
-                return Ok(guard.hit(id.slot()));
-            }
-        }
-        self.hit_among(hash, is_key)
-    }
-
-    fn first_of(&self, hash: u64) -> Result<Option<(Id, Arc<K>)>, Stop> {
-        let guard = self.lock();
-        guard.check_open()?;
-        Ok(guard.table.first_of(hash))
-    }
-
-    /// The same, among several keys of one hash.
-    #[cold]
-    fn hit_among(&self, hash: u64, is_key: impl Fn(&K) -> bool) -> Result<Option<Arc<V>>, Stop> {
-        let mut compared = Compared::default();
-        loop {
-            let mut guard = self.lock();
-            let side = &mut *guard;
-            side.check_open()?;
-            match side.table.find(hash, &compared) {
-                Place::Nowhere => return Ok(None),
-                Place::At(slot) => return Ok(side.hit(slot)),
-                Place::Unknown(id, key) => {
-                    drop(guard);
-                    compared.note(id, is_key(&key));
-                }
-            }
-        }
-    }
-
-    /// The first phase of a call.
-    pub(crate) fn begin(&self, key: &Arc<K>, hash: u64, op: &Op<V>) -> Result<First<K, V, E>, Stop>
-    where
-        K: Eq,
-    {
-        let mut compared = Compared::default();
-        let mut matching = (NO_VERSION, false);
-        loop {
-            let mut leavings = Leavings::default();
-            let mut guard = self.lock();
-            let side = &mut *guard;
-            side.check_open()?;
-            let slot = match side.table.find(hash, &compared) {
-                Place::At(slot) => slot,
-                Place::Nowhere => side.table.add(key.clone(), hash),
-                Place::Unknown(id, other) => {
-                    drop(guard);
-                    compared.note(id, key == &other);
-                    continue;
-                }
-            };
-            if let (Some(old), Some(entry)) = (op.expected(), &side.table.slot(slot).entry)
-                && matching.0 != entry.version
-            {
-                let entry = entry.clone();
-                drop(guard);
-                matching = (entry.version, old.is_equal(&entry.value));
-                continue;
-            }
-            let old = if matching.1 { matching.0 } else { NO_VERSION };
-            return side.make(key, slot, op, old, &mut leavings);
-        }
     }
 
     /// The last phase of a call that has asked.
@@ -120,12 +51,49 @@ impl<K, V, E> Stripe<K, V, E> {
         out: &Out<K, V, E>,
         answer: &Answer<V, E>,
     ) -> Result<Reply<V>, Fault> {
+        let renewal = catch_unwind(AssertUnwindSafe(|| self.renewal(out, answer)));
         let mut leavings = Leavings::default();
         let mut guard = self.lock();
         let side = &mut *guard;
-        let reply = side.commit(out, answer, &mut leavings);
+        let counts = renewal.as_ref().unwrap_or(&Renewal::NONE);
+        let reply = side.commit(out, answer, counts, &mut leavings);
         self.end(side, out, &mut leavings);
-        reply
+        drop(guard);
+        // The store was asked, so the call takes effect first.
+        match renewal {
+            Ok(_) => reply,
+            Err(panic) => resume_unwind(panic),
+        }
+    }
+
+    /// What becomes of the life of an entry by a call that has asked.
+    fn renewal(&self, out: &Out<K, V, E>, answer: &Answer<V, E>) -> Renewal {
+        let lives = &self.lives;
+        if !lives.is_on() {
+            return Renewal::NONE;
+        }
+        let now = lives.now();
+        let mut guard = self.lock();
+        let slot = guard.table.slot(out.slot);
+        // While the call had it reserved, it may have expired.
+        let entry = slot.entry.as_ref().filter(|_| !slot.has_expired(now));
+        let left = slot.life.left(now);
+        let question = answer.question(out, entry);
+        drop(guard);
+        let given = answer.life(out);
+        let Some((question, value)) = question else {
+            return Renewal::NONE;
+        };
+        if !lives.asks(question, given) {
+            return lives.renewal(Some(question), given, None, now);
+        }
+        let asking = Asking {
+            question,
+            value,
+            left,
+        };
+        let said = in_call(|| lives.ask(&out.key, &asking));
+        lives.renewal(Some(question), given, Some(said), lives.now())
     }
 
     /// Gives up a call that has asked nobody.
@@ -149,19 +117,20 @@ impl<K, V, E> Stripe<K, V, E> {
         self.room.wake(&mut leavings.wakers);
     }
 
-    /// Picks up what was joined, if the load is over: a reply, or None to begin anew.
+    /// Picks up what was joined, if the load is over: a reply, or None to begin anew. If it isn't, the waker is kept.
     pub(crate) fn pick_up(
         &self,
         out: &Out<K, V, E>,
         join: core::Join,
-        waker: Option<Waker>,
+        seat: &mut Seat,
+        waker: Waker,
     ) -> Picked<V, E> {
         let mut leavings = Leavings::default();
         let mut _spare = None;
         let mut guard = self.lock();
         let picked = guard.pick_up(out, join);
         match &picked {
-            None => _spare = waker.and_then(|waker| out.flight.waiters.keep(waker)),
+            None => _spare = out.flight.waiters.keep(seat, waker),
             Some(_) => self.end_join(&mut guard, out, &mut leavings),
         }
         picked
@@ -211,8 +180,9 @@ impl<K, V, E> Stripe<K, V, E> {
     }
 
     /// Nobody waits for this join any more.
-    pub(crate) fn abandon(&self, out: &Out<K, V, E>, join: core::Join) {
+    pub(crate) fn abandon(&self, out: &Out<K, V, E>, join: core::Join, seat: Seat) {
         let mut leavings = Leavings::default();
+        let _spare = out.flight.waiters.forget(seat);
         let mut guard = self.lock();
         if guard.pick_up(out, join).is_some() {
             self.end_join(&mut guard, out, &mut leavings);
@@ -246,25 +216,67 @@ impl<K, V, E> Stripe<K, V, E> {
     }
 
     /// Whether it may be tried again what was refused; if not, the waker is kept.
-    pub(crate) fn poll(&self, blocked: &Blocked<V, E>, waker: Waker) -> bool {
+    pub(crate) fn poll(&self, blocked: &Blocked<V, E>, seat: &mut Seat, waker: Waker) -> bool {
         let mut _spare = None;
         let guard = self.lock();
         if !guard.is_blocked(blocked) {
             return true;
         }
-        _spare = match blocked {
-            Blocked::Key(flight) => flight.waiters.keep(waker),
-            Blocked::Room(_) => self.room.keep(waker),
-        };
+        _spare = self.waiters(blocked).keep(seat, waker);
         false
     }
 
-    /// The keys that are cached.
-    pub(crate) fn keys(&self) -> Result<Vec<Arc<K>>, Stop> {
+    /// Nobody waits any more to try it again.
+    pub(crate) fn forget(&self, blocked: &Blocked<V, E>, seat: Seat) {
+        drop(self.waiters(blocked).forget(seat));
+    }
+
+    fn waiters<'w>(&'w self, blocked: &'w Blocked<V, E>) -> &'w Waiters {
+        match blocked {
+            Blocked::Key(flight) => &flight.waiters,
+            Blocked::Room(_) => &self.room,
+        }
+    }
+
+    /// The keys that are cached, but for those whose entry has expired by then.
+    pub(crate) fn keys(&self, now: Nanos) -> Result<Vec<Arc<K>>, Stop> {
         let guard = self.lock();
         guard.check_open()?;
-        let slots = guard.table.slots().filter(|slot| slot.entry.is_some());
+        let slots = guard.table.slots();
+        let slots = slots.filter(|slot| slot.entry.is_some() && !slot.has_expired(now));
         Ok(slots.map(|slot| slot.key().clone()).collect())
+    }
+
+    pub(crate) fn len(&self, now: Nanos) -> Result<usize, Stop> {
+        let guard = self.lock();
+        guard.check_open()?;
+        let slots = guard.table.slots();
+        let cached = slots.filter(|slot| slot.entry.is_some() && !slot.has_expired(now));
+        Ok(cached.count())
+    }
+
+    /// Uncaches what has expired, and says how many.
+    pub(crate) fn expire(&self, now: Nanos) -> usize {
+        let mut count = 0;
+        let mut next = 0;
+        loop {
+            let mut leavings = Vec::new();
+            let mut guard = self.lock();
+            let end = guard.table.len().min(next + SWEPT_AT_ONCE);
+            if next >= end || guard.is_closed {
+                return count;
+            }
+            count += guard.expire_some(next..end, now, &mut leavings);
+            next = end;
+        }
+    }
+
+    /// How many threads sleep in calls here.
+    pub(crate) fn waiting(&self) -> usize {
+        let guard = self.lock();
+        let flights = guard.table.slots().filter_map(|slot| slot.flight.as_ref());
+        let asleep: usize = flights.map(|flight| flight.waiters.sleepers()).sum();
+        asleep + self.room.sleepers()
     }
 
     pub(crate) fn statistics(&self) -> Result<Statistics, Stop> {

@@ -4,6 +4,7 @@
 //! given twice. A key has a slot while it is cached, reserved or joined. Which value comes and goes is what the core's moves say, and
 //! nothing else. Keys are compared, and what is dropped is dropped, by the caller, with no lock held.
 use crate::core::{Join, Moves, Reply as Told};
+use crate::lives::{Life, Nanos, Renewal};
 use crate::waiting::Waiters;
 use std::collections::HashMap;
 use std::hash::{BuildHasherDefault, Hasher};
@@ -73,6 +74,8 @@ impl<V> Versioned<V> {
 pub(crate) enum Failure<E> {
     Error(Arc<E>),
     Panicked,
+    /// The call was dropped after it had asked: nobody knows what the loader answered. Those who have joined it begin anew.
+    Cancelled,
     /// The value is too long for the core.
     Limits,
 }
@@ -82,6 +85,7 @@ impl<E> Clone for Failure<E> {
         match self {
             Failure::Error(error) => Failure::Error(error.clone()),
             Failure::Panicked => Failure::Panicked,
+            Failure::Cancelled => Failure::Cancelled,
             Failure::Limits => Failure::Limits,
         }
     }
@@ -110,6 +114,8 @@ pub(crate) struct Slot<K, V, E> {
     /// None: the slot is free.
     key: Option<Arc<K>>,
     pub entry: Option<Versioned<V>>,
+    /// Of the entry, if there is one.
+    pub life: Life,
     /// How many calls have reserved the key or have joined its load.
     pub pins: usize,
     pub flight: Option<Arc<Flight<V, E>>>,
@@ -214,6 +220,19 @@ impl<K, V, E> Table<K, V, E> {
         &mut self.slots[slot]
     }
 
+    pub(crate) fn at(&self, slot: usize) -> &Slot<K, V, E> {
+        &self.slots[slot]
+    }
+
+    pub(crate) fn flight(&self, slot: usize) -> Option<&Arc<Flight<V, E>>> {
+        self.slots[slot].flight.as_ref()
+    }
+
+    /// How many slots there are, free ones and others.
+    pub(crate) fn len(&self) -> usize {
+        self.slots.len()
+    }
+
     pub(crate) fn slots(&self) -> impl Iterator<Item = &Slot<K, V, E>> {
         self.slots.iter().filter(|slot| slot.key.is_some())
     }
@@ -242,9 +261,7 @@ impl<K, V, E> Table<K, V, E> {
     }
 
     pub(crate) fn find(&self, hash: u64, compared: &Compared) -> Place<K> {
-        if let Some(id) = compared.same
-            && self.is_in_use(id)
-        {
+        if let Some(id) = compared.same.filter(|id| self.is_in_use(*id)) {
             return Place::At(id.slot());
         }
         let mut at = self.first.get(&hash).copied().unwrap_or(NO_SLOT);
@@ -284,6 +301,7 @@ impl<K, V, E> Table<K, V, E> {
             next: NO_SLOT,
             key: None,
             entry: None,
+            life: Life::ENDLESS,
             pins: 0,
             flight: None,
             abandoned: Vec::new(),
@@ -321,12 +339,14 @@ impl<K, V, E> Table<K, V, E> {
         self.slots[before as usize].next = next;
     }
 
-    /// Does what the core says came and went with a step of the slot's key, which brought this value.
+    /// Does what the core says came and went with a step of the slot's key, which brought this value; and the entry lives as the step
+    /// says.
     pub(crate) fn follow(
         &mut self,
         at: usize,
         moves: &Moves<'_>,
         brought: Option<&Versioned<V>>,
+        renewal: &Renewal,
         leavings: &mut Leavings<K, V, E>,
     ) {
         if let Some((key, value)) = moves.victim {
@@ -341,6 +361,7 @@ impl<K, V, E> Table<K, V, E> {
         if moves.is_kept {
             self.slots[at].entry = brought.cloned();
         }
+        renewal.renew(&mut self.slots[at].life, moves.is_kept);
     }
 
     fn take(&mut self, at: usize, value: &[u8]) -> Option<Versioned<V>> {
@@ -352,6 +373,14 @@ impl<K, V, E> Table<K, V, E> {
             "the core has another value"
         );
         entry
+    }
+
+    /// The slot's value, which the core has, too.
+    pub(crate) fn check(&self, at: usize, known: Option<&[u8]>) -> Option<Arc<V>> {
+        let entry = self.slots[at].entry.as_ref();
+        let version = entry.map(|entry| entry.version);
+        assert_eq!(version, known.map(number_of), "the core has another value");
+        entry.map(|entry| entry.value.clone())
     }
 
     /// What the core's reply stands for: the value is the slot's, before the step, or the loaded one.
@@ -372,6 +401,10 @@ impl<K, V, E> Table<K, V, E> {
 }
 
 impl<K, V, E> Slot<K, V, E> {
+    pub(crate) fn has_expired(&self, now: Nanos) -> bool {
+        self.entry.is_some() && self.life.is_over(now)
+    }
+
     pub(crate) fn key(&self) -> &Arc<K> {
         self.key.as_ref().expect("a slot in use has a key")
     }

@@ -1,7 +1,7 @@
 //! Calls of many keys.
 mod common;
-use common::{Broken, Mode, Store, cache_of, text};
 use cadwrelch::{Cache, Error, Loader, Op, Unwritten, Writer};
+use common::{Broken, Mode, Store, cache_of, text};
 use std::collections::HashMap;
 use std::sync::atomic::{AtomicUsize, Ordering::SeqCst};
 use std::sync::{Arc, Mutex};

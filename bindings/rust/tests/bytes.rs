@@ -4,8 +4,7 @@ use std::collections::HashMap;
 use std::panic::{AssertUnwindSafe, catch_unwind};
 use std::sync::atomic::{AtomicUsize, Ordering::SeqCst};
 use std::sync::{Arc, Barrier, Mutex, OnceLock, Weak};
-use std::thread::{scope, sleep};
-use std::time::Duration;
+use std::thread::{scope, yield_now};
 
 #[derive(Default)]
 struct Held(Mutex<HashMap<Vec<u8>, Vec<u8>>>);
@@ -162,7 +161,9 @@ fn joined_calls_make_one_load() {
         let others: Vec<_> = (0..4)
             .map(|_| threads.spawn(|| cache.get(b"key")))
             .collect();
-        sleep(Duration::from_millis(50));
+        while cache.waiting() < 4 {
+            yield_now();
+        }
         gate.wait();
         for call in others.into_iter().chain([first]) {
             let reply = call.join().unwrap();

@@ -1,6 +1,6 @@
 //! The events of a generation.
 use super::{Cause, Code, Effect, Loaded, Op, Reply, Shape, Written};
-use super::{checked, raw, raw_entries, raw_shape};
+use super::{check_version, checked, raw, raw_entries, raw_shape};
 use std::fmt;
 
 /// An event of a stripe's history: a step of a call, or an eviction.
@@ -112,8 +112,13 @@ impl fmt::Debug for Event {
 
 /// Whether these events are a legal history of one stripe of a cache of this shape that began with these entries.
 ///
-/// It takes time and memory as long as the history. `BadArgument`: an entry is none.
+/// It takes time and memory as long as the history.
+///
+/// # Errors
+/// [`Code::BadArgument`]: an entry is none. [`Code::NoMemory`]. [`Code::WrongVersion`]: the library that was linked is of another
+/// version.
 pub fn legal(shape: &Shape, opening: &[(&[u8], &[u8])], events: &[Event]) -> Result<bool, Code> {
+    check_version()?;
     let shape = raw_shape(shape);
     let opening = raw_entries(opening);
     let mut is_legal = false;

@@ -4,6 +4,7 @@ use std::fmt;
 
 /// Why nothing was done.
 #[derive(Clone, Copy, Debug, PartialEq, Eq)]
+#[non_exhaustive]
 pub enum Code {
     /// The desk isn't open; or it is to be opened, and is open already.
     WrongHandle,
@@ -15,6 +16,8 @@ pub enum Code {
     Misuse,
     /// A ticket or a join is out, or an answer is parked.
     InUse,
+    /// The library that was linked is of another version than this crate is written for: see [`VERSION`](super::VERSION).
+    WrongVersion,
 }
 
 impl fmt::Display for Code {
@@ -25,6 +28,7 @@ impl fmt::Display for Code {
             Code::BadArgument => "a key, a value or a shape is out of its limits",
             Code::Misuse => "no such ticket or join is out, or the answer does not fit it",
             Code::InUse => "a ticket or a join is out, or an answer is parked",
+            Code::WrongVersion => "the core that was linked is of another version",
         })
     }
 }
@@ -48,23 +52,35 @@ pub struct Shape {
     pub keeps_events: bool,
 }
 
-/// An operation at one key.
+/// An operation at one key, as JCache has it.
 #[derive(Clone, Copy, Debug)]
-#[allow(missing_docs)]
 pub enum Op<'a> {
+    /// The value; with read-through the loader is asked if there is none.
     Get,
+    /// Whether the key has an entry.
     ContainsKey,
+    /// This value.
     Put(&'a [u8]),
+    /// This value; the old one is answered.
     GetAndPut(&'a [u8]),
+    /// This value, if there is none.
     PutIfAbsent(&'a [u8]),
+    /// No entry any more.
     Remove,
+    /// No entry any more, if it has this value.
     RemoveIf(&'a [u8]),
+    /// No entry any more; the old value is answered.
     GetAndRemove,
+    /// This value, if there is one.
     Replace(&'a [u8]),
+    /// Another value, if there is this one.
     ReplaceIf {
+        /// The value that there is to be.
         old: &'a [u8],
+        /// The value that comes.
         new: &'a [u8],
     },
+    /// This value, if there is one; the old one is answered.
     GetAndReplace(&'a [u8]),
     /// One key of `clear`: no writer is asked.
     Clear,
@@ -72,51 +88,52 @@ pub enum Op<'a> {
     Load,
     /// One key of `loadAll`, in any case.
     Reload,
+    /// An entry processor.
     Invoke,
 }
 
 impl<'a> Op<'a> {
     pub(super) fn of(op: u32, value: &'a raw::Value, other: &'a raw::Value) -> Op<'a> {
         match op {
-            0 => Op::Get,
-            1 => Op::ContainsKey,
-            2 => Op::Put(value.get()),
-            3 => Op::GetAndPut(value.get()),
-            4 => Op::PutIfAbsent(value.get()),
-            5 => Op::Remove,
-            6 => Op::RemoveIf(value.get()),
-            7 => Op::GetAndRemove,
-            8 => Op::Replace(value.get()),
-            9 => Op::ReplaceIf {
+            raw::GET => Op::Get,
+            raw::CONTAINS_KEY => Op::ContainsKey,
+            raw::PUT => Op::Put(value.get()),
+            raw::GET_AND_PUT => Op::GetAndPut(value.get()),
+            raw::PUT_IF_ABSENT => Op::PutIfAbsent(value.get()),
+            raw::REMOVE => Op::Remove,
+            raw::REMOVE_IF => Op::RemoveIf(value.get()),
+            raw::GET_AND_REMOVE => Op::GetAndRemove,
+            raw::REPLACE => Op::Replace(value.get()),
+            raw::REPLACE_IF => Op::ReplaceIf {
                 old: value.get(),
                 new: other.get(),
             },
-            10 => Op::GetAndReplace(value.get()),
-            11 => Op::Clear,
-            12 => Op::Load,
-            13 => Op::Reload,
-            14 => Op::Invoke,
+            raw::GET_AND_REPLACE => Op::GetAndReplace(value.get()),
+            raw::CLEAR_KEY => Op::Clear,
+            raw::LOAD => Op::Load,
+            raw::RELOAD => Op::Reload,
+            raw::INVOKE => Op::Invoke,
             op => unreachable!("the core answered operation {op}"),
         }
     }
 
     pub(super) fn parts(self) -> (u32, &'a [u8], &'a [u8]) {
         match self {
-            Op::Get => (0, b"", b""),
-            Op::ContainsKey => (1, b"", b""),
-            Op::Put(value) => (2, value, b""),
-            Op::GetAndPut(value) => (3, value, b""),
-            Op::PutIfAbsent(value) => (4, value, b""),
-            Op::Remove => (5, b"", b""),
-            Op::RemoveIf(old) => (6, old, b""),
-            Op::GetAndRemove => (7, b"", b""),
-            Op::Replace(value) => (8, value, b""),
-            Op::ReplaceIf { old, new } => (9, old, new),
-            Op::GetAndReplace(value) => (10, value, b""),
-            Op::Clear => (11, b"", b""),
-            Op::Load => (12, b"", b""),
-            Op::Reload => (13, b"", b""),
-            Op::Invoke => (14, b"", b""),
+            Op::Get => (raw::GET, b"", b""),
+            Op::ContainsKey => (raw::CONTAINS_KEY, b"", b""),
+            Op::Put(value) => (raw::PUT, value, b""),
+            Op::GetAndPut(value) => (raw::GET_AND_PUT, value, b""),
+            Op::PutIfAbsent(value) => (raw::PUT_IF_ABSENT, value, b""),
+            Op::Remove => (raw::REMOVE, b"", b""),
+            Op::RemoveIf(old) => (raw::REMOVE_IF, old, b""),
+            Op::GetAndRemove => (raw::GET_AND_REMOVE, b"", b""),
+            Op::Replace(value) => (raw::REPLACE, value, b""),
+            Op::ReplaceIf { old, new } => (raw::REPLACE_IF, old, new),
+            Op::GetAndReplace(value) => (raw::GET_AND_REPLACE, value, b""),
+            Op::Clear => (raw::CLEAR_KEY, b"", b""),
+            Op::Load => (raw::LOAD, b"", b""),
+            Op::Reload => (raw::RELOAD, b"", b""),
+            Op::Invoke => (raw::INVOKE, b"", b""),
         }
     }
 }
@@ -170,14 +187,14 @@ impl<'d> Reply<'d> {
     #[inline]
     pub(super) fn of(reply: u32, code: u32, value: &'d raw::Value) -> Reply<'d> {
         match reply {
-            0 => Reply::Unit,
-            1 => Reply::Flag(false),
-            2 => Reply::Flag(true),
-            3 => Reply::Value(None),
-            4 => Reply::Value(Some(value.get())),
-            5 => Reply::LoaderFailed(code),
-            6 => Reply::WriterFailed(code),
-            7 => Reply::ProcessorFailed(code),
+            raw::UNIT => Reply::Unit,
+            raw::NO => Reply::Flag(false),
+            raw::YES => Reply::Flag(true),
+            raw::NULL => Reply::Value(None),
+            raw::VALUE => Reply::Value(Some(value.get())),
+            raw::LOADER_FAILED => Reply::LoaderFailed(code),
+            raw::WRITER_FAILED => Reply::WriterFailed(code),
+            raw::PROCESSOR_FAILED => Reply::ProcessorFailed(code),
             reply => unreachable!("the core answered reply {reply}"),
         }
     }
@@ -313,14 +330,18 @@ pub struct Processed<'a> {
     pub outcome: Option<&'a [u8]>,
 }
 
-/// What all events since the opening count.
+/// What all events since the opening count, as JCache's statistics do.
 #[derive(Clone, Copy, Debug, Default, PartialEq, Eq)]
-#[allow(missing_docs)]
 pub struct Statistics {
+    /// Calls that found their entry.
     pub hits: u64,
+    /// Calls that didn't.
     pub misses: u64,
+    /// Values that were put.
     pub puts: u64,
+    /// Entries that were removed. One that expires isn't counted.
     pub removals: u64,
+    /// Entries that were evicted, since their stripe was full or an allocation failed.
     pub evictions: u64,
 }
 

@@ -1,5 +1,7 @@
 //! A store in memory that counts its calls, and fails or panics when it is told to.
 #![allow(dead_code)]
+pub mod timed;
+
 use cadwrelch::{Cache, Loader, Shared, Writer};
 use std::collections::HashMap;
 use std::fmt;
