@@ -101,7 +101,7 @@ final class ByteDesk extends KeyedDesk {
     }
 
     @Override
-    List<Object> keys() {
+    List<Object> keys(boolean withAbsent) {
         return desk.keys().stream().map(copier::keyOf).collect(Collectors.toList());
     }
 

@@ -44,9 +44,13 @@ final class Counts {
         return call < FIRST_CALLS || call % CALLS_A_TIMED_ONE == 0 ? System.nanoTime() | 1 : 0;
     }
 
-    /** A get has found its entry; when it began, if it was timed, else 0. */
-    void hit(long began) {
-        hits++;
+    /** A get has found its entry, or that there is none; when it began, if it was timed, else 0. */
+    void hit(long began, boolean isThere) {
+        if (isThere) {
+            hits++;
+        } else {
+            misses++;
+        }
         if (began != 0) {
             gets.add(System.nanoTime() - began);
         }

@@ -51,8 +51,8 @@ abstract class KeyedDesk {
     /** A step was made, and its reply is noted: notes what it left. */
     abstract void noteStep(Call call, int result);
 
-    /** The keys that are cached. */
-    abstract List<Object> keys();
+    /** The keys that are cached, with those that are known to be absent, or without. */
+    abstract List<Object> keys(boolean withAbsent);
 
     /**
      * For tests, while no call is under way: whether what is here is what the core has. How many entries there are.

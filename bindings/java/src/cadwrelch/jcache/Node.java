@@ -6,6 +6,9 @@ package cadwrelch.jcache;
  * joined. The lock of its stripe guards all that changes.
  */
 final class Node {
+    /** What is cached at a key of which it is known that the loader finds nothing. The core takes it for a value. */
+    static final Object ABSENT = new Object();
+
     /** The key: a copy, if the cache keeps copies. */
     final Object key;
     /** The spread hash of the key. */
@@ -19,8 +22,10 @@ final class Node {
     Object stored;
     /** The number by which the core knows what is cached: never given twice by a stripe; 0 if nothing is cached. */
     long version;
-    /** When the entry expires, by {@link System#nanoTime}, if {@link #expires}. */
+    /** When the entry expires, by the cache's clock, if {@link #expires}. */
     long deadline;
+    /** When it is to be loaded again, in a cache that does so. */
+    long staleAt;
     /** The call that has reserved the key, or null. */
     Call owner;
     /** How many calls have reserved the key or have joined its load. */
@@ -44,6 +49,10 @@ final class Node {
 
     boolean isCached() {
         return version != 0;
+    }
+
+    boolean isAbsent() {
+        return stored == ABSENT;
     }
 
     /** Whether nobody needs the node. */

@@ -143,11 +143,11 @@ final class NodeTable {
         }
     }
 
-    /** The keys that are cached. */
-    List<Object> cachedKeys() {
+    /** The keys that are cached, with those that are known to be absent, or without. */
+    List<Object> cachedKeys(boolean withAbsent) {
         List<Object> keys = new ArrayList<>(size());
         forEach(node -> {
-            if (node.isCached()) {
+            if (node.isCached() && (withAbsent || !node.isAbsent())) {
                 keys.add(node.key);
             }
         });

@@ -133,8 +133,8 @@ final class ObjectDesk extends KeyedDesk {
     }
 
     @Override
-    List<Object> keys() {
-        return nodes().cachedKeys();
+    List<Object> keys(boolean withAbsent) {
+        return nodes().cachedKeys(withAbsent);
     }
 
     @Override

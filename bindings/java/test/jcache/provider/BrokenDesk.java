@@ -46,7 +46,7 @@ final class BrokenDesk extends KeyedDesk {
     void noteStep(Call call, int result) {}
 
     @Override
-    List<Object> keys() {
+    List<Object> keys(boolean withAbsent) {
         return List.of();
     }
 
