@@ -114,6 +114,15 @@ final class CacheContext<K, V> {
         }
     }
 
+    /** Copies a key that is to be kept. */
+    void copyKey(KeyLookup sought) {
+        try {
+            sought.copy(copier);
+        } catch (CacheException e) {
+            throw Faults.ofCopy(e, Texts.at(cache.getName(), sought.key));
+        }
+    }
+
     /** What is handed out of a value that is kept. */
     @SuppressWarnings("unchecked")
     V valueOut(Object stored) {

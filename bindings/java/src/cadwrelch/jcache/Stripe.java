@@ -171,7 +171,7 @@ final class Stripe {
             lock.unlock();
             try {
                 if (node == null) {
-                    sought.copy(context.copier);
+                    context.copyKey(sought);
                 } else {
                     call.compare(context.copier, cached, version);
                 }

@@ -30,6 +30,8 @@ final class Store<K, V> implements CacheLoader<K, V>, CacheWriter<K, V>, Closeab
     volatile Throwable fault;
     /** The keys that a writer of many keys leaves, and then throws. */
     volatile Set<K> refused = Set.of();
+    /** Whether {@code loadAll} answers null, as no loader should. */
+    volatile boolean answersNull;
     volatile boolean closed;
     /** The keys of the last call of many keys, in its order. */
     volatile List<Object> lastBatch = List.of();
@@ -107,7 +109,7 @@ final class Store<K, V> implements CacheLoader<K, V>, CacheWriter<K, V>, Closeab
         lastBatch = batch;
         Map<K, V> found = new HashMap<>();
         keys.forEach(key -> found.put(key, map.get(key)));
-        return found;
+        return answersNull ? null : found;
     }
 
     @Override
