@@ -4,6 +4,7 @@ import java.util.ArrayList;
 import java.util.List;
 import java.util.concurrent.locks.Condition;
 import java.util.concurrent.locks.Lock;
+import java.util.function.BooleanSupplier;
 
 /**
  * One call at one key, from its first phase to its end. One thread has it. Under the lock of its stripe others read who
@@ -198,12 +199,23 @@ final class Call {
 
     // With the lock of the stripe held.
 
-    /** Sleeps until the call is over, or for no reason. */
-    void sleep(Lock lock) {
-        if (waiters == null) {
-            waiters = lock.newCondition();
+    /**
+     * Sleeps until this call is over, or that is of no use any more, for a call of this thread.
+     *
+     * @throws WouldWait if this call's thread waits for this one, or is it
+     */
+    void awaitEnd(Lock lock, Call own, BooleanSupplier isUseless) {
+        Waits.enter(this, own);
+        try {
+            while (!isOver && !isUseless.getAsBoolean()) {
+                if (waiters == null) {
+                    waiters = lock.newCondition();
+                }
+                waiters.awaitUninterruptibly();
+            }
+        } finally {
+            Waits.leave();
         }
-        waiters.awaitUninterruptibly();
     }
 
     /** Wakes those who wait for the call. */

@@ -14,6 +14,7 @@ final class Counts {
     long puts;
     long removals;
     long evictions;
+    long expirations;
     final Timer gets = new Timer();
     final Timer putTimes = new Timer();
     final Timer removeTimes = new Timer();
@@ -151,6 +152,7 @@ final class Counts {
         puts = 0;
         removals = 0;
         evictions = 0;
+        expirations = 0;
         gets.clear();
         putTimes.clear();
         removeTimes.clear();

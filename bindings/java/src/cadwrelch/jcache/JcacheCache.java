@@ -412,6 +412,10 @@ final class JcacheCache<K, V> implements Cache<K, V> {
         context.hasStatistics = isOn;
     }
 
+    LoaderCounts loaderCounts() {
+        return context.outside.loaderCounts;
+    }
+
     /** The stripes: what statistics and tests read. */
     Stripe[] stripes() {
         return context.stripes();

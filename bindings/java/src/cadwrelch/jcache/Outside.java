@@ -29,6 +29,7 @@ final class Outside<K, V> {
     private final boolean writesThrough;
     private final CacheContext<K, V> context;
     private final boolean keepsAbsent;
+    final LoaderCounts loaderCounts = new LoaderCounts();
 
     /**
      * What a configuration names. A writer of super types is given keys and values of the cache's types, which it only
@@ -92,7 +93,7 @@ final class Outside<K, V> {
     void load(Call call) {
         try {
             K key = key(call);
-            call.setLoaded(kept(call, ask(() -> loader.load(key))), null);
+            call.setLoaded(kept(call, askLoader(() -> loader.load(key))), null);
         } catch (Throwable e) {
             call.setLoaded(null, e);
         }
@@ -117,6 +118,10 @@ final class Outside<K, V> {
         }
     }
 
+    private <T> T askLoader(Callable<T> question) throws Exception {
+        return ask(context.hasStatistics ? () -> loaderCounts.count(question) : question);
+    }
+
     /** What is kept of what the loader has found; null: nothing is. */
     private Object kept(Call call, V found) {
         return found == null && keepsAbsent && call.op == Native.GET ? Node.ABSENT
@@ -130,7 +135,7 @@ final class Outside<K, V> {
         try {
             Set<K> keys = new LinkedHashSet<>();
             calls.forEach(call -> keys.add(key(call)));
-            Map<K, V> found = ask(() -> loader.loadAll(keys));
+            Map<K, V> found = askLoader(() -> loader.loadAll(keys));
             if (found == null) {
                 throw new CacheLoaderException("loadAll of the loader " + loader.getClass().getName()
                         + " has answered null: it has to be a map, which may be empty"

@@ -1,7 +1,6 @@
 package cadwrelch.jcache;
 
 import java.util.List;
-import java.util.concurrent.locks.Condition;
 import java.util.concurrent.locks.ReentrantLock;
 import java.util.function.ToLongFunction;
 import javax.cache.event.EventType;
@@ -19,11 +18,8 @@ final class Stripe {
     private final KeyedDesk desk;
     private final Recorder recorder;
     private final EventQueue<?, ?> events;
-    /** Those who wait for any commit, withdrawal or pick-up; null until somebody does. */
-    private Condition room;
-    private int waitingForRoom;
-    /** How many of these there were. */
-    private long departures;
+    /** Those who wait for any commit, withdrawal or pick-up. */
+    private final WaitingRoom room = new WaitingRoom(lock);
     private boolean isClosed;
 
     /** The stripe of an index, whose events the recorder keeps, if it isn't null. */
@@ -134,7 +130,7 @@ final class Stripe {
             if (call.next == Native.DONE) {
                 stepped(call);
             }
-            call.departuresSeen = departures;
+            room.note(call);
             return call.next != Native.REFUSED;
         } finally {
             desk.nodes().dropUnused(node);
@@ -272,17 +268,10 @@ final class Stripe {
 
     private void awaitLoad(Call call) {
         try {
-            Waits.enter(call.joined, call);
-        } catch (IllegalStateException e) {
+            call.joined.awaitEnd(lock, call, () -> false);
+        } catch (WouldWait e) {
             call.joined.abandon(call);
             throw e;
-        }
-        try {
-            while (!call.joined.isOver()) {
-                call.joined.sleep(lock);
-            }
-        } finally {
-            Waits.leave();
         }
     }
 
@@ -303,10 +292,7 @@ final class Stripe {
 
     /** A call has left: there is room, and perhaps nobody is left. */
     private void left() {
-        departures++;
-        if (waitingForRoom > 0) {
-            room.signalAll();
-        }
+        room.wake();
         if (isClosed) {
             desk.freeIfIdle();
         }
@@ -317,34 +303,9 @@ final class Stripe {
     /** Sleeps until it may be tried again what was refused. */
     private void await(Call call) {
         if (call.blocker == null) {
-            awaitRoom(call);
-            return;
-        }
-        Waits.enter(call.blocker, call);
-        try {
-            while (!call.blocker.isOver() && !isClosed) {
-                call.blocker.sleep(lock);
-            }
-        } finally {
-            Waits.leave();
-        }
-    }
-
-    private void awaitRoom(Call call) {
-        if (Outside.isAsked()) {
-            throw new WouldWait("a loader, writer or processor calls the cache at a key of a stripe without room: 64"
-                    + " keys of it are reserved, or as many calls are under way as its history has room for", call);
-        }
-        if (room == null) {
-            room = lock.newCondition();
-        }
-        waitingForRoom++;
-        try {
-            while (departures == call.departuresSeen && !isClosed) {
-                room.awaitUninterruptibly();
-            }
-        } finally {
-            waitingForRoom--;
+            room.await(call);
+        } else {
+            call.blocker.awaitEnd(lock, call, () -> isClosed);
         }
     }
 
@@ -435,8 +396,11 @@ final class Stripe {
         if (!desk.clear(node)) {
             return false;
         }
-        if (isTold && before != Node.ABSENT && context.hasListeners()) {
-            events.add(EventType.EXPIRED, node.key, before, before);
+        if (isTold && before != Node.ABSENT) {
+            counts.expirations++;
+            if (context.hasListeners()) {
+                events.add(EventType.EXPIRED, node.key, before, before);
+            }
         }
         return true;
     }
@@ -461,9 +425,7 @@ final class Stripe {
         lock.lock();
         try {
             isClosed = true;
-            if (room != null) {
-                room.signalAll();
-            }
+            room.wake();
             desk.nodes().forEach(node -> {
                 if (node.owner != null) {
                     node.owner.wake();
