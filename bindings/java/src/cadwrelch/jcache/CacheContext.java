@@ -86,7 +86,7 @@ final class CacheContext<K, V> {
             return new ByteDesk(new DeskOfBytes(lock, shape), counts, recorder, (ByteCopier) copier,
                     () -> hasStatistics || hasListeners());
         }
-        return new ObjectDesk(new Desk(lock, shape), counts, recorder);
+        return new ObjectDesk(new Desk(lock, shape), counts, recorder, settings.refreshAfter != 0);
     }
 
     /** Has an entry loaded again that is old, in the background. No lock is held. */

@@ -119,11 +119,17 @@ final class Expiry {
         } else if (refreshAfter != 0) {
             long now = now();
             boolean isNew = call.hasChanged || call.op == Native.RELOAD;
-            boolean isStale = !isNew && call.op == Native.GET && node.isCached() && now - node.staleAt >= 0;
-            node.staleAt = isNew || isStale ? now + refreshAfter : node.staleAt;
+            boolean isStale = !isNew && call.op == Native.GET && node.isCached() && isStale(node, now);
+            if (isNew || isStale) {
+                ((Node.Aging) node).staleAt = now + refreshAfter;
+            }
             return isStale;
         }
         return false;
+    }
+
+    private static boolean isStale(Node node, long now) {
+        return now - ((Node.Aging) node).staleAt >= 0;
     }
 
     /**
@@ -146,9 +152,9 @@ final class Expiry {
             node.deadline = now + accessNanos;
             node.expires = true;
         }
-        if (refreshAfter != 0 && now - node.staleAt >= 0) {
-            // The next one to ask for a reload, if this one comes to nothing.
-            node.staleAt = now + refreshAfter;
+        if (refreshAfter != 0 && isStale(node, now)) {
+            // If this reload comes to nothing, the next one is begun then.
+            ((Node.Aging) node).staleAt = now + refreshAfter;
             return isAskedOfAccess ? Access.REFRESH_AND_ASK : Access.REFRESH;
         }
         return isAskedOfAccess ? Access.ASK : Access.DONE;

@@ -12,12 +12,13 @@ abstract class KeyedDesk {
     private final Desk desk;
     /** What keeps the events; null if nothing does. */
     private final Recorder recorder;
-    private final NodeTable nodes = new NodeTable();
+    private final NodeTable nodes;
     private final Sessions sessions = new Sessions();
     private boolean isFreed;
 
-    /** A stripe over a desk; the recorder keeps its events, if it isn't null. */
-    KeyedDesk(Desk desk, Counts counts, Recorder recorder) {
+    /** A stripe over a desk, whose nodes age or don't; the recorder keeps its events, if it isn't null. */
+    KeyedDesk(Desk desk, Counts counts, Recorder recorder, boolean ages) {
+        nodes = new NodeTable(ages);
         this.desk = desk;
         this.counts = counts;
         this.recorder = recorder;

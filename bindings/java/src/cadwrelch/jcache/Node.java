@@ -5,7 +5,7 @@ package cadwrelch.jcache;
  * and values, a key that calls have reserved or joined. A node is there as long as its key is cached so, reserved or
  * joined. The lock of its stripe guards all that changes.
  */
-final class Node {
+class Node {
     /** What is cached at a key of which it is known that the loader finds nothing. The core takes it for a value. */
     static final Object ABSENT = new Object();
 
@@ -24,8 +24,6 @@ final class Node {
     long version;
     /** When the entry expires, by the cache's clock, if {@link #expires}. */
     long deadline;
-    /** When it is to be loaded again, in a cache that does so. */
-    long staleAt;
     /** The call that has reserved the key, or null. */
     Call owner;
     /** How many calls have reserved the key or have joined its load. */
@@ -38,6 +36,16 @@ final class Node {
         this.key = key;
         this.hash = hash;
         this.id = id;
+    }
+
+    /** A node of a cache that loads entries again when they are old. */
+    static final class Aging extends Node {
+        /** When that is, by the cache's clock. */
+        long staleAt;
+
+        Aging(Object key, int hash, long id) {
+            super(key, hash, id);
+        }
     }
 
     /** Caches a value, or nothing: null with version 0. */

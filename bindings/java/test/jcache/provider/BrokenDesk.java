@@ -7,7 +7,7 @@ final class BrokenDesk extends KeyedDesk {
     private final RuntimeException fault;
 
     BrokenDesk(RuntimeException fault) {
-        super(null, new Counts(), null);
+        super(null, new Counts(), null, false);
         this.fault = fault;
     }
 
