@@ -50,7 +50,7 @@ public final class Hits {
     private static Cache<Long, Account> provider(boolean isByValue, boolean isTimed) {
         Properties properties = new Properties();
         properties.setProperty("cadwrelch.stripes", "16");
-        properties.setProperty("cadwrelch.capacity", System.getProperty("cap","16384"));
+        properties.setProperty("cadwrelch.capacity", "16384");
         CacheManager manager =
                 Caching.getCachingProvider().getCacheManager(URI.create("hits:" + isByValue + isTimed), null, properties);
         MutableConfiguration<Long, Account> configuration =

@@ -159,7 +159,8 @@ public class CadwrelchConfiguration<K, V> extends MutableConfiguration<K, V> {
     }
 
     /**
-     * Sets whose threads reload entries, in place of up to four daemon threads of the cache. It isn't serialized.
+     * Sets whose threads reload entries, in place of up to four daemon threads of the cache. It isn't serialized. It
+     * should have threads of its own: what reloads in the thread that asks keeps the get that found an old entry.
      *
      * @param newExecutor runs reloads; null: the cache's own threads
      * @return this configuration

@@ -118,9 +118,8 @@ final class Expiry {
             }
         } else if (refreshAfter != 0) {
             long now = now();
-            boolean isNew = call.hasChanged || call.op == Native.RELOAD;
-            boolean isStale = !isNew && call.op == Native.GET && node.isCached() && isStale(node, now);
-            if (isNew || isStale) {
+            boolean isStale = !call.hasChanged && call.op == Native.GET && node.isCached() && isStale(node, now);
+            if (call.hasChanged || isStale) {
                 ((Node.Aging) node).staleAt = now + refreshAfter;
             }
             return isStale;

@@ -42,6 +42,8 @@ final class Refresher {
             executor.execute(() -> now(key));
         } catch (RejectedExecutionException e) {
             // The entry is still there, and a later get asks again.
+        } catch (RuntimeException e) {
+            Log.warning("the executor of the cache " + cacheName + " failed", e);
         }
     }
 

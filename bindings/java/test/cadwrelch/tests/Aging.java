@@ -17,6 +17,10 @@ import java.util.function.Function;
 import javax.cache.Cache;
 import javax.cache.configuration.MutableCacheEntryListenerConfiguration;
 import javax.cache.event.CacheEntryCreatedListener;
+import javax.cache.event.CacheEntryEvent;
+import javax.cache.event.CacheEntryExpiredListener;
+import javax.cache.event.CacheEntryRemovedListener;
+import javax.cache.event.CacheEntryUpdatedListener;
 import javax.cache.expiry.AccessedExpiryPolicy;
 import javax.cache.expiry.CreatedExpiryPolicy;
 import cadwrelch.jcache.CadwrelchConfiguration;
@@ -249,6 +253,37 @@ final class Aging {
         return calls;
     }
 
+    /** Notes all events. */
+    private static final class AllEvents implements CacheEntryCreatedListener<Integer, String>,
+            CacheEntryUpdatedListener<Integer, String>, CacheEntryRemovedListener<Integer, String>,
+            CacheEntryExpiredListener<Integer, String> {
+        private final List<Object> seen;
+
+        AllEvents(List<Object> seen) {
+            this.seen = seen;
+        }
+
+        @Override
+        public void onCreated(Iterable<CacheEntryEvent<? extends Integer, ? extends String>> events) {
+            events.forEach(event -> seen.add(event.getEventType() + " " + event.getKey()));
+        }
+
+        @Override
+        public void onUpdated(Iterable<CacheEntryEvent<? extends Integer, ? extends String>> events) {
+            onCreated(events);
+        }
+
+        @Override
+        public void onRemoved(Iterable<CacheEntryEvent<? extends Integer, ? extends String>> events) {
+            onCreated(events);
+        }
+
+        @Override
+        public void onExpired(Iterable<CacheEntryEvent<? extends Integer, ? extends String>> events) {
+            onCreated(events);
+        }
+    }
+
     @Test
     static void otherCallsFindNothingToo() {
         calls().forEach((name, call) -> {
@@ -256,11 +291,10 @@ final class Aging {
             Scene with = remembering().open();
             List<List<Object>> seen = new ArrayList<>();
             for (Scene scene : List.of(without, with)) {
-                scene.cache.get(9);
                 List<Object> events = new ArrayList<>();
                 scene.cache.registerCacheEntryListener(new MutableCacheEntryListenerConfiguration<>(
-                        () -> (CacheEntryCreatedListener<Integer, String>) all -> all.forEach(event ->
-                                events.add(event.getEventType() + " " + event.getKey())), null, false, true));
+                        () -> new AllEvents(events), null, false, true));
+                scene.cache.get(9);
                 Object answer = call.apply(scene.cache);
                 List<Object> entries = new ArrayList<>();
                 scene.cache.forEach(entry -> entries.add(entry.toString()));
@@ -271,6 +305,25 @@ final class Aging {
             equal(name + " at a key that is known to be absent is as at one of which nothing is known: its answer,"
                     + " events, entries, store and asks", seen.get(0), seen.get(1));
         });
+    }
+
+    @Test
+    static void whatIsAbsentNeitherAgesNorLivesOn() {
+        Scene scene = remembering();
+        scene.configuration.setRefreshAfter(Duration.ofSeconds(3)).setExpiryPolicyFactory(
+                AccessedExpiryPolicy.factoryOf(new javax.cache.expiry.Duration(TimeUnit.SECONDS, 30)));
+        scene.open();
+        scene.cache.get(9);
+        for (int i = 0; i < 9; i++) {
+            scene.seconds += 1;
+            scene.cache.get(9);
+            scene.cache.getAll(Set.of(9));
+        }
+        equal("what is known to be absent is never reloaded", 0, scene.reload());
+        equal("and nobody was asked", 1, scene.store.loads.get());
+        scene.seconds += 1;
+        scene.cache.get(9);
+        equal("until its time is over, which no access makes longer", 2, scene.store.loads.get());
     }
 
     @Test

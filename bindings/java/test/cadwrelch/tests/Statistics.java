@@ -201,7 +201,7 @@ final class Statistics {
         store.map.put(1L, "one");
         long[] now = new long[1];
         CadwrelchConfiguration<Long, String> configuration =
-                new CadwrelchConfiguration<Long, String>().setClock(() -> now[0]).setAbsentFor(Duration.ofHours(1));
+                new CadwrelchConfiguration<Long, String>().setClock(() -> now[0]).setAbsentFor(Duration.ofSeconds(30));
         configuration.setReadThrough(true)
                 .setCacheLoaderFactory(() -> store)
                 .setExpiryPolicyFactory(CreatedExpiryPolicy.factoryOf(javax.cache.expiry.Duration.ONE_MINUTE));
@@ -212,6 +212,7 @@ final class Statistics {
         scene.check("what is known to be absent is a miss", 1, 3, 0, 0);
         equal("the size is without it", 1L, scene.count("CacheSize"));
         now[0] += TimeUnit.MINUTES.toNanos(1);
+        scene.cache.containsKey(2L);
         store.fault = new IllegalStateException("down");
         thrown("a load that fails", CacheException.class, () -> scene.cache.get(1L));
         equal("an entry that a call has found expired is counted", 1L, scene.count("CacheExpirations"));
