@@ -1,10 +1,10 @@
 //! Plays the table of cases that all languages share, bindings/cases, whose README describes the format.
-use cadwrelch::{Cache, CacheError, Entry, Error, Loader, Shared, Unwritten, Writer};
+use cadwrelch::{BulkError, Cache, CacheError, Entry, Error, Loader, Shared, Unwritten, Writer};
 use std::cell::RefCell;
 use std::collections::{BTreeMap, HashMap};
 use std::sync::atomic::{AtomicU64, Ordering::SeqCst};
-use std::sync::{Arc, Condvar, Mutex};
-use std::thread::{spawn, yield_now};
+use std::sync::{Arc, Barrier, Mutex};
+use std::thread::{JoinHandle, spawn, yield_now};
 use std::time::Duration;
 
 /// What can't be played: a word of a line or the name of a case, and why.
@@ -13,235 +13,292 @@ const LEFT_OUT: [(&str, &str); 3] = [
     ("remove_all", "there is no such call without keys"),
     ("invoke_many", "there is no such call"),
 ];
-/// What takes longer hangs. Nothing is awaited by a time.
-const HANGS: Duration = Duration::from_secs(60);
 
-/// A line: its number, its words, the reply and the asks that are wanted.
-type Step = (usize, Vec<String>, String, Vec<String>);
-type Pairs = Vec<(String, String)>;
-type Outside = Shared<Store>;
-type Failed = CacheError<String, String, Outside, Outside>;
+type Word = &'static str;
+/// A line: its number, words and reply, and the asks below it.
+type Line = (usize, Vec<Word>, Word, Vec<Word>);
+type Failed = CacheError<Word, Word, Shared<Store>, Shared<Store>>;
 
 thread_local! {
-    static WORKER: RefCell<Arc<Worker>> = RefCell::default();
+    static WORKER: RefCell<Arc<Worker>> = RefCell::new(Worker::new(""));
 }
 
-fn cases_of(text: &str) -> Vec<(String, Vec<Step>)> {
-    let mut cases: Vec<(String, Vec<Step>)> = Vec::new();
+fn cases_of(text: Word) -> Vec<(Word, Vec<Line>)> {
+    let mut cases: Vec<(Word, Vec<Line>)> = Vec::new();
     for (at, line) in text.lines().map(str::trim).enumerate() {
         if let Some(name) = line.strip_prefix("case ") {
-            cases.push((name.to_string(), Vec::new()));
+            cases.push((name, Vec::new()));
         } else if let Some(asks) = line.strip_prefix("asks ") {
-            let step = cases.last_mut().and_then(|case| case.1.last_mut());
-            step.expect("asks are below a call")
-                .3
-                .push(asks.to_string());
+            let lines = &mut cases.last_mut().unwrap().1;
+            lines.last_mut().unwrap().3.push(asks);
         } else if !line.is_empty() && !line.starts_with('#') {
             let (call, reply) = line.split_once(':').unwrap_or((line, ""));
-            let words = call.split(' ').map(str::to_string).collect();
-            let step = (at + 1, words, reply.trim().to_string(), Vec::new());
-            cases.last_mut().expect("a case has begun").1.push(step);
+            let line = (at + 1, call.split(' ').collect(), reply.trim(), Vec::new());
+            cases.last_mut().unwrap().1.push(line);
         }
     }
     cases
 }
 
-fn pairs(words: &[String]) -> Pairs {
-    let pairs = words.iter().filter_map(|word| word.split_once('='));
-    pairs
-        .map(|(key, value)| (key.into(), value.into()))
+fn pairs(words: &[Word]) -> BTreeMap<Word, Word> {
+    words
+        .iter()
+        .filter_map(|word| word.split_once('='))
         .collect()
 }
 
-fn shown<'a>(pairs: impl IntoIterator<Item = (&'a String, &'a String)>) -> String {
-    let pairs = pairs
-        .into_iter()
-        .map(|(key, value)| format!("{key}={value}"));
-    pairs.collect::<Vec<_>>().join(" ")
+fn shown(pairs: &BTreeMap<Word, Word>, nothing: &str) -> String {
+    let words: Vec<_> = pairs
+        .iter()
+        .map(|(key, value)| format!("{key}={value}"))
+        .collect();
+    or(&words, nothing)
 }
 
-fn or(text: String, none: &str) -> String {
-    if text.is_empty() { none.into() } else { text }
+fn or(words: &[String], nothing: &str) -> String {
+    if words.is_empty() {
+        nothing.to_string()
+    } else {
+        words.join(" ")
+    }
 }
 
-/// A thread of a case, or the case's own: where it is to be held, what has become of its call, and whom that has asked.
-#[derive(Default)]
-struct Worker(Mutex<Heard>, Condvar);
-
-#[derive(Default)]
-struct Heard {
-    holds_in: &'static str,
-    state: &'static str,
-    may_go: bool,
-    reply: String,
-    asks: Vec<String>,
+/// A thread of a case, or the case's own: where it is to be held, and whom its call has asked.
+struct Worker {
+    held_in: Mutex<Word>,
+    gate: Barrier,
+    asks: Mutex<Vec<String>>,
 }
 
 impl Worker {
-    fn tell(&self, tell: impl FnOnce(&mut Heard)) {
-        tell(&mut self.0.lock().unwrap());
-        self.1.notify_all();
+    fn new(held_in: Word) -> Arc<Worker> {
+        let (held_in, asks) = (Mutex::new(held_in), Mutex::default());
+        Arc::new(Worker {
+            held_in,
+            gate: Barrier::new(2),
+            asks,
+        })
     }
 
-    fn wait(&self, is_so: impl Fn(&Heard) -> bool) {
-        let heard = self.0.lock().unwrap();
-        let waited = self.1.wait_timeout_while(heard, HANGS, |it| !is_so(it));
-        assert!(!waited.unwrap().1.timed_out(), "it hangs");
-    }
-
+    /// Meets the player at the gate, if it is to be held here, and once more when it may go on.
     fn hold(place: &str) {
         let own = WORKER.with_borrow(Arc::clone);
-        if own.0.lock().unwrap().holds_in == place {
-            own.tell(|it| (it.holds_in, it.state) = ("", "begins"));
-            own.wait(|it| it.may_go);
+        if *own.held_in.lock().unwrap() == place {
+            *own.held_in.lock().unwrap() = "";
+            own.gate.wait();
+            own.gate.wait();
         }
     }
 
-    /// Notes whom its call asks. Then the store may be held.
-    fn ask(asked: String) {
-        WORKER.with_borrow(|own| own.tell(|it| it.asks.push(asked)));
+    fn ask(what: &str, words: &[String]) {
+        let asked = format!("{what} {}", words.join(" "));
+        WORKER.with_borrow(|own| own.asks.lock().unwrap().push(asked));
         Worker::hold("store");
     }
 }
 
-/// The loader or the writer has failed.
-#[derive(Debug)]
-struct Broken;
-
 /// The loader and the writer. Each call does its work, and then it may be held.
 #[derive(Default)]
 struct Store {
-    held: Mutex<BTreeMap<String, String>>,
-    /// What they answer next, and what is loaded before the case begins.
-    load_next: Mutex<Vec<String>>,
-    write_next: Mutex<Vec<String>>,
-    before: Mutex<Option<String>>,
+    stored: Mutex<BTreeMap<Word, Word>>,
+    /// What they answer next.
+    load_next: Mutex<Vec<Word>>,
+    write_next: Mutex<Vec<Word>>,
+    /// What is loaded before the case begins.
+    before: Mutex<Option<Word>>,
 }
 
-impl Loader<String, String> for Store {
+#[derive(Debug)]
+struct Broken;
+
+impl Loader<Word, Word> for Store {
     type Error = Broken;
 
-    fn load(&self, key: &String) -> Result<Option<String>, Broken> {
-        Ok(self.load_all(&[key])?.remove(0))
+    fn load(&self, key: &Word) -> Result<Option<Word>, Broken> {
+        Ok(self.load_all(&[key])?[0])
     }
 
-    fn load_all(&self, keys: &[&String]) -> Result<Vec<Option<String>>, Broken> {
+    fn load_all(&self, keys: &[&Word]) -> Result<Vec<Option<Word>>, Broken> {
         if let Some(value) = self.before.lock().unwrap().take() {
             return Ok(vec![Some(value)]);
         }
-        let held = self.held.lock().unwrap().clone();
         let answer = std::mem::take(&mut *self.load_next.lock().unwrap());
-        Worker::ask(format!(
-            "load {}",
-            keys.iter()
-                .map(|it| it.as_str())
-                .collect::<Vec<_>>()
-                .join(" ")
-        ));
-        let given: HashMap<_, _> = pairs(&answer).into_iter().collect();
-        match answer.first().map(String::as_str) {
-            Some("fails") => Err(Broken),
-            Some(_) => Ok(keys.iter().map(|&key| given.get(key).cloned()).collect()),
-            None => Ok(keys.iter().map(|&key| held.get(key).cloned()).collect()),
+        let found = match answer.as_slice() {
+            [] => self.stored.lock().unwrap().clone(),
+            [_, found @ ..] => pairs(found),
+        };
+        let words: Vec<_> = keys.iter().map(|key| key.to_string()).collect();
+        Worker::ask("load", &words);
+        if answer == ["fails"] {
+            return Err(Broken);
         }
+        Ok(keys.iter().map(|key| found.get(*key).copied()).collect())
+    }
+}
+
+impl Writer<Word, Word> for Store {
+    type Error = Broken;
+
+    fn write(&self, key: &Word, value: &Word) -> Result<(), Broken> {
+        self.write_all(&[(key, value)]).map_err(|it| it.error)
+    }
+
+    fn delete(&self, key: &Word) -> Result<(), Broken> {
+        self.delete_all(&[key]).map_err(|it| it.error)
+    }
+
+    fn write_all(&self, entries: &[(&Word, &Word)]) -> Result<(), Unwritten<Broken>> {
+        let words: Vec<_> = entries
+            .iter()
+            .map(|it| format!("{}={}", it.0, it.1))
+            .collect();
+        let keys: Vec<_> = entries.iter().map(|it| *it.0).collect();
+        self.change("write", &words, &keys, |stored, place| {
+            stored.insert(keys[place], entries[place].1);
+        })
+    }
+
+    fn delete_all(&self, keys: &[&Word]) -> Result<(), Unwritten<Broken>> {
+        let words: Vec<_> = keys.iter().map(|key| key.to_string()).collect();
+        let keys: Vec<_> = keys.iter().map(|key| **key).collect();
+        self.change("delete", &words, &keys, |stored, place| {
+            stored.remove(keys[place]);
+        })
     }
 }
 
 impl Store {
-    /// Changes what it is to change, and says at which places that has failed.
     fn change(
         &self,
-        entries: &[(&String, Option<&String>)],
-        asked: String,
-    ) -> Result<(), Vec<usize>> {
+        what: &str,
+        words: &[String],
+        keys: &[Word],
+        change: impl Fn(&mut BTreeMap<Word, Word>, usize),
+    ) -> Result<(), Unwritten<Broken>> {
         let answer = std::mem::take(&mut *self.write_next.lock().unwrap());
-        let answer: Vec<&str> = answer.iter().map(String::as_str).collect();
-        let mut left = Vec::new();
-        for (place, &(key, value)) in entries.iter().enumerate() {
-            let mut held = self.held.lock().unwrap();
-            match (answer.as_slice(), value) {
-                (["fails" | "lies"], _) => left.push(place),
-                (["fails", "at", keys @ ..], _) if keys.contains(&key.as_str()) => left.push(place),
-                (_, Some(value)) => drop(held.insert(key.clone(), value.clone())),
-                (_, None) => drop(held.remove(key)),
-            }
+        let is_idle = answer == ["fails"] || answer == ["lies"];
+        let all = 0..keys.len();
+        let (left, done): (Vec<_>, Vec<_>) = all
+            .clone()
+            .partition(|at| is_idle || answer.contains(&keys[*at]));
+        for place in done {
+            change(&mut self.stored.lock().unwrap(), place);
         }
-        Worker::ask(asked);
-        match answer.as_slice() {
-            ["fails", "though", ..] => Err((0..entries.len()).collect()),
-            ["fails", ..] => Err(left),
-            _ => Ok(()),
+        Worker::ask(what, words);
+        let places = if answer.contains(&"though") {
+            all.collect()
+        } else {
+            left
+        };
+        if answer.contains(&"fails") {
+            Err(Unwritten {
+                error: Broken,
+                places,
+            })
+        } else {
+            Ok(())
         }
     }
 }
 
-impl Writer<String, String> for Store {
-    type Error = Broken;
+/// What a call has answered, as a text.
+trait Shown {
+    fn shown(self) -> String;
+}
 
-    fn write(&self, key: &String, value: &String) -> Result<(), Broken> {
-        self.write_all(&[(key, value)])
-            .map_err(|failed| failed.error)
-    }
-
-    fn delete(&self, key: &String) -> Result<(), Broken> {
-        self.delete_all(&[key]).map_err(|failed| failed.error)
-    }
-
-    fn write_all(&self, entries: &[(&String, &String)]) -> Result<(), Unwritten<Broken>> {
-        let asked = format!("write {}", shown(entries.iter().copied()));
-        let entries: Vec<_> = entries
-            .iter()
-            .map(|&(key, value)| (key, Some(value)))
-            .collect();
-        self.change(&entries, asked).map_err(|places| Unwritten {
-            error: Broken,
-            places,
-        })
-    }
-
-    fn delete_all(&self, keys: &[&String]) -> Result<(), Unwritten<Broken>> {
-        let asked = format!(
-            "delete {}",
-            keys.iter()
-                .map(|it| it.as_str())
-                .collect::<Vec<_>>()
-                .join(" ")
-        );
-        let entries: Vec<_> = keys.iter().map(|&key| (key, None)).collect();
-        self.change(&entries, asked).map_err(|places| Unwritten {
-            error: Broken,
-            places,
-        })
+impl Shown for () {
+    fn shown(self) -> String {
+        "ok".to_string()
     }
 }
 
-fn fault(error: &Failed) -> String {
-    match error {
-        Error::Loader(_) => "loader failed".into(),
-        Error::Writer(_) => "writer failed".into(),
-        Error::Processor(error) => format!("{error} failed"),
-        Error::Closed => "closed".into(),
-        other => format!("{other:?}"),
+impl Shown for bool {
+    fn shown(self) -> String {
+        self.to_string()
     }
 }
 
-/// Plays the steps of one case.
+impl Shown for Option<Arc<Word>> {
+    fn shown(self) -> String {
+        self.map_or("none".to_string(), |value| value.to_string())
+    }
+}
+
+impl Shown for HashMap<Word, Arc<Word>> {
+    fn shown(self) -> String {
+        shown(
+            &self.into_iter().map(|(key, value)| (key, *value)).collect(),
+            "none",
+        )
+    }
+}
+
+impl Shown for Failed {
+    fn shown(self) -> String {
+        match self {
+            Error::Loader(_) => "loader failed".to_string(),
+            Error::Writer(_) => "writer failed".to_string(),
+            Error::Processor(error) => error.to_string(),
+            Error::Closed => "closed".to_string(),
+            other => format!("{other:?}"),
+        }
+    }
+}
+
+impl Shown for BulkError<Arc<Word>, Broken, Broken> {
+    fn shown(self) -> String {
+        let mut failed: Vec<_> = self.failed.iter().map(|key| key.to_string()).collect();
+        failed.sort();
+        match self.error {
+            Error::Closed => "closed".to_string(),
+            error => format!("{} at {}", error.shown(), or(&failed, "no key")),
+        }
+    }
+}
+
+impl<T: Shown, E: Shown> Shown for Result<T, E> {
+    fn shown(self) -> String {
+        self.map_or_else(Shown::shown, Shown::shown)
+    }
+}
+
+fn process(
+    entry: &mut Entry<'_, Word, Word, Shared<Store>, Shared<Store>>,
+    acts: &[Word],
+) -> Result<String, Failed> {
+    let mut answers = Vec::new();
+    for act in acts {
+        match *act {
+            "get" => answers.push(entry.value().map_or("failed".to_string(), Shown::shown)),
+            "exists" => answers.push(entry.exists().to_string()),
+            "remove" => entry.remove(),
+            "hold" => Worker::hold("processor"),
+            "fail" => return Err(Error::processor("processor failed")),
+            set => entry.set(set.strip_prefix("set=").unwrap()),
+        }
+    }
+    Ok(or(&answers, "ok"))
+}
+
+/// Plays one case.
 struct Player {
+    cache: Cache<Word, Word, Shared<Store>, Shared<Store>>,
     store: Arc<Store>,
-    cache: Cache<String, String, Outside, Outside>,
     now: Arc<AtomicU64>,
 }
 
 impl Player {
-    fn new(options: &[String]) -> Player {
+    fn new(options: &[Word]) -> Arc<Player> {
         let (store, now) = (Arc::new(Store::default()), Arc::new(AtomicU64::new(0)));
         let clock = now.clone();
-        let has = |name: &str| options.iter().position(|word| word == name);
-        let number = |name: &str| has(name).map(|at| options[at + 1].parse::<u64>().unwrap());
+        let number = |name| {
+            let at = options.iter().position(|word| *word == name)?;
+            options[at + 1].parse().ok()
+        };
         let mut builder = Cache::builder()
             .stripes(1)
-            .capacity(number("capacity").unwrap_or(100) as usize);
-        builder = builder.clock(move || Duration::from_secs(clock.load(SeqCst)));
+            .capacity(number("capacity").unwrap_or(100) as usize)
+            .clock(move || Duration::from_secs(clock.load(SeqCst)));
         if let Some(time) = number("ttl") {
             builder = builder.time_to_live(Duration::from_secs(time));
         }
@@ -250,249 +307,194 @@ impl Player {
         }
         let builder = builder
             .store(store.clone())
-            .read_through(has("read").is_some());
+            .read_through(options.contains(&"read"));
         let cache = builder
-            .write_through(has("write").is_some())
+            .write_through(options.contains(&"write"))
             .build()
             .unwrap();
-        Player { store, cache, now }
+        Arc::new(Player { cache, store, now })
     }
 
-    /// What a call answers.
-    fn reply(&self, words: &[String]) -> String {
-        self.call(words).unwrap_or_else(|error| fault(&error))
-    }
-
-    fn call(&self, words: &[String]) -> Result<String, Failed> {
-        let at = |place: usize| words[place].clone();
-        let (cache, keys) = (&self.cache, words[1..].to_vec());
-        let value = |found: Option<Arc<String>>| found.map_or("none".into(), |it| it.to_string());
-        let done = |()| "ok".to_string();
-        let many = match words[0].as_str() {
-            "get" => return cache.get(&at(1)).map(value),
-            "contains_key" => return cache.contains_key(&at(1)).map(|it| it.to_string()),
-            "put" => return cache.put(at(1), at(2)).map(done),
-            "get_and_put" => return cache.get_and_put(at(1), at(2)).map(value),
-            "put_if_absent" => return cache.put_if_absent(at(1), at(2)).map(|it| it.to_string()),
-            "remove" => return cache.remove(&at(1)).map(|it| it.to_string()),
-            "remove_if" => return cache.remove_if(&at(1), at(2)).map(|it| it.to_string()),
-            "get_and_remove" => return cache.get_and_remove(&at(1)).map(value),
-            "replace" => return cache.replace(at(1), at(2)).map(|it| it.to_string()),
-            "replace_if" => {
-                return cache
-                    .replace_if(at(1), at(2), at(3))
-                    .map(|it| it.to_string());
+    fn reply(&self, words: &[Word]) -> String {
+        let cache = &self.cache;
+        match *words {
+            ["get", key] => cache.get(&key).shown(),
+            ["contains_key", key] => cache.contains_key(&key).shown(),
+            ["put", key, value] => cache.put(key, value).shown(),
+            ["get_and_put", key, value] => cache.get_and_put(key, value).shown(),
+            ["put_if_absent", key, value] => cache.put_if_absent(key, value).shown(),
+            ["remove", key] => cache.remove(&key).shown(),
+            ["remove_if", key, old] => cache.remove_if(&key, old).shown(),
+            ["get_and_remove", key] => cache.get_and_remove(&key).shown(),
+            ["replace", key, value] => cache.replace(key, value).shown(),
+            ["replace_if", key, old, value] => cache.replace_if(key, old, value).shown(),
+            ["get_and_replace", key, value] => cache.get_and_replace(key, value).shown(),
+            ["invoke", key, "do", ref acts @ ..] => {
+                let reply = cache.invoke(key, |entry| process(entry, acts));
+                reply.unwrap_or_else(Shown::shown)
             }
-            "get_and_replace" => return cache.get_and_replace(at(1), at(2)).map(value),
-            "invoke" => return cache.invoke(at(1), |entry| process(entry, &words[3..])),
-            "clear" => return cache.clear().map(done),
-            "expire" => return Ok(cache.expire().to_string()),
-            "close" => return Ok(done(cache.close())),
-            "get_many" => cache.get_all(keys).map(|found| {
-                let found: BTreeMap<_, _> =
-                    found.iter().map(|(key, value)| (key, &**value)).collect();
-                or(shown(found), "none")
-            }),
-            "put_many" => cache.put_all(pairs(&keys)).map(done),
-            "remove_many" => cache.remove_all(keys).map(done),
-            "load_many" if words.get(1).is_some_and(|it| it == "replacing") => {
-                cache.load_all(words[2..].to_vec(), true).map(done)
+            ["get_many", ref keys @ ..] => cache.get_all(keys.iter().copied()).shown(),
+            ["put_many", ref entries @ ..] => cache
+                .put_all(entries.iter().filter_map(|it| it.split_once('=')))
+                .shown(),
+            ["remove_many", ref keys @ ..] => cache.remove_all(keys.iter().copied()).shown(),
+            ["load_many", "replacing", ref keys @ ..] => {
+                cache.load_all(keys.iter().copied(), true).shown()
             }
-            "load_many" => cache.load_all(keys, false).map(done),
-            other => panic!("there is no {other}"),
-        };
-        Ok(many.unwrap_or_else(|error| {
-            let mut failed: Vec<String> = error.failed.iter().map(|key| key.to_string()).collect();
-            failed.sort();
-            match error.error {
-                Error::Closed => "closed".into(),
-                other => format!("{} at {}", fault(&other), or(failed.join(" "), "no key")),
-            }
-        }))
-    }
-}
-
-fn process(
-    entry: &mut Entry<'_, String, String, Outside, Outside>,
-    acts: &[String],
-) -> Result<String, Failed> {
-    let mut answers = Vec::new();
-    for act in acts {
-        match act.as_str() {
-            "get" => answers.push(entry.value().map_or("failed".into(), |it| {
-                it.map_or("none".into(), |it| it.to_string())
-            })),
-            "exists" => answers.push(entry.exists().to_string()),
-            "remove" => entry.remove(),
-            "hold" => Worker::hold("processor"),
-            "fail" => return Err(Error::processor("processor")),
-            set => entry.set(set.strip_prefix("set=").expect("an act").to_string()),
+            ["load_many", ref keys @ ..] => cache.load_all(keys.iter().copied(), false).shown(),
+            ["clear"] => cache.clear().shown(),
+            ["expire"] => cache.expire().to_string(),
+            ["close"] => cache.close().shown(),
+            _ => panic!("there is no such line: {words:?}"),
         }
     }
-    Ok(or(answers.join(" "), "ok"))
-}
 
-/// The threads of a case that have calls out.
-struct Threads {
-    player: Arc<Player>,
-    out: HashMap<String, Arc<Worker>>,
-    own: Arc<Worker>,
-}
-
-impl Threads {
-    /// What a line answers, and who has made its call.
-    fn step(&mut self, words: &[String]) -> (String, Arc<Worker>) {
-        let (cache, store, own) = (&self.player.cache, &self.player.store, self.own.clone());
-        let set = |what: &Mutex<Vec<String>>| *what.lock().unwrap() = words[1..].to_vec();
-        let found = match (words[0].as_str(), words.get(1).map(String::as_str)) {
-            ("with", _) => String::new(),
-            ("store", _) => {
-                store.held.lock().unwrap().extend(pairs(&words[1..]));
-                String::new()
-            }
-            ("cache", _) => {
-                for (key, value) in pairs(&words[1..]) {
-                    *store.before.lock().unwrap() = Some(value);
-                    cache.load_all([key], false).unwrap();
+    /// What a line that makes no call shows; None: it makes one.
+    fn look(&self, words: &[Word]) -> Option<String> {
+        let rest = &words[1..];
+        match words[0] {
+            "with" => (),
+            "load" => *self.store.load_next.lock().unwrap() = rest.to_vec(),
+            "write" => *self.store.write_next.lock().unwrap() = rest.to_vec(),
+            "store" => self.store.stored.lock().unwrap().extend(pairs(rest)),
+            "clock" => self.now.store(rest[0].parse().unwrap(), SeqCst),
+            "cache" => {
+                for pair in rest {
+                    let (key, value) = pair.split_once('=').unwrap();
+                    *self.store.before.lock().unwrap() = Some(value);
+                    self.cache.load_all([key], false).unwrap();
                 }
-                String::new()
             }
-            ("load", _) => String::from_iter(std::iter::once(set(&store.load_next)).map(|()| "")),
-            ("write", _) => String::from_iter(std::iter::once(set(&store.write_next)).map(|()| "")),
-            ("clock", Some(now)) => {
-                self.player.now.store(now.parse().unwrap(), SeqCst);
-                String::new()
+            "stored" => return Some(shown(&self.store.stored.lock().unwrap(), "nothing")),
+            "cached" => {
+                let keys = self.cache.keys().unwrap();
+                let found = self.cache.get_all(keys.iter().map(|key| **key)).shown();
+                return Some(found.replace("none", "nothing"));
             }
-            ("stored", _) => or(shown(&*store.held.lock().unwrap()), "nothing"),
-            ("cached", _) => {
-                let keys = cache.keys().unwrap();
-                let found: BTreeMap<_, _> = keys
-                    .iter()
-                    .map(|key| ((**key).clone(), cache.get(&**key).unwrap().unwrap()))
-                    .collect();
-                or(
-                    shown(found.iter().map(|(key, value)| (key, &**value))),
-                    "nothing",
-                )
-            }
-            ("counted", _) => {
-                let it = cache.stats().unwrap();
-                let counts = [
-                    ("hits", it.hits),
-                    ("misses", it.misses),
-                    ("puts", it.puts),
-                    ("removals", it.removals),
-                    ("evictions", it.evictions),
-                ];
-                let counts = counts
-                    .iter()
-                    .filter(|it| it.1 > 0)
-                    .map(|(name, count)| format!("{name} {count}"));
-                or(counts.collect::<Vec<_>>().join(" "), "nothing")
-            }
-            (name, Some("ends")) => {
-                let worker = self.out.remove(name).unwrap();
-                worker.tell(|it| it.may_go = true);
-                worker.wait(|it| it.state == "ends");
-                let reply = worker.0.lock().unwrap().reply.clone();
-                return (reply, worker);
-            }
-            (name, Some("begins" | "waits")) => return self.start(name, &words[1..]),
-            _ => self.player.reply(words),
-        };
-        (found, own)
+            "counted" => return Some(self.counted()),
+            _ => return None,
+        }
+        Some(String::new())
     }
 
-    fn start(&mut self, name: &str, words: &[String]) -> (String, Arc<Worker>) {
-        let worker = Arc::new(Worker::default());
-        if words[0] == "begins" {
-            let is_held = words.iter().any(|word| word == "hold");
-            worker.tell(|it| it.holds_in = if is_held { "processor" } else { "store" });
-        }
-        let asleep = self.player.cache.waiting();
-        let (player, own, call) = (self.player.clone(), worker.clone(), words[1..].to_vec());
-        spawn(move || {
+    fn counted(&self) -> String {
+        let it = self.cache.stats().unwrap();
+        let counts = [it.hits, it.misses, it.puts, it.removals, it.evictions];
+        let names = ["hits", "misses", "puts", "removals", "evictions"];
+        let counted = names.iter().zip(counts).filter(|it| it.1 > 0);
+        or(
+            &counted
+                .map(|(name, count)| format!("{name} {count}"))
+                .collect::<Vec<_>>(),
+            "nothing",
+        )
+    }
+
+    /// Makes a call on a thread of its own, up to where it is held or waits.
+    fn begin(
+        self: &Arc<Player>,
+        is_held: bool,
+        call: Vec<Word>,
+    ) -> (Arc<Worker>, JoinHandle<String>) {
+        let worker = Worker::new(match is_held {
+            true if call.contains(&"hold") => "processor",
+            true => "store",
+            false => "",
+        });
+        let (player, own, asleep) = (self.clone(), worker.clone(), self.cache.waiting());
+        let thread = spawn(move || {
             WORKER.set(own.clone());
             let reply = player.reply(&call);
-            own.tell(|it| (it.state, it.reply) = ("ends", reply));
+            // A call that was to be held, and isn't, meets the player all the same.
+            if !own.held_in.lock().unwrap().is_empty() {
+                own.gate.wait();
+            }
+            reply
         });
-        if words[0] == "begins" {
-            worker.wait(|it| !it.state.is_empty());
+        if is_held {
+            worker.gate.wait();
+        } else {
+            while self.cache.waiting() == asleep && !thread.is_finished() {
+                yield_now();
+            }
         }
-        while self.player.cache.waiting() == asleep && worker.0.lock().unwrap().state.is_empty() {
-            yield_now();
-        }
-        self.out.insert(name.to_string(), worker.clone());
-        let state = worker.0.lock().unwrap().state;
-        (or(state.to_string(), "waits"), worker)
+        (worker, thread)
     }
 }
 
-fn play(steps: &[Step]) -> Result<(), String> {
-    let options = if steps[0].1[0] == "with" {
-        &steps[0].1[1..]
+/// Plays a case up to its first difference.
+fn play(lines: &[Line]) -> Result<(), String> {
+    let options = if lines[0].1[0] == "with" {
+        &lines[0].1[1..]
     } else {
         &[]
     };
-    let player = Arc::new(Player::new(options));
-    let own = Arc::new(Worker::default());
+    let (player, own) = (Player::new(options), Worker::new(""));
+    let mut threads = HashMap::new();
     WORKER.set(own.clone());
-    let mut threads = Threads {
-        player: player.clone(),
-        out: HashMap::new(),
-        own,
-    };
-    for (line, words, reply, asks) in steps {
-        let (found, worker) = threads.step(words);
-        let wanted = match (words[0].as_str(), words.get(1).map(String::as_str)) {
-            ("stored" | "cached" | "counted", _) => words[1..].join(" "),
-            (_, Some(state @ ("begins" | "waits"))) => state.to_string(),
-            _ => reply.clone(),
+    for (number, words, reply, asks) in lines {
+        let (mut wanted, mut worker) = (reply.to_string(), own.clone());
+        let found = if let Some(found) = player.look(words) {
+            if !found.is_empty() {
+                wanted = words[1..].join(" ");
+            }
+            found
+        } else if let [name, what @ ("begins" | "waits"), call @ ..] = words.as_slice() {
+            wanted = what.to_string();
+            let (begun, thread) = player.begin(*what == "begins", call.to_vec());
+            worker = begun.clone();
+            let is_held = begun.held_in.lock().unwrap().is_empty();
+            let state = if thread.is_finished() || !is_held {
+                "ends"
+            } else {
+                *what
+            };
+            threads.insert(*name, (begun, thread, *what));
+            state.to_string()
+        } else if let [name, "ends"] = words.as_slice() {
+            let (ended, thread, what) = threads.remove(name).unwrap();
+            if what == "begins" {
+                ended.gate.wait();
+            }
+            worker = ended;
+            thread.join().unwrap()
+        } else {
+            player.reply(words)
         };
-        let asked = std::mem::take(&mut worker.0.lock().unwrap().asks);
-        if (&found, &asked) != (&wanted, asks) {
+        let asked = std::mem::take(&mut *worker.asks.lock().unwrap());
+        if found != wanted || asked != *asks {
+            let line = words.join(" ");
             return Err(format!(
-                "{line}: {}: wanted {wanted:?} {asks:?}, found {found:?} {asked:?}",
-                words.join(" ")
+                "{number}: {line}: wanted {wanted} {asks:?}, found {found} {asked:?}"
             ));
         }
     }
-    let all_asked = player.store.load_next.lock().unwrap().is_empty()
+    let is_used = player.store.load_next.lock().unwrap().is_empty()
         && player.store.write_next.lock().unwrap().is_empty();
-    if all_asked && player.cache.agrees() {
+    if is_used && player.cache.agrees() {
         Ok(())
     } else {
-        Err("an answer that nobody asked for, or the cache disagrees with its core".into())
+        Err("an answer wasn't asked for, or the cache differs from its core".to_string())
     }
 }
 
 #[test]
 fn the_table_of_cases() {
-    let folder = std::path::Path::new(env!("CARGO_MANIFEST_DIR")).join("../cases");
-    let mut paths: Vec<_> = std::fs::read_dir(folder)
-        .unwrap()
-        .map(|it| it.unwrap().path())
-        .collect();
-    paths.retain(|path| path.extension().is_some_and(|it| it == "cases"));
-    paths.sort();
+    let folder = std::fs::read_dir(concat!(env!("CARGO_MANIFEST_DIR"), "/../cases")).unwrap();
     let (mut played, mut left_out, mut failed) = (0, BTreeMap::new(), String::new());
-    for path in paths {
-        for (name, steps) in cases_of(&std::fs::read_to_string(&path).unwrap()) {
-            let words: Vec<&String> = steps
-                .iter()
-                .flat_map(|step| &step.1)
-                .chain([&name])
-                .collect();
-            if let Some(lack) = LEFT_OUT
-                .iter()
-                .find(|lack| words.iter().any(|word| *word == lack.0))
-            {
+    for path in folder.map(|it| it.unwrap().path()) {
+        if path.extension().is_none_or(|it| it != "cases") {
+            continue;
+        }
+        for (name, lines) in cases_of(std::fs::read_to_string(&path).unwrap().leak()) {
+            let has = |word| name == word || lines.iter().any(|line| line.1.contains(&word));
+            if let Some(lack) = LEFT_OUT.iter().find(|lack| has(lack.0)) {
                 *left_out.entry(lack).or_insert(0) += 1;
-                continue;
-            }
-            played += 1;
-            if let Err(why) = play(&steps) {
-                failed += &format!("{}:{why} ({name})\n", path.display());
+            } else {
+                played += 1;
+                let file = path.file_name().unwrap().display();
+                let difference = |why| failed += &format!("{file}:{why} ({name})\n");
+                play(&lines).unwrap_or_else(difference);
             }
         }
     }
