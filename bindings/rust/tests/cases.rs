@@ -344,7 +344,10 @@ impl Player {
             ["load_many", ref keys @ ..] => cache.load_all(keys.iter().copied(), false).shown(),
             ["clear"] => cache.clear().shown(),
             ["expire"] => cache.expire().to_string(),
-            ["close"] => cache.close().shown(),
+            ["close"] => {
+                cache.close();
+                ().shown()
+            }
             _ => panic!("there is no such line: {words:?}"),
         }
     }
@@ -480,9 +483,13 @@ fn play(lines: &[Line]) -> Result<(), String> {
 
 #[test]
 fn the_table_of_cases() {
-    let folder = std::fs::read_dir(concat!(env!("CARGO_MANIFEST_DIR"), "/../cases")).unwrap();
+    let folder = std::env::var("CADWRELCH_CASES");
+    let folder = folder.unwrap_or(concat!(env!("CARGO_MANIFEST_DIR"), "/../cases").to_string());
     let (mut played, mut left_out, mut failed) = (0, BTreeMap::new(), String::new());
-    for path in folder.map(|it| it.unwrap().path()) {
+    for path in std::fs::read_dir(folder)
+        .unwrap()
+        .map(|it| it.unwrap().path())
+    {
         if path.extension().is_none_or(|it| it != "cases") {
             continue;
         }

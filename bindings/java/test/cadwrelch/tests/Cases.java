@@ -132,7 +132,7 @@ final class Cases {
             return options.contains(name) ? Integer.parseInt(options.get(options.indexOf(name) + 1)) : usual;
         }
 
-        /** Notes whom a call asks. Then the store may be held. */
+        /** Notes whom a call asks. Then it may be held. */
         private void ask(String asked) {
             Worker worker = mine.get() == null ? loading : mine.get();
             worker.asks.add(asked);
@@ -354,12 +354,16 @@ final class Cases {
                 mine.set(worker);
                 return reply(call);
             });
-            if (what.equals("begins")) {
-                worker.gate.awaitCall();
-            } else {
-                worker.work.awaitSleep();
+            try {
+                if (what.equals("begins")) {
+                    worker.gate.awaitCall();
+                } else {
+                    worker.work.awaitSleep();
+                }
+                return "";
+            } catch (AssertionError e) {
+                return e.getMessage();
             }
-            return "";
         }
 
         /** Plays the steps up to the first difference, and says which that is. */
