@@ -1,39 +1,33 @@
-/* Plays the table of cases that all languages share, ../cases, whose README describes the format: a small host of one thread over the phases.
- * usage: cases FILE.. */
+/* Plays the table of cases that all languages share, ../cases, whose README describes the format: a host of one thread that makes calls of one
+ * key, phase by phase. usage: cases FILE.. */
 #include "check.h"
 
-enum { ITEMS = 8, WORDS = 24, LINES = 2000, TEXT = 256 };
-/* What can't be played: a word of a line, and why. */
-static struct { const char *word, *reason; unsigned cases; } left_out[] = {
-    {"begins", "the host has one thread", 0}, {"ttl", "the core has no clock", 0}, {"tti", "the core has no clock", 0}, {"close", "a closed desk is gone", 0}};
+enum { WORDS = 16, LINES = 4000, TEXT = 256 };
+/* What can't be played: what is in a line of it, and why. */
+static struct { const char *text, *reason; unsigned cases; } left_out[] = {
+    {"begins", "the host has one thread", 0}, {"ttl", "the core has no clock", 0}, {"tti", "the core has no clock", 0},
+    {"close:", "a closed desk answers codes", 0}, {"_many", "rounds are a host's", 0}, {"remove_all", "rounds are a host's", 0},
+    {"clear:", "rounds are a host's", 0}};
+static const size_t LEFT_OUT = sizeof left_out / sizeof *left_out;
+/* By their numbers (jc_op, jc_reply). */
 static const char *const VERBS[] = {"get", "contains_key", "put", "get_and_put", "put_if_absent", "remove", "remove_if", "get_and_remove", "replace",
-                                    "replace_if", "get_and_replace", "clear", "load_many", "reload", "invoke"};
-/* A key of a call: what it brings, what it has out, and what was answered. */
-typedef struct item {
-    const char *key, *value, *loaded;
-    bool has_failed;
-    jc_out out;
-    jc_processed done;
-} item;
+                                    "replace_if", "get_and_replace", "", "", "", "invoke"};
+static const char *const REPLIES[] = {"ok", "false", "true", "none", "", "loader failed", "writer failed", "processor failed"};
 /* A key is a letter: the store has its value at this place, or nothing. */
-static char store[26][TEXT], lines[LINES][TEXT], asked[TEXT], load_next[TEXT], write_next[TEXT], found[TEXT], *words[WORDS];
+static char store[26][TEXT], lines[LINES][TEXT], asked[TEXT], found[TEXT], *words[WORDS];
+/* What the loader and the writer answer next. */
+static const char *load_next = "", *write_next = "";
 static size_t words_len;
 static jc_shape shape;
 static jc_desk desk;
 
 /* Appends KEY or KEY=VALUE. */
 static void append(char *text, const char *between, const char *key, const char *value) {
-    size_t len = strlen(text);
-    snprintf(text + len, TEXT - len, "%s%s%s%s", len ? between : "", key, value ? "=" : "", value ? value : "");
-}
-
-/* A text that stays for a while. */
-static char *kept(const char *text, size_t len) {
-    static char all[32][TEXT];
-    static size_t last;
-    last = (last + 1) % 32;
-    snprintf(all[last], TEXT, "%.*s", (int)len, text);
-    return all[last];
+    const char *parts[] = {*text ? between : "", key, value ? "=" : "", value ? value : ""};
+    for (size_t i = 0; i < 4; i++) {
+        CHECK(strlen(text) + strlen(parts[i]) < TEXT);
+        strcat(text, parts[i]);
+    }
 }
 
 /* What a text has after a word that begins so; NULL: there is none. */
@@ -46,350 +40,219 @@ static const char *find(const char *text, const char *word) {
     return NULL;
 }
 
-static bool has(const char *text, const char *word) {
-    const char *after = text;
-    while ((after = find(after, word)) && *after != 0 && *after != ' ') {
-    }
-    return after;
-}
-
 static jc_value value_of(const char *text) {
     jc_value value = {.len = (uint32_t)strlen(text)};
     memcpy(value.bytes, text, value.len);
     return value;
 }
 
-/* The loader, asked for these keys at once. */
-static void ask_loader(item **all, size_t len) {
+/* Asks the loader for a key: jc_answer, and the value that it has found. */
+static uint32_t ask_loader(const char *key, char *loaded) {
+    const char sought[] = {key[0], '=', 0}, *given = find(load_next, sought);
+    bool has_failed = strcmp(load_next, "fails") == 0;
+    snprintf(loaded, TEXT, "%s", given ? given : *load_next ? "" : store[key[0] - 'a']);
     append(asked, "\n", "load", NULL);
-    for (size_t i = 0; i < len; i++) {
-        char *held = store[all[i]->key[0] - 'a'];
-        const char *given = find(load_next, kept((char[]){all[i]->key[0], '=', 0}, 2));
-        all[i]->has_failed = strcmp(load_next, "fails") == 0;
-        all[i]->loaded = given ? kept(given, strcspn(given, " ")) : *held && !*load_next ? kept(held, strlen(held)) : NULL;
-        append(asked, " ", all[i]->key, NULL);
-    }
-    *load_next = 0;
+    append(asked, " ", key, NULL);
+    load_next = "";
+    return has_failed ? JC_FAILED : *loaded ? JC_FOUND : JC_NOTHING;
 }
 
-/* The writer, asked for these keys at once: to delete those without a value. */
-static void ask_writer(item **all, size_t len) {
-    char *answer = kept(write_next, strlen(write_next));
-    bool is_idle = strcmp(answer, "lies") == 0 || strcmp(answer, "fails") == 0;
-    *write_next = 0;
-    append(asked, "\n", all[0]->value ? "write" : "delete", NULL);
-    for (size_t i = 0; i < len; i++) {
-        bool is_named = strlen(answer) > 6 && has(answer, all[i]->key);
-        all[i]->has_failed = is_named || strcmp(answer, "fails") == 0 || has(answer, "though");
-        if (!is_idle && !is_named) {
-            strcpy(store[all[i]->key[0] - 'a'], all[i]->value ? all[i]->value : "");
+/* Has the writer write a value, or, without one, delete the key: jc_answer. */
+static uint32_t ask_writer(const char *key, const char *value) {
+    bool has_failed = find(write_next, "fails") != NULL;
+    if (!*write_next || find(write_next, "though")) {
+        strcpy(store[key[0] - 'a'], value ? value : "");
+    }
+    append(asked, "\n", value ? "write" : "delete", NULL);
+    append(asked, " ", key, value);
+    write_next = "";
+    return has_failed ? JC_FAILED : JC_WRITTEN;
+}
+
+/* Runs a processor, whose acts are words, and asks the writer for what it has done. */
+static jc_processed process(const char *key, const jc_out *out) {
+    char answers[TEXT] = "", loaded[TEXT], cached[JC_VALUE_MAX + 1];
+    const char *value = NULL;
+    jc_processed done = {.load = JC_NOT_ASKED};
+    if (out->reply == JC_VALUE) {
+        snprintf(cached, sizeof cached, "%.*s", (int)out->value.len, (const char *)out->value.bytes);
+        value = cached;
+    }
+    for (size_t i = 3; i < words_len && done.effect != JC_PROCESS_FAILED; i++) {
+        const char *act = words[i], *set = find(act, "set=");
+        if (strcmp(act, "get") == 0 && !value && out->code == 1 && done.load == JC_NOT_ASKED && done.effect == JC_KEEP) {
+            done.load = ask_loader(key, loaded);
+            value = done.load == JC_FOUND ? loaded : NULL;
+            done.loaded = value_of(loaded);
         }
-        append(asked, " ", all[i]->key, all[i]->value);
-    }
-}
-
-/* Runs a processor: its acts are words. */
-static void process(item *it, char **acts, size_t len) {
-    char answers[TEXT] = "";
-    const char *value = it->out.reply == JC_VALUE ? kept((char *)it->out.value.bytes, it->out.value.len) : NULL;
-    jc_processed *done = &it->done;
-    *done = (jc_processed){0};
-    for (size_t i = 0; i < len && done->effect != JC_PROCESS_FAILED; i++) {
-        bool is_set = strncmp(acts[i], "set=", 4) == 0, is_remove = strcmp(acts[i], "remove") == 0;
-        if (strcmp(acts[i], "get") == 0) {
-            if (!value && it->out.code == 1 && done->load == JC_NOT_ASKED && done->effect == JC_KEEP) {
-                ask_loader(&it, 1);
-                value = it->loaded;
-                done->load = it->has_failed ? JC_FAILED : value ? JC_FOUND : JC_NOTHING;
-                done->loaded = value_of(value ? value : "");
-            }
-            append(answers, " ", value ? value : "none", NULL);
-        } else if (strcmp(acts[i], "exists") == 0) {
-            append(answers, " ", value ? "true" : "false", NULL);
-        } else if (strcmp(acts[i], "fail") == 0) {
-            done->effect = JC_PROCESS_FAILED;
-        } else if ((is_set || is_remove) && done->load != JC_FAILED) {
-            value = is_set ? acts[i] + 4 : NULL;
-            done->effect = is_set ? JC_SET : JC_TAKE_OUT;
-            done->set = value_of(value ? value : "");
+        if (strcmp(act, "get") == 0 || strcmp(act, "exists") == 0) {
+            append(answers, " ", *act == 'g' ? (value ? value : "none") : value ? "true" : "false", NULL);
+        } else if (strcmp(act, "fail") == 0) {
+            done.effect = JC_PROCESS_FAILED;
+        } else if (done.load != JC_FAILED) {
+            value = set;
+            done.effect = set ? JC_SET : JC_TAKE_OUT;
         }
     }
-    it->value = value;
-    done->has_outcome = true;
-    done->outcome = value_of(*answers ? answers : "ok");
-}
-
-/* All that have this next, or whose processor has this effect; then they are asked together. */
-static void ask_all(item *items, size_t len, uint32_t next, uint32_t effect) {
-    item *all[ITEMS];
-    size_t count = 0;
-    for (size_t i = 0; i < len; i++) {
-        bool is_one = items[i].out.next == next && (next != JC_RUN_PROCESSOR || (items[i].done.effect == effect && items[i].done.load != JC_FAILED));
-        if (is_one) {
-            all[count++] = &items[i];
-        }
+    done.set = value_of(value ? value : "");
+    done.has_outcome = true;
+    done.outcome = value_of(*answers ? answers : "ok");
+    if (shape.write_through && (done.effect == JC_SET || done.effect == JC_TAKE_OUT) && done.load != JC_FAILED) {
+        done.write = ask_writer(key, value);
     }
-    if (count && next == JC_ASK_LOADER) {
-        ask_loader(all, count);
-    } else if (count && (next != JC_RUN_PROCESSOR || shape.write_through)) {
-        ask_writer(all, count);
-        for (size_t i = 0; i < count; i++) {
-            all[i]->done.write = all[i]->has_failed ? JC_FAILED : JC_WRITTEN;
-        }
-    }
+    return done;
 }
 
-/* A call of one key or of many: one round. Each key is a session's. */
-static void call(uint32_t op, item *items, size_t len, const char *old, char **acts, size_t acts_len) {
-    for (size_t i = 0; i < len; i++) {
-        const char *value = items[i].value ? items[i].value : "", *first = op == JC_REMOVE_IF || op == JC_REPLACE_IF ? old : value;
-        CHECK(jc_begin(&desk, (uint32_t)i, op, BYTES(items[i].key), BYTES(first), BYTES(op == JC_REPLACE_IF ? value : ""), &items[i].out) == JC_OK);
-        items[i].value = items[i].out.next == JC_HAVE_DELETED ? NULL : items[i].value;
-        if (items[i].out.next == JC_RUN_PROCESSOR) {
-            process(&items[i], acts, acts_len);
-        }
-    }
-    ask_all(items, len, JC_ASK_LOADER, 0);
-    ask_all(items, len, JC_HAVE_WRITTEN, 0);
-    ask_all(items, len, JC_HAVE_DELETED, 0);
-    ask_all(items, len, JC_RUN_PROCESSOR, JC_SET);
-    ask_all(items, len, JC_RUN_PROCESSOR, JC_TAKE_OUT);
-    for (size_t i = 0; i < len; i++) {
-        item *it = &items[i];
-        uint32_t next = it->out.next;
-        uint64_t number = it->out.number;
-        if (next == JC_ASK_LOADER) {
-            uint32_t answer = it->has_failed ? JC_FAILED : it->loaded ? JC_FOUND : JC_NOTHING;
-            CHECK(jc_commit_load(&desk, number, answer, 0, BYTES(it->loaded ? it->loaded : ""), &it->out) == JC_OK);
-        } else if (next == JC_HAVE_WRITTEN || next == JC_HAVE_DELETED) {
-            CHECK(jc_commit_write(&desk, number, it->has_failed ? JC_FAILED : JC_WRITTEN, 0, &it->out) == JC_OK);
-        } else if (next == JC_RUN_PROCESSOR) {
-            CHECK(jc_commit_process(&desk, number, &it->done, &it->out) == JC_OK);
-        } else if (next == JC_JOINED) {
-            CHECK(jc_pick_up(&desk, (uint32_t)i, it->out.call, BYTES(it->key), number, &it->out) == JC_OK);
-        }
-        CHECK(it->out.next == JC_DONE);
-    }
-}
-
-static const char *reply_of(const jc_out *out) {
-    static const char *const REPLIES[] = {"ok", "false", "true", "none", "", "loader failed", "writer failed", "processor failed"};
-    return out->reply == JC_VALUE ? kept((const char *)out->value.bytes, out->value.len) : REPLIES[out->reply];
-}
-
-/* The value in a word KEY=VALUE, which is cut there; NULL: it has none. */
-static char *cut(char *word) {
-    char *at = strchr(word, '=');
-    return at ? *at = 0, at + 1 : NULL;
-}
-
-/* Makes the call of a line: its reply is in found. */
-static void make_call(void) {
-    static item items[ITEMS];
-    const char *verb = words[0];
-    bool is_many = strstr(verb, "_many") || strstr(verb, "_all") || strcmp(verb, "clear") == 0, is_named = strstr(verb, "_many") != NULL;
-    size_t len = 0, first = 1, ends = words_len, acts = words_len;
+/* Makes the call of a line, of which the reply is in found. */
+static void call(void) {
     uint32_t op = 0;
-    char name[TEXT];
-    strcpy(name, strcmp(verb, "remove_all") == 0 ? "remove" : verb);
-    if (strcmp(verb, "load_many") == 0 && words_len > 1 && strcmp(words[1], "replacing") == 0) {
-        strcpy(name, "reload");
-        first = 2;
-    } else if (is_named && strcmp(verb, "load_many") != 0) {
-        *strstr(name, "_many") = 0;
-    }
-    while (strcmp(VERBS[op], name) != 0) {
+    while (strcmp(VERBS[op], words[0]) != 0) {
         CHECK(++op < sizeof VERBS / sizeof *VERBS);
     }
-    for (size_t i = 1; i < words_len && op == JC_INVOKE; i++) {
-        ends = strcmp(words[i], "do") == 0 ? i : ends;
-        acts = ends + 1;
+    const char *key = words[1], *value = op != JC_INVOKE && words_len > 2 ? words[2] : "", *other = op == JC_REPLACE_IF ? words[3] : "";
+    jc_out out = {0};
+    CHECK(jc_begin(&desk, 0, op, BYTES(key), BYTES(value), BYTES(other), &out) == JC_OK);
+    uint64_t ticket = out.number;
+    if (out.next == JC_ASK_LOADER) {
+        char loaded[TEXT];
+        uint32_t answer = ask_loader(key, loaded);
+        CHECK(jc_commit_load(&desk, ticket, answer, 0, BYTES(loaded), &out) == JC_OK);
+    } else if (out.next == JC_HAVE_WRITTEN || out.next == JC_HAVE_DELETED) {
+        uint32_t answer = ask_writer(key, out.next == JC_HAVE_WRITTEN ? words[words_len - 1] : NULL);
+        CHECK(jc_commit_write(&desk, ticket, answer, 0, &out) == JC_OK);
+    } else if (out.next == JC_RUN_PROCESSOR) {
+        jc_processed done = process(key, &out);
+        CHECK(jc_commit_process(&desk, ticket, &done, &out) == JC_OK);
     }
-    for (size_t i = first; is_named && i < ends; i++) {
-        char *value = cut(words[i]);
-        items[len++] = (item){.key = words[i], .value = value};
-    }
-    if (!is_many) {
-        items[len++] = (item){.key = words[1], .value = op != JC_INVOKE && op != JC_REMOVE_IF && words_len > 2 ? words[words_len - 1] : NULL};
-    } else if (!is_named) {
-        static jc_entry entries[ITEMS];
-        CHECK(jc_entries(&desk, entries, ITEMS, &len) == JC_OK);
-        for (size_t i = 0; i < len; i++) {
-            items[i] = (item){.key = kept((char *)entries[len - 1 - i].key.bytes, entries[len - 1 - i].key.len)};
-        }
-    }
-    char was_written[TEXT];
-    strcpy(was_written, write_next);
-    call(op, items, len, words_len > 2 ? words[2] : "", words + acts, acts < words_len ? words_len - acts : 0);
-    /* Replies in the order of the keys, and which keys have failed. */
-    char failed[TEXT] = "", values[TEXT] = "";
-    const char *fault = has(was_written, "fails") && !*write_next ? "writer failed" : NULL;
-    for (char key = 'a'; key <= 'z'; key++) {
-        for (size_t i = 0; i < len; i++) {
-            const char *reply = reply_of(&items[i].out);
-            if (items[i].key[0] != key || (i > 0 && strchr(failed, key)) || (op == JC_GET && find(values, kept((char[]){key, '=', 0}, 2)))) {
-                continue;
-            }
-            if (op == JC_INVOKE) {
-                append(values, "; ", items[i].key, reply);
-            } else if (strstr(reply, " failed")) {
-                append(failed, " ", items[i].key, NULL);
-                fault = reply;
-            } else if (op == JC_GET && items[i].out.reply == JC_VALUE) {
-                append(values, " ", items[i].key, reply);
-            }
-        }
-    }
-    if (!is_many) {
-        append(found, "", reply_of(&items[0].out), NULL);
-    } else if (op == JC_INVOKE) {
-        append(found, "", values, NULL);
-    } else if (fault) {
-        append(found, "", fault, NULL);
-        append(found, " at ", *failed ? failed : "no key", NULL);
-    } else if (op == JC_GET && *values) {
-        append(found, "", values, NULL);
-    } else {
-        append(found, "", op == JC_GET ? "none" : "ok", NULL);
-    }
+    CHECK(out.next == JC_DONE);
+    snprintf(found, TEXT, "%.*s", out.reply == JC_VALUE ? (int)out.value.len : TEXT, out.reply == JC_VALUE ? (char *)out.value.bytes : REPLIES[out.reply]);
 }
 
 static void count(void) {
     jc_statistics it;
     CHECK(jc_statistics_of(&desk, &it) == JC_OK);
-    const struct { const char *name; uint64_t count; } counts[] = {
-        {"hits", it.hits}, {"misses", it.misses}, {"puts", it.puts}, {"removals", it.removals}, {"evictions", it.evictions}};
+    const char *const names[] = {"hits", "misses", "puts", "removals", "evictions"};
+    const uint64_t counts[] = {it.hits, it.misses, it.puts, it.removals, it.evictions};
     for (size_t i = 0; i < 5; i++) {
-        if (counts[i].count) {
-            size_t len = strlen(found);
-            snprintf(found + len, TEXT - len, "%s%s %u", len ? " " : "", counts[i].name, (unsigned)counts[i].count);
+        char number[TEXT];
+        snprintf(number, TEXT, "%s %u", names[i], (unsigned)counts[i]);
+        if (counts[i]) {
+            append(found, " ", number, NULL);
         }
     }
 }
 
-/* Shows the store, or what is cached. */
+/* The entries of the store, or of the cache. */
 static void look(bool is_store) {
     for (char key[2] = "a"; *key <= 'z'; ++*key) {
+        char text[JC_VALUE_MAX + 1] = "";
         jc_value value = {0};
         if (is_store ? *store[*key - 'a'] != 0 : jc_peek(&desk, BYTES(key), &value) == JC_OK) {
-            append(found, " ", key, is_store ? store[*key - 'a'] : kept((char *)value.bytes, value.len));
+            snprintf(text, sizeof text, "%.*s", (int)value.len, (const char *)value.bytes);
+            append(found, " ", key, is_store ? store[*key - 'a'] : text);
         }
     }
 }
 
-/* Plays a line: what it answers is in found. */
-static void step(const char *line) {
-    const char *verb = words[0];
-    if (strcmp(verb, "with") == 0) {
-        return;
-    }
-    if (strcmp(verb, "load") == 0 || strcmp(verb, "write") == 0) {
-        strcpy(*verb == 'l' ? load_next : write_next, strchr(line, ' ') + 1);
-    } else if (strcmp(verb, "store") == 0) {
-        for (size_t i = 1; i < words_len; i++) {
-            strcpy(store[words[i][0] - 'a'], words[i] + 2);
-        }
-    } else if (strcmp(verb, "cache") == 0) {
-        for (size_t i = 1; i < words_len; i++) {
-            char *value = cut(words[i]);
-            jc_out out = {0};
-            CHECK(jc_begin(&desk, 0, JC_LOAD, BYTES(words[i]), NONE, NONE, &out) == JC_OK && out.next == JC_ASK_LOADER);
-            CHECK(jc_commit_load(&desk, out.number, JC_FOUND, 0, BYTES(value), &out) == JC_OK);
-        }
-    } else if (strcmp(verb, "counted") == 0) {
+/* Plays a line; what it shows or replies is in found. Whether it shows what there is. */
+static bool step(const char *line) {
+    const char *verb = words[0], *rest = strchr(line, ' ');
+    bool is_store = strcmp(verb, "store") == 0, is_cache = strcmp(verb, "cache") == 0;
+    bool is_count = strcmp(verb, "counted") == 0, is_look = strcmp(verb, "stored") == 0 || strcmp(verb, "cached") == 0;
+    if (strcmp(verb, "load") == 0) {
+        load_next = rest + 1;
+    } else if (strcmp(verb, "write") == 0) {
+        write_next = rest + 1;
+    } else if (is_count) {
         count();
-    } else if (strcmp(verb, "stored") == 0 || strcmp(verb, "cached") == 0) {
-        look(strcmp(verb, "stored") == 0);
-    } else {
-        make_call();
+    } else if (is_look) {
+        look(*verb == 's');
+    } else if (!is_store && !is_cache && strcmp(verb, "with") != 0) {
+        call();
     }
-}
-
-/* The place of a line of the case that can't be played; -1: there is none. */
-static int lacking(size_t at, size_t lines_len) {
-    for (size_t i = at; i < lines_len && (i == at || strncmp(lines[i], "case ", 5) != 0); i++) {
-        for (int lack = 0; lack < (int)(sizeof left_out / sizeof *left_out); lack++) {
-            if (find(lines[i], left_out[lack].word)) {
-                return lack;
-            }
+    for (size_t i = 1; i < words_len && (is_store || is_cache); i++) {
+        char key[] = {words[i][0], 0};
+        jc_out out = {0};
+        if (is_store) {
+            strcpy(store[*key - 'a'], words[i] + 2);
+        } else {
+            CHECK(jc_begin(&desk, 0, JC_LOAD, BYTES(key), NONE, NONE, &out) == JC_OK && out.next == JC_ASK_LOADER);
+            CHECK(jc_commit_load(&desk, out.number, JC_FOUND, 0, BYTES(words[i] + 2), &out) == JC_OK);
         }
     }
-    return -1;
+    return is_count || is_look;
 }
 
-/* Plays a case, whose lines begin here, up to the first difference. */
-static void play(const char *path, size_t at, size_t lines_len) {
+/* Plays the lines of a case up to the first difference. */
+static void play(const char *path, size_t from, size_t to) {
+    const char *options = strncmp(lines[from], "with ", 5) == 0 ? lines[from] : "", *capacity = find(options, "capacity ");
     memset(store, 0, sizeof store);
-    char options[TEXT];
-    strcpy(options, strncmp(lines[at + 1], "with ", 5) == 0 ? lines[at + 1] : "");
-    const char *capacity = find(options, "capacity ");
-    shape = (jc_shape){.stripes = 1, .capacity = capacity ? (size_t)atoi(capacity) : 100, .history = 260, .read_through = has(options, "read"),
-                       .write_through = has(options, "write"), .out_size = sizeof(jc_out)};
     desk = (jc_desk){0};
+    shape = (jc_shape){.stripes = 1, .capacity = capacity ? (size_t)atoi(capacity) : 100, .history = 260, .read_through = find(options, "read"),
+                       .write_through = find(options, "write"), .out_size = sizeof(jc_out)};
     CHECK(jc_open(&desk, &shape, 0, (jc_entry[1]){0}, 0) == JC_OK);
-    for (size_t i = at + 1; i < lines_len && strncmp(lines[i], "case ", 5) != 0; i++) {
-        if (!*lines[i] || *lines[i] == '#') {
-            continue;
-        }
-        char line[TEXT], wanted[TEXT] = "", asks[TEXT] = "";
-        size_t number = i + 1;
+    for (size_t i = from, next; i < to; i = next) {
+        char line[TEXT], asks[TEXT] = "", *wanted = strchr(lines[i], ':');
         strcpy(line, lines[i]);
-        char *reply = strchr(line, ':');
-        if (reply) {
-            *reply = 0;
-            strcpy(wanted, reply + 2);
+        line[strcspn(line, ":")] = 0;
+        for (next = i + 1; next < to && strncmp(lines[next], "asks ", 5) == 0; next++) {
+            append(asks, "\n", lines[next] + 5, NULL);
         }
-        for (; i + 1 < lines_len && strncmp(lines[i + 1], "asks ", 5) == 0; i++) {
-            append(asks, "\n", lines[i + 1] + 5, NULL);
-        }
-        *found = *asked = 0;
-        char *text = kept(line, strlen(line));
         words_len = 0;
-        for (char *word = strtok(text, " "); word && words_len < WORDS; word = strtok(NULL, " ")) {
+        for (char *word = strtok(line, " "); word && words_len < WORDS; word = strtok(NULL, " ")) {
             words[words_len++] = word;
         }
-        CHECK(words_len);
-        step(line);
-        if (strcmp(words[0], "counted") == 0 || strcmp(words[0], "stored") == 0 || strcmp(words[0], "cached") == 0) {
-            strcpy(wanted, strchr(line, ' ') + 1);
-            append(found, "", *found ? "" : "nothing", NULL);
-        }
+        *found = *asked = 0;
+        bool is_look = words_len && *words[0] != '#' && step(lines[i]);
+        wanted = is_look ? strchr(lines[i], ' ') + 1 : wanted && *words[0] != '#' ? wanted + 2 : "";
+        append(found, "", is_look && !*found ? "nothing" : "", NULL);
         if (strcmp(found, wanted) != 0 || strcmp(asked, asks) != 0) {
-            fprintf(stderr, "%s:%zu: %s: wanted %s (%s), found %s (%s)\n", path, number, line, wanted, asks, found, asked);
+            fprintf(stderr, "%s:%zu: %s: wanted %s (%s), found %s (%s)\n", path, i + 1, lines[i], wanted, asks, found, asked);
             exit(1);
         }
     }
-    CHECK(!*load_next && !*write_next);
-    CHECK(jc_close(&desk) == JC_OK);
+    CHECK(!*load_next && !*write_next && jc_close(&desk) == JC_OK);
+}
+
+/* Plays what it can of a file, and says how many cases that were. */
+static unsigned play_file(const char *path) {
+    unsigned played = 0;
+    size_t len = 0, from = 0, lack = LEFT_OUT;
+    FILE *file = fopen(path, "r");
+    CHECK(file);
+    for (char line[TEXT]; fgets(line, TEXT, file);) {
+        CHECK(len < LINES - 1);
+        line[strcspn(line, "\n")] = 0;
+        strcpy(lines[len++], line + strspn(line, " "));
+    }
+    fclose(file);
+    strcpy(lines[len], "case ");
+    for (size_t at = 0; at <= len; at++) {
+        for (size_t i = 0; from && lack == LEFT_OUT && i < LEFT_OUT; i++) {
+            lack = strstr(lines[at], left_out[i].text) && strncmp(lines[at], "case ", 5) != 0 ? i : lack;
+        }
+        if (strncmp(lines[at], "case ", 5) == 0) {
+            if (lack < LEFT_OUT) {
+                left_out[lack].cases++;
+            } else if (from) {
+                play(path, from, at);
+                played++;
+            }
+            lack = LEFT_OUT;
+            from = at + 1;
+        }
+    }
+    return played;
 }
 
 int main(int count, char **paths) {
     unsigned played = 0;
     for (int i = 1; i < count; i++) {
-        FILE *file = fopen(paths[i], "r");
-        CHECK(file);
-        size_t len = 0;
-        for (char line[TEXT]; fgets(line, TEXT, file); len++) {
-            CHECK(len < LINES);
-            line[strcspn(line, "\n")] = 0;
-            strcpy(lines[len], line + strspn(line, " "));
-        }
-        fclose(file);
-        for (size_t at = 0; at < len; at++) {
-            if (strncmp(lines[at], "case ", 5) == 0) {
-                int lack = lacking(at + 1, len);
-                if (lack >= 0) {
-                    left_out[lack].cases++;
-                } else {
-                    play(paths[i], at, len);
-                    played++;
-                }
-            }
-        }
+        played += play_file(paths[i]);
     }
     printf("%u cases played", played);
-    for (size_t i = 0; i < sizeof left_out / sizeof *left_out; i++) {
-        printf(", %u left out: %s (%s)", left_out[i].cases, left_out[i].word, left_out[i].reason);
+    for (size_t i = 0; i < LEFT_OUT; i++) {
+        printf(", %u left out: %s (%s)", left_out[i].cases, left_out[i].text, left_out[i].reason);
     }
     printf("\n");
     return played == 0;
