@@ -70,12 +70,17 @@ class Worker:
 class Player:
     """Plays one case. It is the loader and the writer, too: each call does its work, and then it may be held."""
 
+    sleeps_in = waiting
+
     def __init__(self, options):
         self.stored, self.load_next, self.write_next, self.before, self.now = {}, [], [], None, 0
         self.own, self.workers, self.mine = Worker(), {}, threading.local()
         numbers = {name: int(number) for name, number in zip(options, options[1:]) if number.isdigit()}
-        self.cache = cadwrelch.Cache(self, self, stripes=1, read_through='read' in options, write_through='write' in options,
-                                     timer=lambda: self.now, **{'capacity': 100, **numbers})
+        self.cache = self.make_cache(stripes=1, read_through='read' in options, write_through='write' in options, timer=lambda: self.now,
+                                     **{'capacity': 100, **numbers})
+
+    def make_cache(self, **words):
+        return cadwrelch.Cache(self, self, **words)
 
     def worker(self):
         return getattr(self.mine, 'worker', self.own)
@@ -121,8 +126,8 @@ class Player:
             raise Broken('writer')
 
     def play(self, steps):
-        sleep = waiting._sleep
-        with mock.patch.object(waiting, '_sleep', lambda waits_at: self.worker().come('waits') or sleep(waits_at)):
+        sleep = self.sleeps_in._sleep
+        with mock.patch.object(self.sleeps_in, '_sleep', lambda waits_at: self.worker().come('waits') or sleep(waits_at)):
             for number, words, reply, asks in steps:
                 is_look, is_begun = hasattr(self, 'see_' + words[0]), words[1:2] in (['begins'], ['waits'])
                 found, worker = self.step(*words)
@@ -137,19 +142,16 @@ class Player:
         """What a line answers, and the thread that it is about."""
         if first.isdigit():
             return self.threaded(first, *words)
-        if hasattr(self, 'see_' + first):
-            return getattr(self, 'see_' + first)(), self.own
-        if hasattr(self, 'do_' + first):
-            return getattr(self, 'do_' + first)(*words) or '', self.own
-        return self.reply(first, words), self.own
+        do = getattr(self, 'see_' + first, None) or getattr(self, 'do_' + first, None)
+        return (do(*words) or '' if do else self.reply(first, words)), self.own
 
-    def see_stored(self):
+    def see_stored(self, *_):
         return in_order(self.stored, 'nothing')
 
-    def see_cached(self):
+    def see_cached(self, *_):
         return in_order({key: self.cache.hit(key) for key in self.cache.keys()}, 'nothing')
 
-    def see_counted(self):
+    def see_counted(self, *_):
         counts = self.cache.stats()
         return ' '.join(f'{name} {counts[name]}' for name in COUNTS if counts[name]) or 'nothing'
 
@@ -162,7 +164,7 @@ class Player:
     def do_cache(self, *words):
         for key, value in pairs(words).items():
             self.before = {key: value}
-            self.cache.load_many([key])
+            self.call('load_many', [key])
         self.before = None
 
     def do_load(self, *words):
@@ -215,21 +217,23 @@ class Player:
         return call(words) if verb.endswith('_many') else call(*words)
 
     def process(self, entry, acts):
-        answers = []
-        for act in acts:
-            if act == 'get':
-                answers.append(value_of(entry))
-            elif act == 'exists':
-                answers.append(str(entry.exists()).lower())
-            elif act == 'remove':
-                entry.remove()
-            elif act == 'hold':
-                self.worker().hold('processor')
-            elif act == 'fail':
-                raise Broken('processor')
-            else:
-                entry.value = act.partition('=')[2]
-        return ' '.join(answers) or 'ok'
+        return ' '.join([answer for act in acts if (answer := self.act(entry, act))]) or 'ok'
+
+    def act(self, entry, act):
+        """What an act is answered, if anything."""
+        if act == 'get':
+            return value_of(entry)
+        if act == 'exists':
+            return str(entry.exists()).lower()
+        if act == 'fail':
+            raise Broken('processor')
+        if act == 'remove':
+            entry.remove()
+        elif act == 'hold':
+            self.worker().hold('processor')
+        else:
+            entry.value = act.partition('=')[2]
+        return ''
 
 
 def value_of(entry):
@@ -240,6 +244,8 @@ def value_of(entry):
 
 
 class Cases(unittest.TestCase):
+    player = Player
+
     def test_cases(self):
         folder = next((place for place in PLACES if os.path.isdir(place)), None)
         if folder is None:
@@ -252,6 +258,6 @@ class Cases(unittest.TestCase):
                 if not lacks:
                     played += 1
                     with self.subTest(file=os.path.basename(path), case=name):
-                        Player(steps[0][1] if steps[0][1][0] == 'with' else []).play(steps)
-        print(f'{played} cases played' + ''.join(f', {count} left out: {lack} ({LEFT_OUT[lack]})' for lack, count in left_out.items()))
+                        self.player(steps[0][1] if steps[0][1][0] == 'with' else []).play(steps)
+        print(f'{self.player.__name__}: {played} cases played' + ''.join(f', {count} left out: {lack} ({LEFT_OUT[lack]})' for lack, count in left_out.items()))
         self.assertGreater(played, 0)
