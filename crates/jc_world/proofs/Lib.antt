@@ -25,6 +25,8 @@ pub mod Committing
 pub mod Asked
 pub mod Dues
 pub mod Kept
+pub mod Cleared
+pub mod Marked
 pub mod KeyChanges
 pub mod Maps
 pub mod CallerLemmas
@@ -37,6 +39,7 @@ pub mod Phased
 pub mod Opened
 pub mod Sounding
 pub mod Reopening
+pub mod Telling
 pub mod AllPremises
 pub mod OverCalls
 pub mod LastOpenings

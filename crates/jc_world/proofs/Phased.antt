@@ -1,5 +1,5 @@
 -- What the machine of a world does in a first and a last phase is what the definitions say.
-use Rattle.jc_world.proofs.Common.{◌≡◌, ℕ, zero, suc, true, false, cond, List, [], ◌∷◌, ◌++◌, length, drop, is_some, IsSomeAnd, slice_get, slice_set, Some, None, Option, sym, refl, ap, ◌∙◌, subst, subst₂, append-nil, and_parts, get, insert, remove, Config, Refusal, Bytes, Event, Op, Played, MayBegin, Commits, Withdraws, PicksUp, reserves, State, IsOut, IsJoined, TicketClaim, JoinClaim, Begun, Polled, StepDone, First, Loader, Nobody, Processor, Writer, Reservation, Outcome, Over, Part, JoinAnswer, PartProgress, Shown, Stepped, WorldEvent, keeps_open, CallState, op_at, settle, over_settled, step_of, not_over, fault_in, over_by, asks_as, new_progress, new_part, with_new_part, BeginsAs, ReservesAs, StartsAs, RefusesAs, Happens, is_free, may_start, fits, IsDue, IsHeld, IsSoundWorld, OrderedStripes, IsPhase, IsQuietPhase, Parts, join_key, WorldState, home, stripe_for, open_call, part_of, out_of_part, join_of}
+use Rattle.jc_world.proofs.Common.{◌≡◌, ℕ, zero, suc, true, false, cond, List, [], ◌∷◌, ◌++◌, length, drop, is_some, IsSomeAnd, slice_get, slice_set, Some, None, Option, sym, refl, ap, ◌∙◌, subst, subst₂, append-nil, and_parts, get, insert, remove, Config, Refusal, Bytes, Event, Op, Played, MayBegin, Commits, Withdraws, PicksUp, reserves, State, IsOut, IsJoined, TicketClaim, JoinClaim, Begun, Polled, StepDone, First, Loader, Nobody, Processor, Writer, Reservation, Outcome, Over, Part, JoinAnswer, PartProgress, Shown, Stepped, WorldEvent, keeps_open, CallState, op_at, settle, over_settled, step_of, not_over, fault_in, over_by, asks_as, new_progress, new_part, with_new_part, BeginsAs, ReservesAs, StartsAs, RefusesAs, Happens, is_free, may_start, fits, IsDue, IsHeld, IsSoundWorld, OrderedStripes, IsPhase, IsQuietPhase, Parts, join_key, WorldState, home, stripe_for, open_call, part_of, out_of_part, join_of, is_none, cached_entry, without_foreign}
 use Rattle.jc_world.proofs.Lemmas.{missing, join_at, may_start_at, begins_at, was_free, some_of}
 use Rattle.jc_world.proofs.Holding.{is_part}
 use Rattle.jc_world.proofs.Kept.{unheld, stripe_at}
@@ -112,10 +112,10 @@ started_refused v next call key u op refusal seen stripes order calls p shows ca
 
 -- a key is reserved, and its stripe appends nothing
 reserved : (v next : WorldState) (key : Bytes) (phase : State → State → Type 0) (stripes : List State) (order : List Event) (parts : Parts) (progress : PartProgress) (r : Reservation) (q : Phased v (home v key) phase stripes order) → r.key ≡ key → q.to.history ≡ q.from.history
-    → parts ≡ insert v.parts r.key (new_part progress r) → next ≡ record v { stripes = stripes; order = order; parts = parts } → next ≡ with_new_part v key q.to progress r
+    → parts ≡ insert v.parts r.key (new_part progress r) → next ≡ record v { stripes = stripes; order = order; parts = parts; foreign = without_foreign v.foreign key (is_none (cached_entry v key)) } → next ≡ with_new_part v key q.to progress r
 reserved v next key phase stripes order parts progress r q key_is same put next_is =
     let parts_are = put ∙ ap (λ k. insert v.parts k (new_part progress r)) key_is in
-    next_is ∙ (λ i. record v { stripes = q.stripes_are i; order = quiet_order v (home v key) phase stripes order q same i; parts = parts_are i })
+    next_is ∙ (λ i. record v { stripes = q.stripes_are i; order = quiet_order v (home v key) phase stripes order q same i; parts = parts_are i; foreign = without_foreign v.foreign key (is_none (cached_entry v key)) })
 
 -- a call has joined a load
 pub started_joins : (v next : WorldState) (call : ℕ) (key : Bytes) (u : CallState) (op : Op) (join : JoinClaim) (stripes : List State) (order : List Event) → StartPhase v call key u op (Begun.Joined join) stripes order
@@ -128,7 +128,7 @@ started_joins v next call key u op join stripes order p next_is =
 -- a key is reserved, its ticket is held, and it is shown who is asked
 pub started_ticket : (v next : WorldState) (call : ℕ) (key : Bytes) (u : CallState) (op : Op) (ticket : TicketClaim) (seen : Shown) (stripes : List State) (order : List Event) (parts : Parts) → StartPhase v call key u op (Begun.Asks ticket) stripes order
     → seen ≡ not_over (asks_as ticket.reservation.first) → parts ≡ insert v.parts ticket.reservation.key (new_part (new_progress ticket.reservation.first) ticket.reservation)
-    → next ≡ record v { stripes = stripes; order = order; parts = parts } → Happens v (WorldEvent.Start call key) seen next
+    → next ≡ record v { stripes = stripes; order = order; parts = parts; foreign = without_foreign v.foreign key (is_none (cached_entry v key)) } → Happens v (WorldEvent.Start call key) seen next
 started_ticket v next call key u op ticket seen stripes order parts p shown put next_is =
     let m = p.phase.made in
     let first = ticket.reservation.first in

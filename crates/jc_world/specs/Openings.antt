@@ -7,7 +7,7 @@
 --     IsReopenedWorld   a reopening left an opening in the new shape, with the store and the numbers of calls as they were. Each
 --                       stripe opens with what it keeps, in this order of use. Each key has the entry that it had, but for those
 --                       that are shown, which are dropped. The premises hold then exactly if write-through is on and what is cached
---                       is the store's
+--                       is the store's, but for keys that others have written and the cache wasn't told of
 --     ReopensOpen       every reopening does so
 use Rattle.std.specs.Prelude.{◌≡◌, ◌==◌, ◌⊎◌, ◌↔◌, ◌++◌, ℕ, List, [], ◌∷◌, slice_get, Bool, true, None, Some, if◌then◌else◌}
 use Rattle.std.specs.List.{list_any}
@@ -23,7 +23,7 @@ use Rattle.jc_world.specs.declared.event.Shown.{Shown}
 use Rattle.jc_world.specs.World.{WorldState, cached_entry}
 use Rattle.jc_world.specs.Events.{Run, Step, keys_dropped}
 use Rattle.jc_world.specs.Fits.{fits}
-use Rattle.jc_world.specs.Coherent.{Coherent, all_hold}
+use Rattle.jc_world.specs.Coherent.{CoherentAsTold, all_hold}
 use Rattle.jc_world.specs.Headline.{IsOpeningWorld, Reaches, ReachesSince, is_reopening}
 
 -- 1. The last opening of a run.
@@ -71,7 +71,7 @@ pub record IsReopenedWorld (config : Config) (old : WorldState) (s : Shown) (new
   pub dropped_are : s.outcome ≡ outcome.Reopened (keys_dropped config old)
   pub entries_are : (key : Bytes)
       → cached_entry new key ≡ (if is_dropped config old key then None else cached_entry old key)
-  pub premises : all_hold new ≡ true ↔ (config.write_through ≡ true) × Coherent new
+  pub premises : all_hold new ≡ true ↔ (config.write_through ≡ true) × CoherentAsTold new
 
 abbrev pub ReopensOpen : Type 0
 ReopensOpen =

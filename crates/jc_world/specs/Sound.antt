@@ -68,7 +68,7 @@ use Rattle.jc_stripe.specs.OwnSteps.{may_come_all}
 use Rattle.jc_world.specs.Calls.{CallState, SweepState, has_looked, op_at, op_for}
 use Rattle.jc_world.specs.declared.event.Part.{Part}
 use Rattle.jc_world.specs.declared.event.PartProgress.{PartProgress}
-use Rattle.jc_world.specs.World.{WorldState, home, stripe_for, cached_entry, open_call, part_of, JoinKey, Joins, join_key, is_joined, is_unanswered, Parts}
+use Rattle.jc_world.specs.World.{WorldState, home, stripe_for, cached_entry, open_call, part_of, JoinKey, Joins, join_key, is_joined, is_unanswered, Parts, is_foreign}
 use Rattle.jc_world.specs.Premises.{changed_to, is_done}
 use Rattle.jc_world.specs.Coherent.{all_hold}
 
@@ -251,7 +251,7 @@ pub record IsSoundWorld (w : WorldState) : Type 0 where
   pub joins : AllWaitedFor w w.joins
   pub called : (number : ℕ) (s : State) → slice_get w.stripes number ≡ Some s
       → AllCalled w number s.joiners
-  pub told : all_hold w ≡ true → (key : Bytes)
+  pub told : all_hold w ≡ true → (key : Bytes) → is_foreign w key ≡ false
       → KeyAgrees (get w.parts key) (entry_at w.store key) (cached_entry w key)
   pub cold : w.is_fresh ≡ true → (key : Bytes) → cached_entry w key ≡ None
   pub idle : w.is_fresh ≡ true → w.calls ≡ []

@@ -32,7 +32,11 @@
 --     has_join, is_joined             among these joins, and in a world, a call has joined a load of a key, and hasn't its answer
 --     is_free_of                      a call has neither reserved a key nor joined a load of it
 --     with_stored                     the world with this value in its store
-use Rattle.std.specs.Prelude.{◌==◌, ℕ, zero, suc, ◌+◌, List, [], ◌∷◌, length, Bool, true, false, not, ◌&&◌, Option, None, Some, find, is_none, is_some, slice_get, if◌then◌else◌}
+--     is_foreign                      somebody else has written a key since the cache last wrote it, or reserved it with no entry
+--     has_any                         the cache has something of a key: an entry, or a reservation
+--     is_untold                       somebody else has written a key, and the cache has something of it from before
+--     with_foreign, without_foreign   these keys with one more, and without one if its write counts no longer
+use Rattle.std.specs.Prelude.{◌==◌, ℕ, zero, suc, ◌+◌, List, [], ◌∷◌, length, Bool, true, false, not, ◌&&◌, ◌||◌, Option, None, Some, find, is_none, is_some, slice_get, if◌then◌else◌}
 use Rattle.std.specs.declared.cmp.Ordering.{Ordering}
 use Rattle.std.specs.Ordering.{nat_cmp, on, then_cmp}
 use Rattle.std.specs.List.{list_any}
@@ -78,6 +82,7 @@ pub record WorldState : Type 0 where
   pub stripes : List State
   pub order : List Event  -- all events since the world was opened last, over all stripes
   pub store : Cache
+  pub foreign : Cache  -- the keys that somebody else has written since the cache last wrote or newly reserved them, each with no bytes
   pub last : Option ℕ  -- the highest number of a call so far
   pub calls : List CallState  -- the calls under way, in the order in which they began
   pub parts : Parts
@@ -118,11 +123,12 @@ start config =
       stripes = fresh_stripes config 0 config.stripes;
       order = [];
       store = empty;
+      foreign = empty;
       last = None;
       calls = [];
       parts = empty;
       joins = empty;
-      premises = record { writers = true; loaders = true; quiet = true; opening = true };
+      premises = record { writers = true; loaders = true; opening = true };
       is_fresh = true;
     }
 
@@ -218,3 +224,25 @@ is_free_of parts joins call key =
 -- 5. The store before anything has happened.
 abbrev pub with_stored : WorldState → Bytes → Bytes → WorldState
 with_stored w key value = record w { store = with_entry w.store key (Some value) }
+
+-- 6. What others have written.
+
+-- somebody else has written the key since the cache last wrote it, or reserved it with no entry
+abbrev pub is_foreign : WorldState → Bytes → Bool
+is_foreign w key = is_some (entry_at w.foreign key)
+
+-- the cache has an entry of the key, or has reserved it
+abbrev pub has_any : WorldState → Bytes → Bool
+has_any w key = is_some (cached_entry w key) || is_some (map.get w.parts key)
+
+-- and what it has may be from before that write
+abbrev pub is_untold : WorldState → Bytes → Bool
+is_untold w key = is_foreign w key && has_any w key
+
+-- with no bytes
+abbrev pub with_foreign : Cache → Bytes → Cache
+with_foreign foreign key =
+    if is_some (entry_at foreign key) then foreign else with_entry foreign key (Some [])
+
+abbrev pub without_foreign : Cache → Bytes → Bool → Cache
+without_foreign foreign key is_over = if is_over then with_entry foreign key None else foreign

@@ -18,7 +18,7 @@ pub enum WorldEvent {
     /// A session begins a call. It has no phase yet.
     ///
     /// It fits if the number is above all before it, the session is one and has no call under way, and the command is one operation
-    /// on one key that is a call by itself, or one on many keys. `Op::Clear` and `Op::LoadAll` are no calls by themselves.
+    /// on one key that is a call by itself, or one on many keys. `Op::LoadAll` is no call by itself.
     ///
     /// A call of more than [`BULK_KEYS_MAX`](jc_types::BULK_KEYS_MAX) keys is refused whole: it is over at once, and its number is
     /// used. So is a call of no keys over at once.
@@ -307,8 +307,6 @@ pub struct Premises {
     pub writers: bool,
     /// Honest loaders: each answer was a failure, or what the store held for the key when it came.
     pub loaders: bool,
-    /// A quiet store: nobody else wrote it.
-    pub quiet: bool,
-    /// A coherent opening: each entry with which the cache opened was the store's.
+    /// A coherent opening: each entry with which the cache opened was the store's, but for keys that somebody else had written.
     pub opening: bool,
 }

@@ -1,5 +1,5 @@
 //! The headline, as laws over every run.
-ghost use Rattle.jc_world.specs.Headline.{StartsOpen, StaysLegal, StaysCoherent, StaysCoherentFrom, CountsLoads};
+ghost use Rattle.jc_world.specs.Headline.{StartsOpen, StaysLegal, StaysCoherent, StaysCoherentAlone, StaysCoherentFrom, CountsLoads};
 
 use jc_stripe::phase_laws::{keeps_reserved, stays_reached};
 
@@ -24,9 +24,14 @@ pub fn stays_legal()
 }
 
 /// After every list of events: if write-through is on, each entry with which the cache opened last was the store's, and since then
-/// nobody else has written the store, each writer has reported success exactly if it had changed the store, and each loader has
-/// answered what the store held or failed, then each cached value is the store's, but for keys whose writer has changed the store
-/// and whose call isn't committed.
+/// each writer has reported success exactly if it had changed the store, and each loader has answered what the store held or failed,
+/// then each cached value is the store's, but for
+///
+/// - keys whose writer has changed the store and whose call isn't committed,
+/// - keys that are untold: somebody else has written them, and the cache has had an entry or a reservation of them ever since. A key
+///   that is cleared is told, and so is one that the cache has written itself since.
+///
+/// An entry with which the cache opened needn't be the store's if its key was untold before.
 pub fn stays_coherent()
     ensures { StaysCoherent }
 {
@@ -34,9 +39,17 @@ pub fn stays_coherent()
     keeps_reserved();
 }
 
-/// The same from any moment on, whatever came before. If no key is reserved then, and each cached value is the store's, both
-/// stay in step through every further list of events, under the same conditions, of which all but write-through need to hold
-/// only from then on.
+/// So if nobody else has written the store, each cached value is the store's, but for keys whose writer has changed the store and
+/// whose call isn't committed.
+pub fn stays_coherent_alone()
+    ensures { StaysCoherentAlone }
+{
+    stays_coherent();
+}
+
+/// The same from any moment on, whatever came before. If no key is reserved then, and each cached value but those of some keys is the
+/// store's, both stay in step through every further list of events, but for those of these keys and of those that somebody else has
+/// written since that are untold, under the same conditions, of which all but write-through need to hold only from then on.
 pub fn stays_coherent_from()
     ensures { StaysCoherentFrom }
 {

@@ -1,12 +1,12 @@
 //! The stripes of a world, and the order of all that they append to their histories.
 ghost use Rattle.std.specs.Prelude.{◌≡◌, ◌+◌, ◌-◌, ◌≤◌, ◌<◌, ◌++◌, [], Ok, true, IsSomeAnd, IfOk, OnOk, length};
-ghost use Rattle.std.specs.Prelude.{ℕ, replicate, vec_len, vec_capacity, slice_get};
+ghost use Rattle.std.specs.Prelude.{ℕ, replicate, vec_len, vec_capacity, slice_get, is_none};
 ghost use Rattle.jc_types.specs.declared.limits.TheConstants.{STEP_PLACES, JOINERS_MAX, STRIPES_MAX};
 ghost use Rattle.jc_types.specs.Limits.{check};
 ghost use Rattle.jc_stripe.specs.State.{IsOut, IsJoined};
 ghost use Rattle.jc_stripe.specs.Phases.{MayBegin, begun_with, with_reply, Commits, Withdraws, PicksUp, polled_with};
 ghost use Rattle.jc_outside.specs.declared.done.Origin.TheVariants.{Played};
-ghost use Rattle.jc_world.specs.World.{out_of_part, is_all_answered, is_unanswered, fresh_stripes};
+ghost use Rattle.jc_world.specs.World.{entry_in, out_of_part, is_all_answered, is_unanswered, fresh_stripes};
 ghost use Rattle.jc_world.specs.Sound.{IsDue};
 ghost use Rattle.jc_stripe.specs.Reached.{IsReached};
 ghost use Rattle.jc_world.specs.Ending.{AreLeft, HasHeld, HasJoins, NoneReserved};
@@ -98,6 +98,16 @@ impl Stripes {
         ensures room { OnOk result (STEP_PLACES + JOINERS_MAX ≤ self.new.room) }
     {
         self.turns.try_reserve(EVENTS_MAX)
+    }
+
+    /// Whether a stripe caches nothing for a key.
+    pub(crate) fn is_missing(&self, number: usize, key: &Key) -> bool
+        ensures { result ≡ is_none (entry_in (slice_get self.now.stripes number) key.now) }
+    {
+        match self.items.get(number) {
+            Some(stripe) => stripe.entry(key).is_none(),
+            None => true,
+        }
     }
 
     /// The first phase of an operation at a key, on the stripe of that key. What it appends is at the end of the order, too. If the call

@@ -1,0 +1,60 @@
+//! The keys that somebody else has written, and the cache may have something of from before.
+ghost use Rattle.std.specs.Prelude.{◌≡◌, is_none, OnOk, OnErr, IfOk};
+ghost use Rattle.jc_model.specs.Cache.{entry_at, with_entry};
+ghost use Rattle.jc_world.specs.World.{with_foreign, without_foreign};
+ghost use Rattle.jc_world.specs.Events.{foreign_reopened};
+
+use jc_model::Contents;
+use jc_types::{Key, Value};
+use std::alloc::{AllocError, Global};
+
+/// Somebody else gives the store a value, and the key is one of these keys then.
+pub(crate) fn write_foreign(
+    store: &mut Contents,
+    foreign: &mut Contents,
+    key: &Key,
+    value: &Option<Value>,
+) -> Result<(), AllocError>
+    ensures store { OnOk result (store.new ≡ with_entry store.old key.now value.now) }
+    ensures foreign { OnOk result (foreign.new ≡ with_foreign foreign.old key.now) }
+    ensures store_err { OnErr result (store.new ≡ store.old) }
+    ensures foreign_err { OnErr result (foreign.new ≡ foreign.old) }
+{
+    let is_new = mark(foreign, key)?;
+    if store.set(key, *value).is_err() {
+        forget(foreign, key, is_new);
+        return Err(AllocError);
+    }
+    Ok(())
+}
+
+/// Makes a key one of these keys, and says whether it was none of them.
+fn mark(foreign: &mut Contents, key: &Key) -> Result<bool, AllocError>
+    ensures ok { OnOk result (foreign.new ≡ with_foreign foreign.old key.now) }
+    ensures new { IfOk result (λ is_new. is_new ≡ is_none (entry_at foreign.old key.now)) }
+    ensures err { OnErr result (foreign.new ≡ foreign.old) }
+{
+    if foreign.get(key).is_some() {
+        return Ok(false);
+    }
+    foreign.insert(key, Value::default())?;
+    Ok(true)
+}
+
+/// If the write of a key by somebody else counts no longer, the key is none of these keys then.
+pub(crate) fn forget(foreign: &mut Contents, key: &Key, is_over: bool)
+    ensures { foreign.new ≡ without_foreign foreign.old key.now is_over }
+{
+    if is_over {
+        foreign.remove(key);
+    }
+}
+
+/// If no write by somebody else counts any longer, there is none of these keys then.
+pub(crate) fn forget_all(alloc: Global, foreign: &mut Contents, are_over: bool)
+    ensures { foreign.new ≡ foreign_reopened foreign.old are_over }
+{
+    if are_over {
+        *foreign = Contents::new(alloc);
+    }
+}
