@@ -27,6 +27,7 @@ pub mod Dues
 pub mod Kept
 pub mod Cleared
 pub mod Marked
+pub mod ListedKeys
 pub mod KeyChanges
 pub mod Maps
 pub mod CallerLemmas
@@ -41,6 +42,7 @@ pub mod Sounding
 pub mod Reopening
 pub mod Telling
 pub mod AllPremises
+pub mod Unwritten
 pub mod OverCalls
 pub mod LastOpenings
 pub mod ReservedEntries

@@ -1,8 +1,9 @@
 -- What a reopening leaves.
 --     cached_reopened     each key has the entry that it had, or none if it is dropped
 --     coherent_opened     if the world is coherent as told, so is its opening
+--     stored_opened       and if it is coherent, all that it opens with is the store's
 --     is_reopened         the whole
-use Rattle.jc_world.proofs.Common.{◌≡◌, ℕ, zero, suc, Bool, true, false, cond, List, [], ◌∷◌, slice_get, Some, None, IfSome, is_none, is_some, ◌&&◌, ◌||◌, sym, refl, ap, ◌∙◌, subst, inl, inr, and_parts, and_from, nat_list_eq_equiv, list_all, nat_list_cmp_total, get-empty, get-from_entries, stripe_of, Config, Bytes, Cache, entry_at, key_cmp, State, Shown, WorldEvent, Happens, Step, fits, stripes_reopened, after_reopening, holds, is_stored, is_as_told, opens_coherent, opens_as_told, CoherentAsTold, has_progress, has_changed, IsOpeningWorld, is_dropped, IsReopenedWorld, IsSoundWorld, WorldState, entry_in, cached_entry, none_is, is_untold, has_any}
+use Rattle.jc_world.proofs.Common.{◌≡◌, ℕ, zero, suc, Bool, true, false, cond, List, [], ◌∷◌, slice_get, Some, None, IfSome, is_none, is_some, ◌&&◌, ◌||◌, sym, refl, ap, ◌∙◌, subst, inl, inr, and_parts, and_from, nat_list_eq_equiv, list_all, nat_list_cmp_total, get-empty, get-from_entries, stripe_of, Config, Bytes, Cache, entry_at, key_cmp, State, Shown, WorldEvent, Happens, Step, fits, stripes_reopened, after_reopening, holds, is_stored, is_as_told, opens, opens_coherent, opens_as_told, Coherent, CoherentAsTold, has_progress, has_changed, IsOpeningWorld, is_dropped, IsReopenedWorld, IsSoundWorld, WorldState, entry_in, cached_entry, none_is, is_untold, has_any}
 use Rattle.std.specs.FinMap as map
 use Rattle.jc_world.specs.Events.{foreign_reopened}
 use Rattle.jc_model.specs.Listed.{has_distinct_keys}
@@ -70,14 +71,27 @@ as_told config w e cached coherent =
           is_there w.store e (subst (λ o. IfSome o (λ value. entry_at w.store e.0 ≡ Some value)) cached (coherent e.0 told (ap (has_progress has_changed) (get-empty key_cmp e.0))))
     ] refl
 
-coherent_opened : (config : Config) (w : WorldState) → IsOpeningWorld (after_reopening config w) → CoherentAsTold (after_reopening config w) → opens_as_told w.foreign w.store (stripes_reopened config w) ≡ true
-coherent_opened config w opens coherent =
+-- an opening passes a test that all that is cached passes
+opened_passes : (test : Bytes × Bytes → Bool) (config : Config) (w : WorldState) → IsOpeningWorld (after_reopening config w)
+    → ((e : Bytes × Bytes) → cached_entry (after_reopening config w) e.0 ≡ Some e.1 → test e ≡ true) → opens test (stripes_reopened config w) ≡ true
+opened_passes test config w begins each =
     let new : WorldState = after_reopening config w in
-    let sound = sound_opening new opens in
-    sym (passed_reopened (is_as_told w.foreign w.store) config w)
-    ∙ all_at (is_as_told w.foreign w.store) (all_entries new.stripes) (λ i e there.
+    let sound = sound_opening new begins in
+    sym (passed_reopened test config w)
+    ∙ all_at test (all_entries new.stripes) (λ i e there.
     let cached : cached_entry new e.0 ≡ Some e.1 = sym (found_in_all new e.0 sound.shape) ∙ found_there (all_entries new.stripes) i e (entries_once new sound) there in
-    as_told config w e cached coherent)
+    each e cached)
+
+coherent_opened : (config : Config) (w : WorldState) → IsOpeningWorld (after_reopening config w) → CoherentAsTold (after_reopening config w) → opens_as_told w.foreign w.store (stripes_reopened config w) ≡ true
+coherent_opened config w begins coherent = opened_passes (is_as_told w.foreign w.store) config w begins (λ e cached. as_told config w e cached coherent)
+
+-- an entry of a coherent world is the store's
+as_stored : (config : Config) (w : WorldState) (e : Bytes × Bytes) → cached_entry (after_reopening config w) e.0 ≡ Some e.1 → Coherent (after_reopening config w) → is_stored w.store e ≡ true
+as_stored config w e cached coherent =
+    is_there w.store e (subst (λ o. IfSome o (λ value. entry_at w.store e.0 ≡ Some value)) cached (coherent e.0 (ap (has_progress has_changed) (get-empty key_cmp e.0))))
+
+pub stored_opened : (config : Config) (w : WorldState) → IsOpeningWorld (after_reopening config w) → Coherent (after_reopening config w) → opens_coherent w.store (stripes_reopened config w) ≡ true
+stored_opened config w begins coherent = opened_passes (is_stored w.store) config w begins (λ e cached. as_stored config w e cached coherent)
 
 -- 3. The law.
 

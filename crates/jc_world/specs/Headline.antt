@@ -12,7 +12,6 @@
 --                       is what it leaves, and each stripe's history is its part of the order
 --     StaysCoherent     after every list of events, as long as the premises held since the last opening, the world is coherent, but
 --                       for keys that others have written and the cache wasn't told of
---     StaysCoherentAlone   and if nobody else has written the store since then, it is coherent
 --     with_all_premises  a world in which the premises have held so far, and others have written these keys, whatever came before
 --     StaysCoherentFrom from any world that is reached and coherent but for some keys, in which no key is reserved: after every list of
 --                       events, as long as the premises held since then, the world is coherent, but for those of these and of the
@@ -43,7 +42,7 @@ use Rattle.jc_world.specs.declared.event.Outcome.TheVariants as outcome
 use Rattle.jc_world.specs.declared.event.Shown.{Shown}
 use Rattle.jc_world.specs.World.{WorldState, start, out_of_part, with_stored, cached_entry}
 use Rattle.jc_world.specs.Events.{Run}
-use Rattle.jc_world.specs.Coherent.{Coherent, CoherentAsTold, all_hold}
+use Rattle.jc_world.specs.Coherent.{CoherentAsTold, all_hold}
 use Rattle.jc_world.specs.Audit.{IsOrder, HasShares}
 
 -- 1. Openings.
@@ -111,11 +110,6 @@ abbrev pub StaysCoherent : Type 0
 StaysCoherent =
     (opening : WorldState) (events : List WorldEvent) (seen : List Shown) (new : WorldState)
     → Reaches opening events seen new → all_hold new ≡ true → CoherentAsTold new
-
-abbrev pub StaysCoherentAlone : Type 0
-StaysCoherentAlone =
-    (opening : WorldState) (events : List WorldEvent) (seen : List Shown) (new : WorldState)
-    → Reaches opening events seen new → all_hold new ≡ true → new.foreign ≡ empty → Coherent new
 
 abbrev pub with_all_premises : Cache → WorldState → WorldState
 with_all_premises foreign w =

@@ -9,8 +9,14 @@
 --                       that are shown, which are dropped. The premises hold then exactly if write-through is on and what is cached
 --                       is the store's, but for keys that others have written and the cache wasn't told of
 --     ReopensOpen       every reopening does so
-use Rattle.std.specs.Prelude.{◌≡◌, ◌==◌, ◌⊎◌, ◌↔◌, ◌++◌, ℕ, List, [], ◌∷◌, slice_get, Bool, true, None, Some, if◌then◌else◌}
+--     is_by_others      an event is a write of the store by somebody else
+--     StaysUnwritten    if nobody else has written the store since the last opening, and that was coherent, the world counts no key as
+--                       written by others
+--     StaysCoherentAlone
+--                       and if the premises hold too, it is coherent
+use Rattle.std.specs.Prelude.{◌≡◌, ◌==◌, ◌⊎◌, ◌↔◌, ◌++◌, ℕ, List, [], ◌∷◌, slice_get, Bool, true, false, None, Some, if◌then◌else◌}
 use Rattle.std.specs.List.{list_any}
+use Rattle.std.specs.FinMap.{empty}
 use Rattle.std.specs.Cmp.Lexicographic.{pointwise}
 use Rattle.jc_types.specs.declared.config.Config.{Config}
 use Rattle.jc_model.specs.Cache.{Bytes}
@@ -23,7 +29,7 @@ use Rattle.jc_world.specs.declared.event.Shown.{Shown}
 use Rattle.jc_world.specs.World.{WorldState, cached_entry}
 use Rattle.jc_world.specs.Events.{Run, Step, keys_dropped}
 use Rattle.jc_world.specs.Fits.{fits}
-use Rattle.jc_world.specs.Coherent.{CoherentAsTold, all_hold}
+use Rattle.jc_world.specs.Coherent.{Coherent, CoherentAsTold, all_hold}
 use Rattle.jc_world.specs.Headline.{IsOpeningWorld, Reaches, ReachesSince, is_reopening}
 
 -- 1. The last opening of a run.
@@ -79,3 +85,24 @@ ReopensOpen =
     (config : Config) (s : Shown)
     → Reaches first events seen old → fits old (event.Reopen config) ≡ true
     → Step old (event.Reopen config) s new → IsReopenedWorld config old s new
+
+-- 3. Nobody else has written the store since the last opening.
+
+abbrev pub is_by_others : WorldEvent → Bool
+is_by_others (event.Foreign key value) = true
+is_by_others e = false
+
+abbrev pub StaysUnwritten : Type 0
+StaysUnwritten =
+    (first : WorldState) (events : List WorldEvent) (seen : List Shown) (new : WorldState)
+    (last : LastOpening first events seen new)
+    → Reaches first events seen new → first.foreign ≡ empty
+    → Coherent last.opening → list_any is_by_others last.since ≡ false → new.foreign ≡ empty
+
+abbrev pub StaysCoherentAlone : Type 0
+StaysCoherentAlone =
+    (first : WorldState) (events : List WorldEvent) (seen : List Shown) (new : WorldState)
+    (last : LastOpening first events seen new)
+    → Reaches first events seen new → first.foreign ≡ empty
+    → Coherent last.opening → list_any is_by_others last.since ≡ false
+    → all_hold new ≡ true → Coherent new

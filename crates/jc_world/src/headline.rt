@@ -1,5 +1,6 @@
 //! The headline, as laws over every run.
-ghost use Rattle.jc_world.specs.Headline.{StartsOpen, StaysLegal, StaysCoherent, StaysCoherentAlone, StaysCoherentFrom, CountsLoads};
+ghost use Rattle.jc_world.specs.Headline.{StartsOpen, StaysLegal, StaysCoherent, StaysCoherentFrom, CountsLoads};
+ghost use Rattle.jc_world.specs.Openings.{StaysUnwritten, StaysCoherentAlone};
 
 use jc_stripe::phase_laws::{keeps_reserved, stays_reached};
 
@@ -39,12 +40,21 @@ pub fn stays_coherent()
     keeps_reserved();
 }
 
-/// So if nobody else has written the store, each cached value is the store's, but for keys whose writer has changed the store and
-/// whose call isn't committed.
+/// If nobody else has written the store since the last opening, and each value that was cached then was the store's, no key is untold.
+/// The world at the begin of the run is to count no key as written by others, as a world at its start does. A reopening that keeps only
+/// what is the store's forgets what others had written before.
+pub fn stays_unwritten()
+    ensures { StaysUnwritten }
+{}
+
+/// So where nobody else has written the store since the last opening, and that was coherent: after every list of events, if the
+/// premises of [`stays_coherent`] hold, each cached value is the store's, but for keys whose writer has changed the store and whose
+/// call isn't committed.
 pub fn stays_coherent_alone()
     ensures { StaysCoherentAlone }
 {
     stays_coherent();
+    stays_unwritten();
 }
 
 /// The same from any moment on, whatever came before. If no key is reserved then, and each cached value but those of some keys is the

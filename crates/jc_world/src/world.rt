@@ -11,7 +11,7 @@ ghost use Rattle.jc_world.specs.Fits.{fits, is_being_written, is_new};
 ghost use Rattle.jc_world.specs.Events.{RunAppending};
 ghost use Rattle.jc_world.specs.Together.{BeginFits, FitTogether};
 ghost use Rattle.jc_world.specs.Coherent.{all_hold, CoherentAsTold};
-ghost use Rattle.jc_world.specs.Audit.{IsOrder, HasShares, IsAudit};
+ghost use Rattle.jc_world.specs.Audit.{IsOrder, HasShares, IsAudit, untold_keys};
 ghost use Rattle.jc_world.specs.Sound.{HaveNoneEnded};
 
 use crate::audit::Audit;
@@ -214,6 +214,14 @@ impl World {
         ensures { result ≡ is_untold self.now.world key.now }
     {
         self.machine.is_untold(key)
+    }
+
+    /// The keys that are untold, in byte order: if all premises hold, no other cached value differs from the store's, but for keys whose
+    /// writer has changed the store and whose call isn't committed. An `Err` says that an allocation failed.
+    pub fn untold_keys(&self, alloc: Global) -> Result<Vec<Key>, AllocError>
+        ensures { IfOk result (λ keys. keys.items ≡ untold_keys self.now.world) }
+    {
+        self.machine.untold_keys(alloc)
     }
 
     /// Each reserved key, with what its call has asked and heard for it, in no particular order. An `Err` says that an allocation

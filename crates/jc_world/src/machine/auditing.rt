@@ -6,7 +6,7 @@ ghost use Rattle.jc_world.specs.Premises.{is_stored};
 ghost use Rattle.jc_world.specs.World.{has_progress, has_changed, has_any, is_untold};
 ghost use Rattle.jc_world.specs.Sound.{IsSoundWorld};
 ghost use Rattle.jc_world.specs.Coherent.{all_hold, CoherentAsTold};
-ghost use Rattle.jc_world.specs.Audit.{differs, differing, IsAudit};
+ghost use Rattle.jc_world.specs.Audit.{differs, differing, untold_among, untold_keys, IsAudit};
 
 use crate::audit::{Audit, gather};
 use crate::held_keys::held_at;
@@ -56,6 +56,29 @@ impl Machine {
         ensures { result ≡ differs self.now entry.now }
     {
         !is_stored(&self.store, entry) && !self.is_changing(&entry.0)
+    }
+
+    /// The keys that are untold, in byte order.
+    pub(crate) fn untold_keys(&self, alloc: Global) -> Result<Vec<Key>, AllocError>
+        requires { IsSoundWorld self.now }
+        ensures { IfOk result (λ keys. keys.items ≡ untold_keys self.now) }
+    {
+        let foreign = self.foreign.entries(alloc)?;
+        self.untold_among(alloc, &foreign)
+    }
+
+    /// Those of these entries' keys that are untold.
+    fn untold_among(&self, alloc: Global, foreign: &[(Key, Value)]) -> Result<Vec<Key>, AllocError>
+        requires { IsSoundWorld self.now }
+        ensures { IfOk result (λ keys. keys.items ≡ untold_among self.now foreign.now) }
+    {
+        let mut keys = Vec::new(alloc);
+        for entry in foreign {
+            if self.is_untold(&entry.0) {
+                keys.push(entry.0)?;
+            }
+        }
+        Ok(keys)
     }
 
     /// Whether somebody else has written the key, and the cache has something of it from before.
