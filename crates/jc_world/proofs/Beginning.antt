@@ -80,6 +80,22 @@ owned_part parts key q part call h here =
     subst P (sym (get-insert nat_list_cmp_total parts key part q))
     (split q key (λ b. P (cond b (Some part) (get parts q))) here (λ apart. h))
 
+-- which keys are in doubt says nothing of it
+pub order_foreign : (v : WorldState) (foreign : Cache) → HasOrder v → HasOrder (record v { foreign = foreign })
+order_foreign v foreign h =
+    let new : WorldState = record v { foreign = foreign } in
+    record {
+      shape = record {
+        config_fits = h.shape.config_fits;
+        count = h.shape.count;
+        each = λ n s at. let x = h.shape.each n s at in record { config_is = x.config_is; number_is = x.number_is; origin_is = x.origin_is; ended_is = x.ended_is; reached = x.reached; share = x.share };
+      };
+      order = h.order;
+      numbers = h.numbers;
+      calls = calls_same v new v.calls refl refl (λ c q h. h) h.calls;
+      owned = λ n s at. each_map (IsOwned v) (IsOwned new) s.reservations (λ r o. record { part = o.part; call = o.call }) (h.owned n s at);
+    }
+
 -- a key's part stays
 pub order_parted : (w : WorldState) (key : Bytes) (old part : Part) (premises : Premises) (store foreign : Cache) → get w.parts key ≡ Some old → part.reservation.caller.call ≡ old.reservation.caller.call → IsSoundWorld w
     → HasOrder (record w { parts = insert w.parts key part; premises = premises; store = store; foreign = foreign })

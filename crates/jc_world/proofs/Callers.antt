@@ -2,7 +2,7 @@
 --     order_key                       after each kind of change at a key
 --     order_happens, order_opened     after any event that fits, and after an entry of the store's opening
 --     order_is, has_shares            the order is one legal history over all stripes, and each stripe's history is its part of it
-use Rattle.jc_world.proofs.Common.{◌≡◌, ℕ, zero, suc, ◌+◌, ◌%◌, ◌<◌, Bool, true, false, cond, not, ◌&&◌, ◌||◌, ◌⊎◌, List, [], ◌∷◌, ◌++◌, length, is_none, IsSomeAnd, nat_lt, ◌==◌, slice_get, slice_set, Some, None, sum, Option, option_map, find, sym, refl, ap, ◌∙◌, subst, inl, inr, arith, not-true, eqb-true, and_parts, false_from_ne_true, nat_list_cmp_total, nat_list_eq_equiv, eq_by_cmp_equiv, pointwise, texts_ties, get, insert, remove, get-insert, get-remove, list_all, eq_by_cmp, all_imply, Caller, Config, Refusal, Bytes, Cache, key_cmp, nothing_said, events_of, of_stripe, IsHistory, IsOpening, Op, Get, Out, belongs_to, is_waiting, waits_for, callers_of, after_resolve, JoinState, Again, Answered, Waiting, Joiner, StaysReached, IsSameStripe, Extends, may_come_all, new_group, Steps, with_joiner, Begins, after_commit, Commits, Withdraws, without_joiner, PicksUp, JoinFits, IsReached, State, is_of, is_key, is_reserved, with_reservation, without_key, IsOut, JoinClaim, Begun, Polled, StepDone, Reservation, Part, Premises, PartProgress, Shown, WorldEvent, cache_at, opening_at, IsOrder, HasShares, SweepState, CallState, has_number, op_at, op_for, open_keys, going_on, with_met, replaced, settle, drop_call, with_swept_keys, with_stripe, with_phase, step_of, fault_in, with_settled, with_met_by, without_call, with_look, new_part, with_part, without_part, with_join, without_join, Happens, is_free, may_leave, fits, IsWorldStripe, is_up_to, is_answered, has_parked_answer, is_served_in, is_served, FitsCall, CallsFit, Each, IsHeld, IsCallOf, IsOwned, AllOwned, IsCalled, IsSoundWorld, Parts, Joins, WorldState, home, stripe_for, open_call, part_of, out_of_part, join_of, is_joined, with_stored, with_new_part}
+use Rattle.jc_world.proofs.Common.{◌≡◌, ℕ, zero, suc, ◌+◌, ◌%◌, ◌<◌, Bool, true, false, cond, not, ◌&&◌, ◌||◌, ◌⊎◌, List, [], ◌∷◌, ◌++◌, length, is_none, IsSomeAnd, nat_lt, ◌==◌, slice_get, slice_set, Some, None, sum, Option, option_map, find, sym, refl, ap, ◌∙◌, subst, inl, inr, arith, not-true, eqb-true, and_parts, false_from_ne_true, nat_list_cmp_total, nat_list_eq_equiv, eq_by_cmp_equiv, pointwise, texts_ties, get, insert, remove, get-insert, get-remove, list_all, eq_by_cmp, all_imply, Caller, Config, Refusal, Bytes, Cache, key_cmp, nothing_said, events_of, of_stripe, IsHistory, IsOpening, Op, Get, Out, belongs_to, is_waiting, waits_for, callers_of, after_resolve, JoinState, Again, Answered, Waiting, Joiner, StaysReached, IsSameStripe, Extends, may_come_all, new_group, Steps, with_joiner, Begins, after_commit, Commits, Withdraws, without_joiner, PicksUp, JoinFits, IsReached, State, is_of, is_key, is_reserved, with_reservation, without_key, IsOut, JoinClaim, Begun, Polled, StepDone, Reservation, Part, Premises, PartProgress, Shown, WorldEvent, cache_at, opening_at, IsOrder, HasShares, SweepState, CallState, has_number, op_at, op_for, open_keys, going_on, with_met, replaced, settle, drop_call, with_swept_keys, with_stripe, with_phase, step_of, fault_in, with_settled, with_met_by, without_call, with_look, new_part, with_part, without_part, foreign_committed, with_join, without_join, Happens, is_free, may_leave, fits, IsWorldStripe, is_up_to, is_answered, has_parked_answer, is_served_in, is_served, FitsCall, CallsFit, Each, IsHeld, IsCallOf, IsOwned, AllOwned, IsCalled, IsSoundWorld, Parts, Joins, WorldState, home, stripe_for, open_call, part_of, out_of_part, join_of, is_joined, with_stored, with_new_part}
 use Rattle.jc_world.proofs.Numbered.{some_of}
 use Rattle.jc_inflight.specs.Taking.{joiners_without as without}
 use Rattle.jc_world.proofs.Halves.{HasOrder, order_half}
@@ -15,7 +15,7 @@ use Rattle.jc_world.proofs.Looked.{Taken, taken_of, taken_met, taken_on, calls_t
 use Rattle.jc_world.proofs.Settling.{open_now, Left, done_for, still_called, calls_settled}
 use Rattle.jc_world.proofs.LoadKeys.{key_of_load, each_fits}
 use Rattle.jc_world.proofs.Joiners.{joiner_of, unanswered, told_resolved, told_waiting, told_dissolved, told_pushed, find_kept, each_own, each_caller, each_both, join_at, joined_no_part}
-use Rattle.jc_world.proofs.Beginning.{unless, fits_left, fits_same, fits_taken, calls_same, order_stored, owned_part, order_parted, order_called, MayStart, not_own, apart_or, unserved, begins_with, order_beside}
+use Rattle.jc_world.proofs.Beginning.{unless, fits_left, fits_same, fits_taken, calls_same, order_stored, owned_part, order_foreign, order_parted, order_called, MayStart, not_own, apart_or, unserved, begins_with, order_beside}
 use Rattle.jc_world.proofs.Facts.{same_found, some_back}
 use Rattle.jc_world.proofs.Entries.{tied}
 use Rattle.jc_world.proofs.KeyChanges.{KeyChange, by_answer, by_commit, by_join, by_nothing, by_refusal, by_reservation, by_retry, by_step, by_withdrawal, key_change, may_of}
@@ -564,7 +564,7 @@ order_key stays w new e key seen (by_join u op from to join start there h is non
 order_key stays w new e key seen (by_commit call part from to x e_is part_is there h home_is is shows) fit old =
     let end = ending_at w call key (fault_in x.reply) part from to (step_of x) part_is there h old in
     let reached = stays.commits from to part.reservation (out_of_part part) (step_of x) (old.shape.each (home w key) from there).reached h in
-    subst HasOrder (sym is) (order_commit w call key (fault_in x.reply) from to old there end reached)
+    subst HasOrder (sym is) (order_foreign (ended_world w key from to call (fault_in x.reply)) (foreign_committed w key part to) (order_commit w call key (fault_in x.reply) from to old there end reached))
 order_key stays w new e key seen (by_withdrawal call part from to e_is part_is there h is shows) fit old = subst HasOrder (sym is) (order_withdrawn stays w key part.reservation from to (part_key w call key part part_is old) there h old)
 order_key stays w new e key seen (by_answer call join from to x e_is join_is there h home_is is shows ends) fit old =
     subst HasOrder (sym is) (order_picked stays w call key (fault_in x.reply) join from to (Polled.Answer x.reply x.place x.shared) join_is there h h.3 old)

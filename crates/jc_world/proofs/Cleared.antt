@@ -1,9 +1,10 @@
 -- After a clear of a key nothing from before it counts.
+--     free_cleared      of what the cache has nothing of, nobody has lied
 --     told_cleared      a clear that is done leaves neither an entry nor a reservation
 --     forgets           what is cached then is what the groups since leave of an empty cache
-use Rattle.jc_world.proofs.Common.{◌≡◌, ℕ, Bool, true, false, cond, not, ◌&&◌, ◌||◌, List, [], ◌∷◌, ◌++◌, is_some, IsSomeAnd, Some, None, Option, sym, refl, ap, ◌∙◌, subst, inl, inr, and_right, false_from_ne_true, nat_list_cmp_total, eq_by_cmp, empty, get-empty, get, remove, get-remove, get-with_entry, Caller, Bytes, Cache, entry_at, key_cmp, Group, nothing_said, without_victim, cache_before_step, cache_after_step, without_own, cache_after_group, cache_after_groups, entry_after, Cause, Op, Clear, Begins, StepDone, Begun, State, is_reserved, first_refusal, Stepped, Shown, Outcome, Over, WorldEvent, op_at, Step, with_settled, with_phase, step_of, fault_in, Agrees, IsSoundWorld, WorldState, home, entry_in, cached_entry, has_any, is_untold, is_foreign}
+use Rattle.jc_world.proofs.Common.{◌≡◌, ℕ, Bool, true, false, cond, not, ◌&&◌, ◌||◌, List, [], ◌∷◌, ◌++◌, is_some, IsSomeAnd, Some, None, Option, sym, refl, ap, ◌∙◌, subst, inl, inr, and_right, false_from_ne_true, nat_list_cmp_total, eq_by_cmp, empty, get-empty, get, remove, get-remove, get-with_entry, Caller, Bytes, Cache, entry_at, key_cmp, Group, nothing_said, without_victim, cache_before_step, cache_after_step, without_own, cache_after_group, cache_after_groups, entry_after, Cause, Op, Clear, Begins, StepDone, Begun, State, is_reserved, first_refusal, Stepped, Shown, Outcome, Over, WorldEvent, op_at, Step, with_settled, with_phase, step_of, fault_in, Agrees, IsSoundWorld, WorldState, home, entry_in, cached_entry, has_any, is_untold, is_foreign, has_progress, is_misled, or_parts, Part}
 use Rattle.jc_model.specs.Table.{seq_entry}
-use Rattle.jc_world.specs.Told.{IsClear}
+use Rattle.jc_world.specs.Told.{IsClear, is_misled_at}
 use Rattle.jc_world.proofs.Lemmas.{agrees_stepped, stripe_put, tied, split}
 use Rattle.jc_world.proofs.Facts.{some_back}
 use Rattle.jc_world.proofs.Reservations.{needs_none}
@@ -41,6 +42,14 @@ told_cleared w new call key x over sound clear (inl (fit, h)) =
     let part : get w.parts key ≡ None = unheld w key h.4 h.5 (cleared_free h.0.caller key h.4 begins.0) sound in
     let none : has_any new key ≡ false = ap (λ (v : WorldState). has_any v key) h.7.2 ∙ (λ i. is_some (entry i) || is_some (part i)) in
     (none, ap (λ b. is_foreign new key && b) none ∙ and_right (is_foreign new key) false refl)
+
+-- nor has anyone lied about it
+pub free_cleared : (w : WorldState) (key : Bytes) → has_any w key ≡ false → is_misled_at w key ≡ false
+free_cleared w key none = go (get w.parts key) (or_parts (is_some (cached_entry w key)) (is_some (get w.parts key)) none).1
+  where
+    go : (o : Option Part) → is_some o ≡ false → has_progress is_misled o ≡ false
+    go None h = refl
+    go (Some part) h = absurd (let t : true ≡ false = h in cc)
 
 -- 2. What is cached later.
 

@@ -281,7 +281,7 @@ joins_key w new e key seen (by_commit call part from to x e_is part_is there h h
     let free = unjoined_part w call key part part_is old in
     let J : JoinClaim → List Joiner → Type 0 = λ j js. IsSomeAnd (joiner_of j.caller j.key js) (λ x. x.load ≡ j.load) in
     subst HasJoins (sym is)
-    (joins_phase w key from to (with_phase w key from to).order (settle call key (fault_in x.reply) w.calls) (remove w.parts key) w.foreign there
+    (joins_phase w key from to (with_phase w key from to).order (settle call key (fault_in x.reply) w.calls) (remove w.parts key) (foreign_committed w key part to) there
     (λ j t. subst (J j) (sym joiners) (joined_resolved (λ x. x.load ≡ j.load) part.reservation.number x.place (x.place + 1) j.caller j.key from.joiners (λ place x k. k) t))
     (λ n t. subst (AllCalled n (home w key)) (sym joiners) (called_resolved n (home w key) part.reservation.number x.place (x.place + 1) from.joiners t))
     (λ number session q t k. still_under w call key (fault_in x.reply) free number session q t k) (λ number q t k. none_removed w.parts key q number k) old)

@@ -41,6 +41,7 @@ pub mod Opened
 pub mod Sounding
 pub mod Reopening
 pub mod Telling
+pub mod Loaded
 pub mod AllPremises
 pub mod Unwritten
 pub mod OverCalls

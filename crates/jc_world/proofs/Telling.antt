@@ -1,13 +1,15 @@
--- A key that is told stays told until somebody else writes it.
+-- A key that is told stays told until somebody else writes it, or somebody lies about it.
 --     told_step, told_run    over an event, and over a run that doesn't open the cache again
-use Rattle.jc_world.proofs.Common.{◌≡◌, ◌==◌, ℕ, Bool, true, false, cond, ◌&&◌, ◌||◌, List, [], ◌∷◌, is_some, is_none, slice_get, slice_set, Some, None, Option, option_map, sym, refl, ap, ◌∙◌, subst, inl, inr, and_right, or_parts, list_any, pointwise, texts_ties, nat_list_cmp_total, eq_by_cmp, get, insert, remove, get-insert, get-remove, get-with_entry, same_key, WriterFailed, Bytes, Cache, entry_at, with_entry, key_cmp, callers_of, after_commit, Steps, State, Stepped, Part, Shown, WorldEvent, Happens, Step, Run, reopens, is_reopening, fits, with_settled, with_phase, with_stripe, new_part, with_new_part, with_join, without_join, without_part, with_met_by, step_of, fault_in, read_answer, load_from, run_result, after_answer, after_change, after_report, after_process, report_for, keys_reported, reported_now, out_of_part, Agrees, IsSoundWorld, Parts, WorldState, home, stripe_for, entry_in, cached_entry, part_of, has_any, is_foreign, is_untold, with_foreign, without_foreign}
-use Rattle.jc_world.specs.Told.{is_foreign_write}
+--     run_of_true            such a run is one
+--     coherent_run           and what is cached for the key then is the store's
+use Rattle.jc_world.proofs.Common.{◌≡◌, ◌==◌, ℕ, Bool, true, false, cond, ◌&&◌, ◌||◌, List, [], ◌∷◌, is_some, is_none, slice_get, slice_set, Some, None, Option, option_map, sym, refl, ap, ◌∙◌, subst, inl, inr, and_right, or_parts, list_any, pointwise, texts_ties, nat_list_cmp_total, eq_by_cmp, get, insert, remove, get-insert, get-remove, get-with_entry, same_key, WriterFailed, Bytes, Cache, entry_at, with_entry, key_cmp, callers_of, after_commit, Steps, State, Stepped, Part, Shown, WorldEvent, Happens, Step, Run, reopens, is_reopening, fits, with_settled, with_phase, with_stripe, new_part, with_new_part, with_join, without_join, without_part, with_met_by, step_of, fault_in, read_answer, load_from, run_result, after_answer, after_change, after_report, after_process, report_for, keys_reported, reported_now, out_of_part, Agrees, IsSoundWorld, Parts, WorldState, home, stripe_for, entry_in, cached_entry, part_of, has_any, is_foreign, is_untold, with_foreign, without_foreign, with_doubt, is_misled, has_progress, is_agreed, with_commit, and_parts, IsCoherentAt, all_hold}
+use Rattle.jc_world.specs.Told.{is_foreign_write, is_misled_at, RunsTrueTo}
 use Rattle.jc_world.proofs.Lemmas.{at_stripe, split, tied, each_report, KeyChange, by_nothing, by_refusal, by_step, by_reservation, by_join, by_commit, by_withdrawal, by_answer, by_retry, key_change, Move, no_move, quiet_move, step_move, reopening_move, move_step}
 use Rattle.jc_world.proofs.Holding.{is_part}
-use Rattle.jc_world.proofs.Kept.{agrees_begun, agrees_other, held_at}
+use Rattle.jc_world.proofs.Kept.{agrees_begun, agrees_other, held_at, coherent}
 use Rattle.jc_world.proofs.Cleared.{nothing_agrees}
 use Rattle.jc_world.proofs.Reopening.{left_false}
-use Rattle.jc_world.proofs.Sounding.{Laws, sound_step}
+use Rattle.jc_world.proofs.Sounding.{Laws, sound_run, sound_step}
 
 -- 1. Small facts.
 
@@ -29,6 +31,15 @@ other_none m key q apart h = go (is_some (entry_at m key))
     go : (b : Bool) → is_some (entry_at (cond b m (with_entry m key (Some []))) q) ≡ false
     go true = h
     go false = ap is_some (get-with_entry m key (Some []) q ∙ ap (λ b. cond b (Some []) (entry_at m q)) apart) ∙ h
+
+-- nor if somebody lies about another key
+no_doubt : (m : Cache) (key q : Bytes) (misled : Bool) → eq_by_cmp key_cmp q key ≡ false → is_some (entry_at m q) ≡ false → is_some (entry_at (with_doubt m key misled) q) ≡ false
+no_doubt m key q true apart h = other_none m key q apart h
+no_doubt m key q false apart h = h
+
+-- and if nobody lies about the key
+undoubted : (m : Cache) (key : Bytes) (misled : Bool) → misled ≡ false → is_some (entry_at m key) ≡ false → is_some (entry_at (with_doubt m key misled) key) ≡ false
+undoubted m key misled honest h = ap (λ b. is_some (entry_at (with_doubt m key b) key)) honest ∙ h
 
 -- a key that is forgotten is none of them
 forgotten : (m : Cache) (key : Bytes) → is_some (entry_at (without_foreign m key true) key) ≡ false
@@ -103,10 +114,10 @@ none_agrees o none = subst (λ o. Agrees o None) (sym none) tt
 -- 3. Each event.
 
 -- by the kind of the change at a key
-told_key : (w new : WorldState) (e : WorldEvent) (key q : Bytes) (seen : Shown) → KeyChange w new e key seen → w.config.write_through ≡ true → IsSoundWorld w → ToldAt q w → ToldAt q new
-told_key w new e key q seen (by_nothing is none ends) on old told = subst (ToldAt q) (sym is) told
-told_key w new e key q seen (by_refusal u op refusal may is none ends) on old told = subst (ToldAt q) (sym is) told
-told_key w new e key q seen (by_step u op from to x may there h home_is is shows ends) on old told =
+told_key : (w new : WorldState) (e : WorldEvent) (key q : Bytes) (seen : Shown) → KeyChange w new e key seen → w.config.write_through ≡ true → is_misled_at w q ≡ false → IsSoundWorld w → ToldAt q w → ToldAt q new
+told_key w new e key q seen (by_nothing is none ends) on true_to old told = subst (ToldAt q) (sym is) told
+told_key w new e key q seen (by_refusal u op refusal may is none ends) on true_to old told = subst (ToldAt q) (sym is) told
+told_key w new e key q seen (by_step u op from to x may there h home_is is shows ends) on true_to old told =
     let m : WorldState = with_settled (with_phase w key from to) u.caller.call key (fault_in x.reply) in
     let config = (old.shape.each (home w key) from there).config_is in
     subst (ToldAt q) (sym is)
@@ -114,7 +125,7 @@ told_key w new e key q seen (by_step u op from to x may there h home_is is shows
     (none_new w m q
     (set_none w key q from to there (λ none. nothing_agrees (entry_at to.cache q) (agrees_begun u.caller key op from to (step_of x) q None h (ap (λ c. c.write_through) config ∙ on) (none_agrees (entry_at from.cache q) none))))
     (λ p. p)) told)
-told_key w new e key q seen (by_reservation u op from to p r may there h is none ends) on old told =
+told_key w new e key q seen (by_reservation u op from to p r may there h is none ends) on true_to old told =
     let m : WorldState = with_new_part w key to p r in
     subst (ToldAt q) (sym is)
     (split q key (λ b. ToldAt q m)
@@ -123,11 +134,11 @@ told_key w new e key q seen (by_reservation u op from to p r may there h is none
     (none_new w m q
     (set_none w key q from to there (λ none. ap (λ (s : State). entry_at s.cache q) h.after ∙ none))
     (λ none. get-insert nat_list_cmp_total w.parts key (new_part p r) q ∙ ap (λ b. cond b (Some (new_part p r)) (get w.parts q)) apart ∙ none)) told))
-told_key w new e key q seen (by_join u op from to join may there h is none ends) on old told =
+told_key w new e key q seen (by_join u op from to join may there h is none ends) on true_to old told =
     let m : WorldState = with_join (with_stripe w key to) join in
     subst (ToldAt q) (sym is) (stays w m q (λ f. f) (none_new w m q (set_none w key q from to there (λ none. ap (λ (s : State). entry_at s.cache q) h.3 ∙ none)) (λ p. p)) told)
-told_key w new e key q seen (by_commit call part from to x e_is part_is there h home_is is shows) on old told =
-    let m : WorldState = without_part (with_settled (with_phase w key from to) call key (fault_in x.reply)) key in
+told_key w new e key q seen (by_commit call part from to x e_is part_is there h home_is is shows) on true_to old told =
+    let m : WorldState = with_commit w key part from to call (fault_in x.reply) in
     let has : get w.parts key ≡ Some part = is_part (get w.parts key) call part part_is in
     let r = part.reservation in
     let S : Bytes → Type 0 = λ k. Steps (after_commit from r (step_of x).place) r.caller k r.op (out_of_part part) (callers_of r.number from.joiners) (step_of x) to in
@@ -135,49 +146,55 @@ told_key w new e key q seen (by_commit call part from to x e_is part_is there h 
     subst (ToldAt q) (sym is)
     (split q key (λ b. ToldAt q m)
     (λ same.
-    let Q : Bytes → Type 0 = λ k. ToldAt k w → ToldAt k m in
-    subst Q (sym same) (λ told. ap (λ b. b && has_any m key) (held_told w key part has told)) told)
-    (λ apart. stays w m q (λ f. f)
+    let Q : Bytes → Type 0 = λ k. is_misled_at w k ≡ false → ToldAt k w → ToldAt k m in
+    subst Q (sym same)
+    (λ honest told.
+    let misled : is_misled part ≡ false = sym (ap (has_progress is_misled) has) ∙ honest in
+    ap (λ b. b && has_any m key)
+    (still_none (with_doubt w.foreign key (is_misled part)) key key (is_agreed (entry_at to.cache key) (entry_at w.store key)) (undoubted w.foreign key (is_misled part) misled (held_told w key part has told))))
+    true_to told)
+    (λ apart. stays w m q
+    (λ f. still_none (with_doubt w.foreign key (is_misled part)) key q (is_agreed (entry_at to.cache key) (entry_at w.store key)) (no_doubt w.foreign key q (is_misled part) apart f))
     (none_new w m q
     (set_none w key q from to there (λ none. nothing_agrees (entry_at to.cache q) (agrees_other key part from to (step_of x) q None steps apart (none_agrees (entry_at from.cache q) none))))
     (part_gone w.parts key q)) told))
-told_key w new e key q seen (by_withdrawal call part from to e_is part_is there h is shows) on old told =
+told_key w new e key q seen (by_withdrawal call part from to e_is part_is there h is shows) on true_to old told =
     let m : WorldState = without_part (with_stripe w key to) key in
     subst (ToldAt q) (sym is) (stays w m q (λ f. f) (none_new w m q (set_none w key q from to there (λ none. ap (λ (s : State). entry_at s.cache q) h.1 ∙ none)) (part_gone w.parts key q)) told)
-told_key w new e key q seen (by_answer call join from to x e_is join_is there h home_is is shows ends) on old told =
+told_key w new e key q seen (by_answer call join from to x e_is join_is there h home_is is shows ends) on true_to old told =
     let m : WorldState = with_settled (without_join (with_stripe w key to) call key) call key (fault_in x.reply) in
     subst (ToldAt q) (sym is) (stays w m q (λ f. f) (none_new w m q (set_none w key q from to there (λ none. ap (λ (s : State). entry_at s.cache q) h.3 ∙ none)) (λ p. p)) told)
-told_key w new e key q seen (by_retry call join from to e_is join_is there h is shows ends) on old told =
+told_key w new e key q seen (by_retry call join from to e_is join_is there h is shows ends) on true_to old told =
     let m : WorldState = without_join (with_stripe w key to) call key in
     subst (ToldAt q) (sym is) (stays w m q (λ f. f) (none_new w m q (set_none w key q from to there (λ none. ap (λ (s : State). entry_at s.cache q) h.2 ∙ none)) (λ p. p)) told)
 
-told_happens : (w new : WorldState) (e : WorldEvent) (seen : Shown) (q : Bytes) → Happens w e seen new → is_reopening seen.outcome ≡ false → is_foreign_write q e ≡ false → w.config.write_through ≡ true → IsSoundWorld w → ToldAt q w → ToldAt q new
-told_happens w new (WorldEvent.Call call session command) seen q h none apart on old told = subst (ToldAt q) (sym h.1) told
-told_happens w new (WorldEvent.Look call stripe) seen q h none apart on old told = subst (ToldAt q) (sym h.9) told
-told_happens w new (WorldEvent.Read call key) seen q h none apart on old told =
+told_happens : (w new : WorldState) (e : WorldEvent) (seen : Shown) (q : Bytes) → Happens w e seen new → is_reopening seen.outcome ≡ false → is_foreign_write q e ≡ false → w.config.write_through ≡ true → is_misled_at w q ≡ false → IsSoundWorld w → ToldAt q w → ToldAt q new
+told_happens w new (WorldEvent.Call call session command) seen q h none apart on true_to old told = subst (ToldAt q) (sym h.1) told
+told_happens w new (WorldEvent.Look call stripe) seen q h none apart on true_to old told = subst (ToldAt q) (sym h.9) told
+told_happens w new (WorldEvent.Read call key) seen q h none apart on true_to old told =
     subst (ToldAt q) (sym h.3) (parted w (after_answer w key h.0 (read_answer (entry_at w.store key))) q key h.0 _ (is_part (get w.parts key) call h.0 h.1) (λ f. f) refl refl told)
-told_happens w new (WorldEvent.Say call key answer) seen q h none apart on old told =
+told_happens w new (WorldEvent.Say call key answer) seen q h none apart on true_to old told =
     subst (ToldAt q) (sym h.3) (parted w (after_answer w key h.0 answer) q key h.0 _ (is_part (get w.parts key) call h.0 h.1) (λ f. f) refl refl told)
-told_happens w new (WorldEvent.Change call key) seen q h none apart on old told =
+told_happens w new (WorldEvent.Change call key) seen q h none apart on true_to old told =
     subst (ToldAt q) (sym h.5) (parted w (after_change w key h.0 h.1) q key h.0 _ (is_part (get w.parts key) call h.0 h.2) (still_none w.foreign key q true) refl refl told)
-told_happens w new (WorldEvent.Report call left fault) seen q h none apart on old told =
+told_happens w new (WorldEvent.Report call left fault) seen q h none apart on true_to old told =
     let answer = report_for h.0.kind left fault in
     subst (ToldAt q) (sym h.3)
     (each_report (ToldAt q) call answer (λ v key part at waits t. parted v (after_report v key part (answer key)) q key part _ (is_part (get v.parts key) call part at) (λ f. f) refl refl t)
     (with_met_by w call (option_map WriterFailed fault)) (keys_reported (reported_now w call h.0)) told)
-told_happens w new (WorldEvent.Process call key source calls fail) seen q h none apart on old told =
+told_happens w new (WorldEvent.Process call key source calls fail) seen q h none apart on true_to old told =
     subst (ToldAt q) (sym h.3)
     (parted w (after_process w key h.0 (run_result h.0.reservation (load_from source (entry_at w.store key)) calls fail)) q key h.0 _ (is_part (get w.parts key) call h.0 h.1) (λ f. f) refl refl told)
-told_happens w new (WorldEvent.Leave call) seen q h none apart on old told = subst (ToldAt q) (sym h.1) told
-told_happens w new (WorldEvent.Foreign key value) seen q h none apart on old told =
+told_happens w new (WorldEvent.Leave call) seen q h none apart on true_to old told = subst (ToldAt q) (sym h.1) told
+told_happens w new (WorldEvent.Foreign key value) seen q h none apart on true_to old told =
     let m : WorldState = record w { store = with_entry w.store key value; foreign = with_foreign w.foreign key; is_fresh = false } in
     subst (ToldAt q) (sym h.1) (stays w m q (other_none w.foreign key q (sym (texts_ties q key) ∙ apart)) (λ a. a) told)
-told_happens w new (WorldEvent.Reopen config) seen q h none apart on old told = let t : true ≡ false = ap (λ (s : Shown). is_reopening s.outcome) (sym h.0) ∙ none in cc
-told_happens w new e seen q h none apart on old told = let k = key_change w new e seen refl h in told_key w new e k.0 q seen k.1 on old told
+told_happens w new (WorldEvent.Reopen config) seen q h none apart on true_to old told = let t : true ≡ false = ap (λ (s : Shown). is_reopening s.outcome) (sym h.0) ∙ none in cc
+told_happens w new e seen q h none apart on true_to old told = let k = key_change w new e seen refl h in told_key w new e k.0 q seen k.1 on true_to old told
 
-told_step : (w new : WorldState) (e : WorldEvent) (seen : Shown) (q : Bytes) → Step w e seen new → is_reopening seen.outcome ≡ false → is_foreign_write q e ≡ false → w.config.write_through ≡ true → IsSoundWorld w → ToldAt q w → ToldAt q new
-told_step w new e seen q (inl (fit, happens)) none apart on old told = told_happens w new e seen q happens none apart on old told
-told_step w new e seen q (inr (unfit, shows, is)) none apart on old told = subst (ToldAt q) (sym is) told
+told_step : (w new : WorldState) (e : WorldEvent) (seen : Shown) (q : Bytes) → Step w e seen new → is_reopening seen.outcome ≡ false → is_foreign_write q e ≡ false → w.config.write_through ≡ true → is_misled_at w q ≡ false → IsSoundWorld w → ToldAt q w → ToldAt q new
+told_step w new e seen q (inl (fit, happens)) none apart on true_to old told = told_happens w new e seen q happens none apart on true_to old told
+told_step w new e seen q (inr (unfit, shows, is)) none apart on true_to old told = subst (ToldAt q) (sym is) told
 
 -- 4. A run.
 
@@ -198,11 +215,23 @@ config_run w new (e ∷ es) (s ∷ ss) (mid, step, rest) none =
     config_run mid new es ss rest parts.1 ∙ config_stays w mid e s step parts.0
 config_run w new es ss run none = absurd run
 
-pub told_run : Laws → (w new : WorldState) (es : List WorldEvent) (ss : List Shown) (q : Bytes) → Run w es ss new → reopens ss ≡ false → list_any (is_foreign_write q) es ≡ false → w.config.write_through ≡ true → IsSoundWorld w → ToldAt q w → ToldAt q new
-told_run laws w new [] [] q run none quiet on old told = subst (ToldAt q) (sym run) told
-told_run laws w new (e ∷ es) (s ∷ ss) q (mid, step, rest) none quiet on old told =
+-- a run in which nobody else writes the key, and nobody lies about it
+pub run_of_true : (w new : WorldState) (es : List WorldEvent) (ss : List Shown) (q : Bytes) → RunsTrueTo q w es ss new → Run w es ss new
+run_of_true w new [] [] q run = run
+run_of_true w new (e ∷ es) (s ∷ ss) q (mid, step, apart, honest, rest) = (mid, step, run_of_true mid new es ss q rest)
+run_of_true w new es ss q run = absurd run
+
+pub told_run : Laws → (w new : WorldState) (es : List WorldEvent) (ss : List Shown) (q : Bytes) → RunsTrueTo q w es ss new → reopens ss ≡ false → w.config.write_through ≡ true → is_misled_at w q ≡ false → IsSoundWorld w → ToldAt q w → ToldAt q new
+told_run laws w new [] [] q run none on true_to old told = subst (ToldAt q) (sym run) told
+told_run laws w new (e ∷ es) (s ∷ ss) q (mid, step, apart, honest, rest) none on true_to old told =
     let parts = or_parts (is_reopening s.outcome) (reopens ss) none in
-    let apart = or_parts (is_foreign_write q e) (list_any (is_foreign_write q) es) quiet in
-    told_run laws mid new es ss q rest parts.1 apart.1 (ap (λ c. c.write_through) (config_stays w mid e s step parts.0) ∙ on) (sound_step laws w e s mid step old)
-    (told_step w mid e s q step parts.0 apart.0 on old told)
-told_run laws w new es ss q run none quiet on old told = absurd run
+    told_run laws mid new es ss q rest parts.1 (ap (λ c. c.write_through) (config_stays w mid e s step parts.0) ∙ on) honest (sound_step laws w e s mid step old)
+    (told_step w mid e s q step parts.0 apart on true_to old told)
+told_run laws w new es ss q run none on true_to old told = absurd run
+
+-- what is cached for such a key is the store's
+pub coherent_run : Laws → (w new : WorldState) (es : List WorldEvent) (ss : List Shown) (q : Bytes) → IsSoundWorld w → is_misled_at w q ≡ false → ToldAt q w → RunsTrueTo q w es ss new → reopens ss ≡ false → all_hold new ≡ true → IsCoherentAt new q
+coherent_run laws w new es ss q sound honest told true_to none hold =
+    let run = run_of_true w new es ss q true_to in
+    let on = ap (λ c. c.write_through) (sym (config_run w new es ss run none)) ∙ (and_parts new.config.write_through new.premises.opening hold).0 in
+    coherent new (sound_run laws w new es ss run sound) hold q (told_run laws w new es ss q true_to none on honest sound told)

@@ -10,10 +10,10 @@
 --                       is the store's, but for keys that others have written and the cache wasn't told of
 --     ReopensOpen       every reopening does so
 --     is_by_others      an event is a write of the store by somebody else
---     StaysUnwritten    if nobody else has written the store since the last opening, and that was coherent, the world counts no key as
---                       written by others
+--     StaysUnwritten    if nobody else has written the store since the last opening, that was coherent, and each loader and each writer
+--                       was honest, the world counts no key as written by others
 --     StaysCoherentAlone
---                       and if the premises hold too, it is coherent
+--                       and if write-through is on too, it is coherent
 use Rattle.std.specs.Prelude.{◌≡◌, ◌==◌, ◌⊎◌, ◌↔◌, ◌++◌, ℕ, List, [], ◌∷◌, slice_get, Bool, true, false, None, Some, if◌then◌else◌}
 use Rattle.std.specs.List.{list_any}
 use Rattle.std.specs.FinMap.{empty}
@@ -29,6 +29,7 @@ use Rattle.jc_world.specs.declared.event.Shown.{Shown}
 use Rattle.jc_world.specs.World.{WorldState, cached_entry}
 use Rattle.jc_world.specs.Events.{Run, Step, keys_dropped}
 use Rattle.jc_world.specs.Fits.{fits}
+use Rattle.jc_world.specs.Premises.{are_honest}
 use Rattle.jc_world.specs.Coherent.{Coherent, CoherentAsTold, all_hold}
 use Rattle.jc_world.specs.Headline.{IsOpeningWorld, Reaches, ReachesSince, is_reopening}
 
@@ -97,7 +98,8 @@ StaysUnwritten =
     (first : WorldState) (events : List WorldEvent) (seen : List Shown) (new : WorldState)
     (last : LastOpening first events seen new)
     → Reaches first events seen new → first.foreign ≡ empty
-    → Coherent last.opening → list_any is_by_others last.since ≡ false → new.foreign ≡ empty
+    → Coherent last.opening → list_any is_by_others last.since ≡ false
+    → are_honest new.premises ≡ true → new.foreign ≡ empty
 
 abbrev pub StaysCoherentAlone : Type 0
 StaysCoherentAlone =
@@ -105,4 +107,4 @@ StaysCoherentAlone =
     (last : LastOpening first events seen new)
     → Reaches first events seen new → first.foreign ≡ empty
     → Coherent last.opening → list_any is_by_others last.since ≡ false
-    → all_hold new ≡ true → Coherent new
+    → are_honest new.premises ≡ true → all_hold new ≡ true → Coherent new

@@ -16,8 +16,8 @@
 --     opens                        each entry with which these stripes opened passes a test
 --     opens_coherent, opens_as_told
 --                                  each of them is the store's; and but for keys that somebody else has written
---     premises_hold                all of them have held so far: loaders and writers were honest, and the last opening was coherent,
---                                  but for keys that somebody else had written
+--     is_agreed                    what is cached of a key is what the store holds, or nothing is
+--     are_honest                   each loader and each writer was honest so far
 use Rattle.std.specs.Prelude.{ℕ, List, Bool, true, false, ◌&&◌, ◌||◌, Option, None, Some, is_none, is_some}
 use Rattle.std.specs.Bool.{beq}
 use Rattle.std.specs.List.{list_all}
@@ -95,5 +95,9 @@ is_as_told foreign store entry = is_some (entry_at foreign entry.0) || is_stored
 abbrev pub opens_as_told : Cache → Cache → List State → Bool
 opens_as_told foreign store stripes = opens (is_as_told foreign store) stripes
 
-abbrev pub premises_hold : Premises → Bool
-premises_hold p = p.writers && p.loaders && p.opening
+abbrev pub is_agreed : Option Bytes → Option Bytes → Bool
+is_agreed None stored = true
+is_agreed (Some value) stored = holds stored value
+
+abbrev pub are_honest : Premises → Bool
+are_honest p = p.writers && p.loaders

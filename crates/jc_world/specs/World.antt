@@ -26,6 +26,7 @@
 --     is_all_answered                 all that was asked is answered
 --     is_untouched                    nothing was answered outside for the key, and nothing done
 --     has_changed                     the writer has changed the store
+--     is_misled                       the loader or the writer has lied about the key
 --     writer_change                   what the writer is asked for, if it is
 --     out_of_part                     the outside answers
 --     join_of                         a call's join of a key, if it has one
@@ -36,6 +37,7 @@
 --     has_any                         the cache has something of a key: an entry, or a reservation
 --     is_untold                       somebody else has written a key, and the cache has something of it from before
 --     with_foreign, without_foreign   these keys with one more, and without one if its write counts no longer
+--     with_doubt                      these keys with one more if a loader or a writer has lied about it
 use Rattle.std.specs.Prelude.{◌==◌, ℕ, zero, suc, ◌+◌, List, [], ◌∷◌, length, Bool, true, false, not, ◌&&◌, ◌||◌, Option, None, Some, find, is_none, is_some, slice_get, if◌then◌else◌}
 use Rattle.std.specs.declared.cmp.Ordering.{Ordering}
 use Rattle.std.specs.Ordering.{nat_cmp, on, then_cmp}
@@ -197,6 +199,10 @@ is_untouched part = is_unanswered part.progress.out && not part.progress.is_chan
 abbrev pub has_changed : Part → Bool
 has_changed part = part.progress.is_changed
 
+-- what the loader or the writer has answered isn't so: what is cached at the commit may not be the store's
+abbrev pub is_misled : Part → Bool
+is_misled part = part.progress.is_misled
+
 -- what the writer is asked for: the change that it was asked for first, or the processor's net effect
 abbrev pub writer_change : Part → Option Change
 writer_change part = part.progress.change
@@ -246,3 +252,6 @@ with_foreign foreign key =
 
 abbrev pub without_foreign : Cache → Bytes → Bool → Cache
 without_foreign foreign key is_over = if is_over then with_entry foreign key None else foreign
+
+abbrev pub with_doubt : Cache → Bytes → Bool → Cache
+with_doubt foreign key is_misled = if is_misled then with_foreign foreign key else foreign

@@ -298,6 +298,8 @@ pub struct PartProgress {
     pub out: Out,
     /// Whether the writer has changed the store.
     pub is_changed: bool,
+    /// Whether the loader's answer, or the writer's report, isn't so: what the commit leaves in the cache may not be the store's.
+    pub is_misled: bool,
 }
 
 /// The premises of coherence, and whether each has held since the world was opened last.

@@ -1,7 +1,8 @@
 //! The keys that somebody else has written, and the cache may have something of from before.
-ghost use Rattle.std.specs.Prelude.{◌≡◌, is_none, OnOk, OnErr, IfOk};
+ghost use Rattle.std.specs.Prelude.{◌≡◌, is_none, option_copied, OnOk, OnErr, IfOk};
 ghost use Rattle.jc_model.specs.Cache.{entry_at, with_entry};
-ghost use Rattle.jc_world.specs.World.{with_foreign, without_foreign};
+ghost use Rattle.jc_world.specs.Premises.{is_agreed};
+ghost use Rattle.jc_world.specs.World.{with_foreign, without_foreign, with_doubt};
 ghost use Rattle.jc_world.specs.Events.{foreign_reopened};
 
 use jc_model::Contents;
@@ -39,6 +40,27 @@ fn mark(foreign: &mut Contents, key: &Key) -> Result<bool, AllocError>
     }
     foreign.insert(key, Value::default())?;
     Ok(true)
+}
+
+/// If a loader or a writer has lied about a key, the key is one of these keys then.
+pub(crate) fn doubt(foreign: &mut Contents, key: &Key, is_misled: bool) -> Result<(), AllocError>
+    ensures ok { OnOk result (foreign.new ≡ with_doubt foreign.old key.now is_misled) }
+    ensures err { OnErr result (foreign.new ≡ foreign.old) }
+{
+    if is_misled {
+        mark(foreign, key)?;
+    }
+    Ok(())
+}
+
+/// Whether what is cached of a key is what the store holds, or nothing is.
+pub(crate) fn is_agreed(entry: Option<&Value>, stored: Option<&Value>) -> bool
+    ensures { result ≡ is_agreed (option_copied entry) (option_copied stored) }
+{
+    match entry {
+        Some(value) => stored.is_some_and(|held| *held == *value),
+        None => true,
+    }
 }
 
 /// If the write of a key by somebody else counts no longer, the key is none of these keys then.

@@ -20,8 +20,8 @@ use crate::calls::{begin, drop_call, fault_in, find_call, refuse, settle};
 use crate::command::Command;
 use crate::ending::{end_all, pick_all};
 use crate::event::{JoinAnswer, Outcome, Premises, Shown, WorldEvent, show, show_end};
-use crate::foreign::forget;
-use crate::held_keys::{HeldKeys, hold, make_room, take};
+use crate::foreign::{doubt, forget, is_agreed};
+use crate::held_keys::{HeldKeys, hold, is_misled, make_room, take};
 use crate::joined::{Joins, make_join_room, put_join, take_join};
 use crate::open_call::OpenCall;
 use crate::stripes::{Stripes, shown_of};
@@ -249,10 +249,13 @@ impl Machine {
         ensures err { OnErr result (self.new ≡ self.old) }
     {
         self.stripes.reserve()?;
+        doubt(&mut self.foreign, key, is_misled(&self.held, key))?;
         let number = stripe_of(key, self.config.stripes);
         let held = take(&mut self.held, key);
         let mut reply = Reply::Unit;
         let done = self.stripes.commit(number, held, &mut reply);
+        let agrees = is_agreed(self.stripes.entry(number, key), self.store.get(key));
+        forget(&mut self.foreign, key, agrees);
         let over = settle(&mut self.calls, call, key, fault_in(&reply));
         let outcome = Outcome::Stepped(shown_of(number, done, &reply));
         *seen = Shown { outcome, over };

@@ -1,6 +1,6 @@
 //! The stripes of a world, and the order of all that they append to their histories.
 ghost use Rattle.std.specs.Prelude.{◌≡◌, ◌+◌, ◌-◌, ◌≤◌, ◌<◌, ◌++◌, [], Ok, true, IsSomeAnd, IfOk, OnOk, length};
-ghost use Rattle.std.specs.Prelude.{ℕ, replicate, vec_len, vec_capacity, slice_get, is_none};
+ghost use Rattle.std.specs.Prelude.{ℕ, replicate, vec_len, vec_capacity, slice_get, is_none, option_copied};
 ghost use Rattle.jc_types.specs.declared.limits.TheConstants.{STEP_PLACES, JOINERS_MAX, STRIPES_MAX};
 ghost use Rattle.jc_types.specs.Limits.{check};
 ghost use Rattle.jc_stripe.specs.State.{IsOut, IsJoined};
@@ -107,6 +107,16 @@ impl Stripes {
         match self.items.get(number) {
             Some(stripe) => stripe.entry(key).is_none(),
             None => true,
+        }
+    }
+
+    /// What a stripe caches for a key.
+    pub(crate) fn entry(&self, number: usize, key: &Key) -> Option<&Value>
+        ensures { option_copied result ≡ entry_in (slice_get self.now.stripes number) key.now }
+    {
+        match self.items.get(number) {
+            Some(stripe) => stripe.entry(key),
+            None => None,
         }
     }
 

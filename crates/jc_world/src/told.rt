@@ -1,5 +1,5 @@
 //! What a clear of a key leaves, as laws over every run.
-ghost use Rattle.jc_world.specs.Told.{TellsCleared, StaysTold, StaysCoherentCleared, ForgetsCleared};
+ghost use Rattle.jc_world.specs.Told.{TellsCleared, TellsLoaded, StaysTold, StaysCoherentTold, StaysCoherentCleared, StaysCoherentLoaded, ForgetsCleared};
 
 use jc_stripe::phase_laws::{keeps_reserved, stays_reached};
 
@@ -13,7 +13,17 @@ pub fn tells_cleared()
     keeps_reserved();
 }
 
-/// With write-through on, a key that isn't untold stays so as long as nobody else writes it, until the cache is opened again.
+/// Nor is a key untold once a `loadAll` of it is committed, with `replace` or not, if the store still holds what the loader answered: so
+/// a key whose write has failed is told by a load of it.
+pub fn tells_loaded()
+    ensures { TellsLoaded }
+{
+    stays_reached();
+    keeps_reserved();
+}
+
+/// With write-through on, until the cache is opened again: a key that isn't untold, and about which nobody has lied since it was
+/// reserved, stays so as long as nobody else writes it, and no loader and no writer that is asked for it lies.
 pub fn stays_told()
     ensures { StaysTold }
 {
@@ -21,12 +31,29 @@ pub fn stays_told()
     keeps_reserved();
 }
 
-/// So from a clear of a key that is done on, as long as nobody else writes the key: what is cached for it is the store's, unless its
-/// writer has changed the store and its call isn't committed, if the other premises hold at the end, and the cache wasn't opened again.
-/// That is what a service rests on that runs as several instances before one store: each foreign write of a key is followed by a clear
-/// of it, and from the last clear on the cached value is the store's.
+/// So from any moment on at which a key isn't untold, as long as nobody else writes it and nobody who is asked for it lies: what is
+/// cached for it is the store's, unless its writer has changed the store and its call isn't committed. Write-through is to be on, and
+/// the cache isn't opened again. Who lies about other keys, or writes them, doesn't count.
+pub fn stays_coherent_told()
+    ensures { StaysCoherentTold }
+{
+    stays_reached();
+    keeps_reserved();
+}
+
+/// So it is from a clear of a key that is done on. That is what a service rests on that runs as several instances before one store: each
+/// foreign write of a key is followed by a clear of it, and from the last clear on the cached value is the store's.
 pub fn stays_coherent_cleared()
     ensures { StaysCoherentCleared }
+{
+    stays_reached();
+    keeps_reserved();
+}
+
+/// And so it is from a load of the key on whose answer the store still has. That is what a service rests on whose writer has failed, as
+/// after a crash of the store: once the keys whose writes failed are loaded anew, with `replace`, all is coherent again.
+pub fn stays_coherent_loaded()
+    ensures { StaysCoherentLoaded }
 {
     stays_reached();
     keeps_reserved();

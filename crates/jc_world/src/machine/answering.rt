@@ -33,7 +33,7 @@ impl Machine {
         // Copied first: see docs/CONTRIBUTING.md, "Idioms that the prover asks for".
         let kept = answer;
         let honest = is_honest_load(answer, self.stored(key));
-        loader_answers(&mut self.held, key, kept);
+        loader_answers(&mut self.held, key, kept, honest);
         self.premises.loaders &= honest;
     }
 
