@@ -1,6 +1,6 @@
 -- Worlds that are alike show the same of an event, and are alike behind it.
 use Rattle.std.proofs.Common.{◌≡◌, ℕ, zero, suc, List, [], ◌∷◌, ◌++◌, map, Bool, true, false, Option, None, Some, is_none, option_map, slice_get, slice_set, if◌then◌else◌, sym, refl, ap, ◌∙◌, subst, inl, inr}
-use Rattle.jc_world.proofs.Common.{keys_of, Caller, Config, WriterFailed, Op, Event, WriteAnswer, Bytes, entry_at, with_entry, by_use, AreKeys, State, JoinClaim, Played, WorldEvent, Outcome, Shown, Part, new_call, WorldState, start, home, part_of, out_of_part, waits_for_report, read_answer, report_for, load_from, opens_coherent, opens_as_told, with_foreign, without_foreign, with_doubt, is_misled, is_agreed, Refusal, entry_in, PartProgress, Reservation, fits}
+use Rattle.jc_world.proofs.Common.{Again, Change, Joins, Stepped, entries, keys_of, Caller, Config, WriterFailed, Op, Event, WriteAnswer, Bytes, entry_at, with_entry, by_use, AreKeys, State, JoinClaim, Played, WorldEvent, Outcome, Shown, Part, new_call, WorldState, start, home, part_of, out_of_part, waits_for_report, read_answer, report_for, load_from, opens_coherent, opens_as_told, with_foreign, without_foreign, with_doubt, is_misled, is_agreed, Refusal, entry_in, PartProgress, Reservation, fits}
 use Rattle.std.specs.List.Sorted.{IsPermutation}
 use Rattle.jc_stripe.specs.Reopening.{all_entries}
 use Rattle.jc_stripe.specs.Outcomes as begun

@@ -2,7 +2,7 @@
 --     joins_called, joins_taken, joins_parted, joins_stored     what changes the calls, a part or the store alone
 --     joins_phase, joins_joined, joins_picked, joins_key        by the kind of the change at a key
 --     joins_happens                    after any event that fits
-use Rattle.jc_world.proofs.Common.{◌≡◌, ℕ, ◌+◌, Bool, true, false, not, ◌&&◌, List, [], ◌∷◌, ◌++◌, is_some, is_none, IsSomeAnd, ◌==◌, slice_get, slice_set, Some, None, Option, find, sym, refl, ap, ◌∙◌, subst, eqb-true, eq-eqb, and_parts, and_from, false_from_ne_true, nat_eq_equiv, nat_list_eq_equiv, pointwise, get, insert, remove, list_all, Caller, Refusal, none_is, Bytes, Cache, Event, Op, Get, belongs_to, after_resolve, Waiting, Joiner, with_joiner, without_joiner, State, IsJoined, JoinClaim, Reservation, Command, Part, Premises, Shown, WorldEvent, SweepState, CallState, new_call, has_number, op_at, open_keys, opened, settle, drop_call, with_stripe, with_phase, fault_in, with_settled, with_met_by, without_call, with_look, new_part, with_join, Happens, is_free, may_leave, fits, IsCallOf, IsWaitedFor, AllWaitedFor, IsCalled, AllCalled, IsSoundWorld, Parts, JoinKey, join_key, WorldState, home, stripe_for, start, open_call, of_call, part_of, join_of, is_joined, with_new_part}
+use Rattle.jc_world.proofs.Common.{foreign_committed, ◌≡◌, ℕ, ◌+◌, Bool, true, false, not, ◌&&◌, List, [], ◌∷◌, ◌++◌, is_some, is_none, IsSomeAnd, ◌==◌, slice_get, slice_set, Some, None, Option, find, sym, refl, ap, ◌∙◌, subst, eqb-true, eq-eqb, and_parts, and_from, false_from_ne_true, nat_eq_equiv, nat_list_eq_equiv, pointwise, get, insert, remove, list_all, Caller, Refusal, none_is, Bytes, Cache, Event, Op, Get, belongs_to, after_resolve, Waiting, Joiner, with_joiner, without_joiner, State, IsJoined, JoinClaim, Reservation, Command, Part, Premises, Shown, WorldEvent, SweepState, CallState, new_call, has_number, op_at, open_keys, opened, settle, drop_call, with_stripe, with_phase, fault_in, with_settled, with_met_by, without_call, with_look, new_part, with_join, Happens, is_free, may_leave, fits, IsCallOf, IsWaitedFor, AllWaitedFor, IsCalled, AllCalled, IsSoundWorld, Parts, JoinKey, join_key, WorldState, home, stripe_for, start, open_call, of_call, part_of, join_of, is_joined, with_new_part}
 use Rattle.jc_world.proofs.Lemmas.{denied, missing, joins_half, is_some_and, set_cases, found_test, each_map, fact_found, each_pushed, each_kept, find_over, find_pushed, same_bytes, of_call-at, open_now, still_called, joiner_of, find_kept, joined_resolved, joined_dissolved, joined_front, joined_last, called_resolved, called_dissolved, joined_no_part, other_key, none_inserted, none_removed, part_other, joins_get, MayStart, Picking, picking, looked_called, met_called, at_stripe, stripe_put, KeyChange, by_nothing, by_refusal, by_step, by_reservation, by_join, by_commit, by_withdrawal, by_answer, by_retry, key_change, may_of, some_of, IsWhole}
 use Rattle.jc_inflight.specs.Taking.{joiners_without as without}
 use Rattle.jc_world.proofs.Halves.{HasJoins}

@@ -302,7 +302,8 @@ pub struct PartProgress {
     pub is_misled: bool,
 }
 
-/// The premises of coherence, and whether each has held since the world was opened last.
+/// What has held since the world was opened last. Coherence but for untold keys needs a coherent opening alone; that no key is untold
+/// needs the others, too.
 #[derive(Clone, Copy, Debug, PartialEq, Eq)]
 pub struct Premises {
     /// Honest writers: for each key each report said that it was written exactly if the writer had changed the store.

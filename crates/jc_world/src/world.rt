@@ -343,11 +343,10 @@ impl World {
 
     /// What there is to see of the world.
     ///
-    /// If write-through is on, and since the world was opened last each writer reported success exactly if it had changed the store,
-    /// each loader answered what the store held or failed, and each entry with which it opened was the store's, but for keys that
-    /// somebody else had written, then no key differs but those that somebody else has written, and of which the cache has had something
-    /// ever since: an entry, or a reservation. So each other cached value is the store's, but for keys whose writer has changed the
-    /// store and whose call isn't committed. It looks at all entries.
+    /// If write-through is on, and each entry with which the world was opened last was the store's, but for keys that were untold before,
+    /// then no key differs but untold ones: those that somebody else has written, or about which a loader or a writer has lied, and of
+    /// which the cache has had something ever since, an entry or a reservation. So each other cached value is the store's, but for keys
+    /// whose writer has changed the store and whose call isn't committed. It looks at all entries.
     pub fn audit(&self, alloc: Global) -> Result<Audit, AllocError>
         ensures audit { IfOk result (λ a.
             IsAudit self.now.world a.cache.items a.store.items a.differing.items a.events a.is_legal) }
