@@ -2,7 +2,7 @@
 --     free_cleared      of what the cache has nothing of, nobody has lied
 --     told_cleared      a clear that is done leaves neither an entry nor a reservation
 --     forgets           what is cached then is what the groups since leave of an empty cache
-use Rattle.jc_world.proofs.Common.{◌≡◌, ℕ, Bool, true, false, cond, not, ◌&&◌, ◌||◌, List, [], ◌∷◌, ◌++◌, is_some, IsSomeAnd, Some, None, Option, sym, refl, ap, ◌∙◌, subst, inl, inr, and_right, false_from_ne_true, nat_list_cmp_total, eq_by_cmp, empty, get-empty, get, remove, get-remove, get-with_entry, Caller, Bytes, Cache, entry_at, key_cmp, Group, nothing_said, without_victim, cache_before_step, cache_after_step, without_own, cache_after_group, cache_after_groups, entry_after, Cause, Op, Clear, Begins, StepDone, Begun, State, is_reserved, first_refusal, Stepped, Shown, Outcome, Over, WorldEvent, op_at, Step, with_settled, with_phase, step_of, fault_in, Agrees, IsSoundWorld, WorldState, home, entry_in, cached_entry, has_any, is_untold, is_foreign, has_progress, is_misled, or_parts, Part}
+use Rattle.jc_world.proofs.Common.{◌≡◌, ℕ, Bool, true, false, cond, ◌&&◌, ◌||◌, List, [], ◌∷◌, ◌++◌, is_some, IsSomeAnd, Some, None, Option, sym, refl, ap, ◌∙◌, subst, inl, inr, and_right, false_from_ne_true, nat_list_cmp_total, eq_by_cmp, empty, get-empty, get, remove, get-remove, get-with_entry, Caller, Bytes, Cache, entry_at, key_cmp, Group, nothing_said, without_victim, cache_before_step, cache_after_step, without_own, cache_after_group, cache_after_groups, entry_after, Cause, Op, Clear, Begins, StepDone, Begun, State, is_reserved, first_refusal, Stepped, Shown, Outcome, Over, WorldEvent, op_at, Step, with_settled, with_phase, step_of, fault_in, Agrees, IsSoundWorld, WorldState, home, entry_in, cached_entry, has_any, is_untold, is_foreign, has_progress, is_misled, or_parts, Part}
 use Rattle.jc_model.specs.Table.{seq_entry}
 use Rattle.jc_world.specs.Told.{IsClear, is_misled_at}
 use Rattle.jc_world.proofs.Lemmas.{agrees_stepped, stripe_put, tied, split}

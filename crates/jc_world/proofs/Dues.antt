@@ -3,8 +3,8 @@
 --     due_run                    the progress of a key once its processor has run
 --     dues_reported              the writer has returned for a key
 --     dues_happens               any event that fits
-use Rattle.jc_world.proofs.Common.{and_parts, fits, asks_loader, is_unanswered, has_progress, waits_for_load, is_load_given, LoadAnswer, First, Loader, Processor, with_heard, is_misled, has_changed, is_true_load, is_true_report, read_answer, with_loaded, with_report, IsDue, IsDueIn, ◌≡◌, ℕ, Bool, true, Some, None, option_map, sym, refl, ap, ◌∙◌, subst, get, get-empty, insert, remove, Config, WriterFailed, Bytes, key_cmp, entry_at, WriteAnswer, ProcessResult, Claim, change_due, Part, PartProgress, Shown, WorldEvent, with_met_by, new_part, with_change, after_answer, after_report, keys_reported, run_result, progress_after, Happens, load_from, report_for, AllDue, Parts, WorldState, part_of, reported_now}
-use Rattle.jc_world.proofs.Committing.{due_told}
+use Rattle.jc_world.proofs.Common.{Change, and_parts, fits, asks_loader, is_unanswered, has_progress, waits_for_load, is_load_given, LoadAnswer, First, Loader, Processor, is_misled, has_changed, is_true_load, is_true_report, read_answer, with_loaded, with_report, IsDue, IsDueIn, ◌≡◌, ℕ, true, Some, None, option_map, sym, refl, ap, ◌∙◌, subst, get, get-empty, insert, remove, Config, WriterFailed, Bytes, key_cmp, entry_at, WriteAnswer, ProcessResult, Claim, change_due, Part, PartProgress, Shown, WorldEvent, with_met_by, new_part, with_change, after_answer, after_report, keys_reported, run_result, progress_after, Happens, load_from, report_for, AllDue, Parts, WorldState, part_of, reported_now}
+use Rattle.jc_world.proofs.Committing.{due_told, due_heard}
 use Rattle.jc_world.proofs.Holding.{is_part}
 use Rattle.jc_world.proofs.Maps.{keys_ordered, each_put, each_left}
 use Rattle.jc_world.proofs.Lemmas.{KeyChange, by_nothing, by_refusal, by_step, by_reservation, by_join, by_commit, by_withdrawal, by_answer, by_retry, key_change, each_report}
@@ -22,11 +22,6 @@ dues_remove config parts key all = each_left keys_ordered (λ q part. IsDue conf
 due_answer : (config : Config) (first : First) (p : PartProgress) (answer : LoadAnswer) → asks_loader first ≡ true → IsDueIn config first (with_loaded p answer)
 due_answer config Loader p answer due = tt
 due_answer config first p answer due = cc
-
--- whether it was honest doesn't count
-due_heard : (config : Config) (first : First) (p : PartProgress) (was honest : Bool) → IsDueIn config first p → IsDueIn config first (with_heard p was honest)
-due_heard config (Processor entry may_load) p was honest h = h
-due_heard config first p was honest h = tt
 
 due_change : (config : Config) (first : First) (p : PartProgress) → IsDueIn config first p → IsDueIn config first (with_change p)
 due_change config (Processor entry may_load) p h = h

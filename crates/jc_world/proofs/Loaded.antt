@@ -1,5 +1,5 @@
 -- A key of a `loadAll` is told at its commit, if the store still holds what the loader answered.
-use Rattle.jc_world.proofs.Common.{LoadAll, ◌≡◌, ◌&&◌, ℕ, Bool, true, false, cond, is_some, IsSomeAnd, Some, None, Option, sym, refl, ap, ◌∙◌, subst, inl, inr, nat_list_eq_equiv, nat_list_cmp_total, get, remove, get-remove, get-with_entry, Bytes, Cache, entry_at, with_entry, holds, load_only, entry_after, LoadAnswer, Op, callers_of, after_commit, Steps, Commits, State, StepDone, Part, Stepped, Over, Shown, Outcome, WorldEvent, Step, with_commit, foreign_committed, step_of, fault_in, out_of_part, Agrees, IsSoundWorld, WorldState, part_of, has_progress, is_misled, has_any, is_untold, with_doubt, without_foreign, is_agreed}
+use Rattle.jc_world.proofs.Common.{LoadAll, ◌≡◌, ◌&&◌, ℕ, Bool, true, false, cond, is_some, Some, None, Option, sym, refl, ap, ◌∙◌, subst, inl, inr, nat_list_eq_equiv, nat_list_cmp_total, get, get-remove, get-with_entry, Bytes, Cache, entry_at, holds, load_only, entry_after, LoadAnswer, Op, callers_of, after_commit, Steps, Commits, Part, Stepped, Over, Shown, Outcome, WorldEvent, Step, with_commit, step_of, fault_in, out_of_part, Agrees, IsSoundWorld, WorldState, part_of, has_progress, is_misled, has_any, is_untold, with_doubt, without_foreign, is_agreed}
 use Rattle.jc_world.specs.Told.{is_misled_at}
 use Rattle.jc_world.proofs.Lemmas.{tied}
 use Rattle.jc_world.proofs.Holding.{is_part}

@@ -9,7 +9,7 @@
 --     reopened_coherent      if the opening is coherent but for what others have written, so is the world
 --     may_reopen             what a reopening rests on
 --     reopened_opens         the world is an opening
-use Rattle.jc_world.proofs.Common.{◌≡◌, ℕ, zero, suc, ◌+◌, true, false, cond, Bool, is_some, ◌&&◌, ◌||◌, List, [], ◌∷◌, length, slice_get, Some, None, Ok, Err, Option, Result, IfSome, IsSomeAnd, sym, refl, ap, ◌∙◌, subst, zero-add, Get, eqb-true, and_parts, nil_from_length, find, list_all, list_all-append, slice_get_within, ◌<◌, ◌≤◌, STRIPES_MAX, history_in, history_at, get, empty, from_entries, get-empty, get-from_entries, nat_list_cmp_total, same_map, eq_by_cmp, same_key, stripe_of, check, Config, Refusal, Bytes, Cache, entry_at, key_cmp, Played, State, WorldEvent, CallState, has_number, stripes_reopened, after_reopening, fits, IsOpeningStripe, IsOpeningWorld, is_stored, is_as_told, opens, opens_coherent, opens_as_told, is_untold, has_any, IsCallOf, IsSoundWorld, join_cmp, WorldState, entry_in, cached_entry, is_idle, open_call, op_at}
+use Rattle.jc_world.proofs.Common.{◌≡◌, ℕ, zero, suc, ◌+◌, true, false, cond, Bool, is_some, ◌&&◌, ◌||◌, List, [], ◌∷◌, length, slice_get, Some, None, Ok, Err, Option, Result, IfSome, IsSomeAnd, sym, refl, ap, ◌∙◌, subst, zero-add, Get, eqb-true, and_parts, nil_from_length, find, list_all, list_all-append, slice_get_within, ◌<◌, ◌≤◌, STRIPES_MAX, history_in, history_at, get, empty, from_entries, get-empty, get-from_entries, nat_list_cmp_total, same_map, eq_by_cmp, same_key, stripe_of, check, Config, Refusal, Bytes, entry_at, key_cmp, Played, State, WorldEvent, CallState, has_number, stripes_reopened, after_reopening, fits, IsOpeningStripe, IsOpeningWorld, is_stored, is_as_told, opens, opens_coherent, opens_as_told, is_untold, has_any, IsCallOf, IsSoundWorld, join_cmp, WorldState, entry_in, cached_entry, is_idle, open_call, op_at}
 use Rattle.std.specs.FinMap as map
 use Rattle.std.specs.Result.{is_ok}
 use Rattle.jc_world.specs.Events.{foreign_reopened}

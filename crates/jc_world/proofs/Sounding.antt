@@ -1,5 +1,5 @@
 -- Each event leads from a sound world to a sound one, and so does each run.
-use Rattle.jc_world.proofs.Common.{◌≡◌, ℕ, true, List, [], ◌∷◌, OnOk, OnErr, Some, Ok, Err, Option, Result, option_map, sym, refl, ap, ◌∙◌, subst, inl, inr, and_parts, Refusal, WriterFailed, Bytes, entry_at, with_entry, is_load_given, WriteAnswer, StaysReached, KeepsReserved, Part, Shown, WorldEvent, CallState, with_met_by, after_report, keys_reported, after_reopening, Happens, Step, Run, fits, read_answer, load_from, report_for, IsSoundWorld, WorldState, open_call, part_of, has_progress, waits_for_load, waits_for_report, with_stored, reported_now}
+use Rattle.jc_world.proofs.Common.{◌≡◌, ℕ, true, List, [], ◌∷◌, OnOk, OnErr, Some, Ok, Err, Option, Result, option_map, sym, refl, ap, ◌∙◌, subst, inl, inr, and_parts, Refusal, WriterFailed, Bytes, entry_at, is_load_given, WriteAnswer, StaysReached, KeepsReserved, Part, Shown, WorldEvent, CallState, with_met_by, after_report, keys_reported, after_reopening, Happens, Step, Run, fits, read_answer, load_from, report_for, IsSoundWorld, WorldState, open_call, part_of, has_progress, waits_for_load, waits_for_report, with_stored, reported_now}
 use Rattle.jc_world.proofs.Lemmas.{HasParts, sound, order_met, order_part, order_happens, order_opened, key_change, each_report, IsWhole}
 use Rattle.jc_world.proofs.Joins.{joins_met, joins_parted, joins_happens, joins_stored}
 use Rattle.jc_world.proofs.Dues.{dues_reported, dues_happens}

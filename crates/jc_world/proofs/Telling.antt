@@ -2,7 +2,7 @@
 --     told_step, told_run    over an event, and over a run that doesn't open the cache again
 --     run_of_true            such a run is one
 --     coherent_run           and what is cached for the key then is the store's
-use Rattle.jc_world.proofs.Common.{Change, ◌≡◌, ◌==◌, ℕ, Bool, true, false, cond, ◌&&◌, ◌||◌, List, [], ◌∷◌, is_some, is_none, slice_get, slice_set, Some, None, Option, option_map, sym, refl, ap, ◌∙◌, subst, inl, inr, and_right, or_parts, list_any, pointwise, texts_ties, nat_list_cmp_total, eq_by_cmp, get, insert, remove, get-insert, get-remove, get-with_entry, same_key, WriterFailed, Bytes, Cache, entry_at, with_entry, key_cmp, callers_of, after_commit, Steps, State, Stepped, Part, Shown, WorldEvent, Happens, Step, Run, reopens, is_reopening, fits, with_settled, with_phase, with_stripe, new_part, with_new_part, with_join, without_join, without_part, with_met_by, step_of, fault_in, read_answer, load_from, run_result, after_answer, after_change, after_report, after_process, report_for, keys_reported, reported_now, out_of_part, Agrees, IsSoundWorld, Parts, WorldState, home, stripe_for, entry_in, cached_entry, part_of, has_any, is_foreign, is_untold, with_foreign, without_foreign, with_doubt, is_misled, has_progress, is_agreed, with_commit, and_parts, IsCoherentAt, all_hold}
+use Rattle.jc_world.proofs.Common.{Change, ◌≡◌, Bool, true, false, cond, ◌&&◌, ◌||◌, List, [], ◌∷◌, is_some, is_none, slice_get, slice_set, Some, None, Option, option_map, sym, refl, ap, ◌∙◌, subst, inl, inr, and_right, or_parts, texts_ties, nat_list_cmp_total, eq_by_cmp, get, insert, remove, get-insert, get-remove, get-with_entry, WriterFailed, Bytes, Cache, entry_at, with_entry, key_cmp, callers_of, after_commit, Steps, State, Part, Shown, WorldEvent, Happens, Step, Run, reopens, is_reopening, with_settled, with_phase, with_stripe, new_part, with_new_part, with_join, without_join, without_part, with_met_by, step_of, fault_in, read_answer, load_from, run_result, after_answer, after_change, after_report, after_process, report_for, keys_reported, reported_now, out_of_part, Agrees, IsSoundWorld, Parts, WorldState, home, stripe_for, entry_in, cached_entry, has_any, is_foreign, is_untold, with_foreign, without_foreign, with_doubt, is_misled, has_progress, is_agreed, with_commit, and_parts, IsCoherentAt, all_hold}
 use Rattle.jc_world.specs.Told.{is_foreign_write, is_misled_at, RunsTrueTo}
 use Rattle.jc_world.proofs.Lemmas.{at_stripe, split, tied, each_report, KeyChange, by_nothing, by_refusal, by_step, by_reservation, by_join, by_commit, by_withdrawal, by_answer, by_retry, key_change, Move, no_move, quiet_move, step_move, reopening_move, move_step}
 use Rattle.jc_world.proofs.Holding.{is_part}

@@ -16,7 +16,7 @@
 --                     so it is from a clear of the key that is done on, and from such a load on
 --     ForgetsCleared  what is cached for a key after a clear of it is what the groups of events since then leave of an empty cache: what
 --                     was loaded or put before it counts no longer
-use Rattle.std.specs.Prelude.{◌≡◌, ◌==◌, ℕ, List, [], ◌∷◌, ◌++◌, Bool, true, false, Option, None, Some, IsSomeAnd}
+use Rattle.std.specs.Prelude.{◌≡◌, ◌==◌, ℕ, List, [], ◌∷◌, ◌++◌, Bool, true, false, Option, Some, IsSomeAnd}
 use Rattle.std.specs.Cmp.Lexicographic.{pointwise}
 use Rattle.std.specs.FinMap.{empty, get}
 use Rattle.jc_model.specs.Cache.{Bytes, Cache, entry_at}

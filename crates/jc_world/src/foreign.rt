@@ -1,7 +1,6 @@
 //! The keys that somebody else has written, and the cache may have something of from before.
-ghost use Rattle.std.specs.Prelude.{◌≡◌, is_none, option_copied, OnOk, OnErr, IfOk};
+ghost use Rattle.std.specs.Prelude.{◌≡◌, is_none, OnOk, OnErr, IfOk};
 ghost use Rattle.jc_model.specs.Cache.{entry_at, with_entry};
-ghost use Rattle.jc_world.specs.Premises.{is_agreed};
 ghost use Rattle.jc_world.specs.World.{with_foreign, without_foreign, with_doubt};
 ghost use Rattle.jc_world.specs.Events.{foreign_reopened};
 
@@ -51,16 +50,6 @@ pub(crate) fn doubt(foreign: &mut Contents, key: &Key, is_misled: bool) -> Resul
         mark(foreign, key)?;
     }
     Ok(())
-}
-
-/// Whether what is cached of a key is what the store holds, or nothing is.
-pub(crate) fn is_agreed(entry: Option<&Value>, stored: Option<&Value>) -> bool
-    ensures { result ≡ is_agreed (option_copied entry) (option_copied stored) }
-{
-    match entry {
-        Some(value) => stored.is_some_and(|held| *held == *value),
-        None => true,
-    }
 }
 
 /// If the write of a key by somebody else counts no longer, the key is none of these keys then.

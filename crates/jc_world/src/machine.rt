@@ -20,7 +20,7 @@ use crate::calls::{begin, drop_call, fault_in, find_call, refuse, settle};
 use crate::command::Command;
 use crate::ending::{end_all, pick_all};
 use crate::event::{JoinAnswer, Outcome, Premises, Shown, WorldEvent, show, show_end};
-use crate::foreign::{doubt, forget, is_agreed};
+use crate::foreign::{doubt, forget};
 use crate::held_keys::{HeldKeys, hold, is_misled, make_room, take};
 use crate::joined::{Joins, make_join_room, put_join, take_join};
 use crate::open_call::OpenCall;
@@ -254,7 +254,7 @@ impl Machine {
         let held = take(&mut self.held, key);
         let mut reply = Reply::Unit;
         let done = self.stripes.commit(number, held, &mut reply);
-        let agrees = is_agreed(self.stripes.entry(number, key), self.store.get(key));
+        let agrees = self.stripes.is_agreed(number, key, &self.store);
         forget(&mut self.foreign, key, agrees);
         let over = settle(&mut self.calls, call, key, fault_in(&reply));
         let outcome = Outcome::Stepped(shown_of(number, done, &reply));
