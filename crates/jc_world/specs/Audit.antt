@@ -33,7 +33,7 @@ differing w entries = map (λ e. e.0) (filter (differs w) entries)
 abbrev pub untold_among : WorldState → List (Bytes × Bytes) → List Bytes
 untold_among w foreign = map (λ e. e.0) (filter (λ e. is_untold w e.0) foreign)
 
--- each of them is one that others have written
+-- each of them is a foreign key
 abbrev pub untold_keys : WorldState → List Bytes
 untold_keys w = untold_among w (entries w.foreign)
 

@@ -15,7 +15,7 @@ IsCoherentAt w key = has_progress has_changed (get w.parts key) ≡ false
 abbrev pub Coherent : WorldState → Type 0
 Coherent w = (key : Bytes) → IsCoherentAt w key
 
--- but for what others have written, and the cache wasn't told
+-- but for what others have written, or lied about, and the cache wasn't told
 abbrev pub CoherentAsTold : WorldState → Type 0
 CoherentAsTold w = (key : Bytes) → is_untold w key ≡ false → IsCoherentAt w key
 

@@ -18,7 +18,8 @@
 --     new_part                    what is kept of a key that was just reserved
 --     with_part, without_part     the world with this part of a key, and with none
 --     with_new_part            the world in which a call has reserved its key. If it has no entry, no write of others counts any longer
---     foreign_committed           the keys that are untold if the cache has something of them, once one is committed
+--     foreign_committed           the foreign keys, once one is committed: it is one if somebody has lied about it, and none if its
+--                                 commit leaves what the store holds, or nothing
 --     with_commit                 the world once a key is committed
 --     with_join, without_join     the world with one join more, and without a call's join of a key
 --     BeginsAs                    the first phase of a call, by what it returns
@@ -48,10 +49,10 @@
 --     shown_process               what a processor's run shows
 --     keys_dropped                the keys that a reopening drops
 --     stripes_reopened            the stripes of the new shape, each with what it keeps
---     foreign_reopened            the keys that others have written, once it is opened again: none if what is kept is the store's
---     after_reopening             the world once it is opened again: as a new one, but for what is cached, the store, what others have
---                                 written, and the numbers of calls. Its premises count from here: the opening is coherent if what is
---                                 kept is the store's, but for keys that others have written
+--     foreign_reopened            the foreign keys, once it is opened again: none if what is kept is the store's
+--     after_reopening             the world once it is opened again: as a new one, but for what is cached, the store, the foreign keys,
+--                                 and the numbers of calls. Its premises count from here: the opening is coherent if what is
+--                                 kept is the store's, but for foreign keys
 --     Happens                     what an event that fits may show and leave. A call of many keys is over with the event after which none of
 --                                 its keys is open and no look is left; a call that leaves, or is refused whole, is given up instead
 --     Step                        one event: one that doesn't fit is shown as a fault and changes nothing

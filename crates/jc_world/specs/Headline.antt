@@ -10,12 +10,12 @@
 --     ReachesSince      after a list of events, of which none opened it again, an opening world is at this state
 --     StaysLegal        after every list of events the order is one legal history from what the cache opened with last, what is cached
 --                       is what it leaves, and each stripe's history is its part of the order
---     StaysCoherent     after every list of events, as long as the premises held since the last opening, the world is coherent, but
---                       for keys that others have written and the cache wasn't told of
---     with_all_premises  a world in which the premises have held so far, and others have written these keys, whatever came before
+--     StaysCoherent     after every list of events, if write-through is on, and the last opening was coherent but for foreign keys, the
+--                       world is coherent, but for untold keys
+--     with_all_premises  a world in which the premises have held so far, and these are the foreign keys, whatever came before
 --     StaysCoherentFrom from any world that is reached and coherent but for some keys, in which no key is reserved: after every list of
---                       events, as long as the premises held since then, the world is coherent, but for those of these and of the
---                       keys that others have written since that the cache wasn't told of
+--                       events, with write-through on, the world is coherent, but for those of these keys that are untold, and of
+--                       those that are foreign since
 --     is_answer         an event is an answer of the loader for a key, and was taken, by its outcome
 --     is_load           an event is a step of a key that had the loader asked, and isn't shared
 --     is_loaded         an answer of the loader is kept for the commit

@@ -7,11 +7,11 @@
 --     IsReopenedWorld   a reopening left an opening in the new shape, with the store and the numbers of calls as they were. Each
 --                       stripe opens with what it keeps, in this order of use. Each key has the entry that it had, but for those
 --                       that are shown, which are dropped. The premises hold then exactly if write-through is on and what is cached
---                       is the store's, but for keys that others have written and the cache wasn't told of
+--                       is the store's, but for untold keys
 --     ReopensOpen       every reopening does so
 --     is_by_others      an event is a write of the store by somebody else
 --     StaysUnwritten    if nobody else has written the store since the last opening, that was coherent, and each loader and each writer
---                       was honest, the world counts no key as written by others
+--                       was honest, no key is foreign
 --     StaysCoherentAlone
 --                       and if write-through is on too, it is coherent
 use Rattle.std.specs.Prelude.{◌≡◌, ◌==◌, ◌⊎◌, ◌↔◌, ◌++◌, ℕ, List, [], ◌∷◌, slice_get, Bool, true, false, None, Some, if◌then◌else◌}

@@ -12,10 +12,10 @@
 --     with_loader, with_writer     the premises behind an answer of a loader, and behind a report of a writer, by whether it was
 --                                  honest
 --     is_stored                    an entry is the store's
---     is_as_told                   an entry is the store's, or somebody else has written its key
+--     is_as_told                   an entry is the store's, or its key is foreign
 --     opens                        each entry with which these stripes opened passes a test
 --     opens_coherent, opens_as_told
---                                  each of them is the store's; and but for keys that somebody else has written
+--                                  each of them is the store's; and but for foreign keys
 --     is_agreed                    what is cached of a key is what the store holds, or nothing is
 --     are_honest                   each loader and each writer was honest so far
 use Rattle.std.specs.Prelude.{ℕ, List, Bool, true, false, ◌&&◌, ◌||◌, Option, None, Some, is_none, is_some}

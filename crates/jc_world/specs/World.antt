@@ -33,9 +33,10 @@
 --     has_join, is_joined             among these joins, and in a world, a call has joined a load of a key, and hasn't its answer
 --     is_free_of                      a call has neither reserved a key nor joined a load of it
 --     with_stored                     the world with this value in its store
---     is_foreign                      somebody else has written a key since the cache last wrote it, or reserved it with no entry
+--     is_foreign                      others have written a key in the store, or a loader or a writer has lied about it, since the cache
+--                                     last wrote it, reserved it with no entry, or left what the store held of it at a commit
 --     has_any                         the cache has something of a key: an entry, or a reservation
---     is_untold                       somebody else has written a key, and the cache has something of it from before
+--     is_untold                       a key is foreign, and the cache has something of it: it may be from before
 --     with_foreign, without_foreign   these keys with one more, and without one if its write counts no longer
 --     with_doubt                      these keys with one more if a loader or a writer has lied about it
 use Rattle.std.specs.Prelude.{◌==◌, ℕ, zero, suc, ◌+◌, List, [], ◌∷◌, length, Bool, true, false, not, ◌&&◌, ◌||◌, Option, None, Some, find, is_none, is_some, slice_get, if◌then◌else◌}
@@ -84,7 +85,7 @@ pub record WorldState : Type 0 where
   pub stripes : List State
   pub order : List Event  -- all events since the world was opened last, over all stripes
   pub store : Cache
-  pub foreign : Cache  -- the keys that somebody else has written since the cache last wrote or newly reserved them, each with no bytes
+  pub foreign : Cache  -- the foreign keys, of which the cache may have what isn't the store's, each with no bytes
   pub last : Option ℕ  -- the highest number of a call so far
   pub calls : List CallState  -- the calls under way, in the order in which they began
   pub parts : Parts
@@ -231,9 +232,9 @@ is_free_of parts joins call key =
 abbrev pub with_stored : WorldState → Bytes → Bytes → WorldState
 with_stored w key value = record w { store = with_entry w.store key (Some value) }
 
--- 6. What others have written.
+-- 6. What others have written, or lied about.
 
--- somebody else has written the key since the cache last wrote it, or reserved it with no entry
+-- others have written the key, or lied about it, since the cache last wrote it, newly reserved it, or agreed with the store on it
 abbrev pub is_foreign : WorldState → Bytes → Bool
 is_foreign w key = is_some (entry_at w.foreign key)
 

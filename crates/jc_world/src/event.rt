@@ -310,6 +310,6 @@ pub struct Premises {
     pub writers: bool,
     /// Honest loaders: each answer was a failure, or what the store held for the key when it came.
     pub loaders: bool,
-    /// A coherent opening: each entry with which the cache opened was the store's, but for keys that somebody else had written.
+    /// A coherent opening: each entry with which the cache opened was the store's, but for foreign keys.
     pub opening: bool,
 }

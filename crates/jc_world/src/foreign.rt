@@ -1,4 +1,5 @@
-//! The keys that somebody else has written, and the cache may have something of from before.
+//! Foreign keys: others have written them in the store, or a loader or a writer has lied about them, and the cache may have something of
+//! them that isn't the store's.
 ghost use Rattle.std.specs.Prelude.{◌≡◌, is_none, OnOk, OnErr, IfOk};
 ghost use Rattle.jc_model.specs.Cache.{entry_at, with_entry};
 ghost use Rattle.jc_world.specs.World.{with_foreign, without_foreign, with_doubt};
@@ -8,7 +9,7 @@ use jc_model::Contents;
 use jc_types::{Key, Value};
 use std::alloc::{AllocError, Global};
 
-/// Somebody else gives the store a value, and the key is one of these keys then.
+/// Somebody else gives the store a value, and the key is foreign then.
 pub(crate) fn write_foreign(
     store: &mut Contents,
     foreign: &mut Contents,
@@ -28,7 +29,7 @@ pub(crate) fn write_foreign(
     Ok(())
 }
 
-/// Makes a key one of these keys, and says whether it was none of them.
+/// Makes a key foreign, and says whether it wasn't before.
 fn mark(foreign: &mut Contents, key: &Key) -> Result<bool, AllocError>
     ensures ok { OnOk result (foreign.new ≡ with_foreign foreign.old key.now) }
     ensures new { IfOk result (λ is_new. is_new ≡ is_none (entry_at foreign.old key.now)) }
@@ -41,7 +42,7 @@ fn mark(foreign: &mut Contents, key: &Key) -> Result<bool, AllocError>
     Ok(true)
 }
 
-/// If a loader or a writer has lied about a key, the key is one of these keys then.
+/// If a loader or a writer has lied about a key, it is foreign then.
 pub(crate) fn doubt(foreign: &mut Contents, key: &Key, is_misled: bool) -> Result<(), AllocError>
     ensures ok { OnOk result (foreign.new ≡ with_doubt foreign.old key.now is_misled) }
     ensures err { OnErr result (foreign.new ≡ foreign.old) }
@@ -52,7 +53,7 @@ pub(crate) fn doubt(foreign: &mut Contents, key: &Key, is_misled: bool) -> Resul
     Ok(())
 }
 
-/// If the write of a key by somebody else counts no longer, the key is none of these keys then.
+/// If what others did counts no longer for a key, it isn't foreign then.
 pub(crate) fn forget(foreign: &mut Contents, key: &Key, is_over: bool)
     ensures { foreign.new ≡ without_foreign foreign.old key.now is_over }
 {
@@ -61,7 +62,7 @@ pub(crate) fn forget(foreign: &mut Contents, key: &Key, is_over: bool)
     }
 }
 
-/// If no write by somebody else counts any longer, there is none of these keys then.
+/// If what others did counts no longer at all, no key is foreign then.
 pub(crate) fn forget_all(alloc: Global, foreign: &mut Contents, are_over: bool)
     ensures { foreign.new ≡ foreign_reopened foreign.old are_over }
 {

@@ -42,8 +42,8 @@ pub fn stays_coherent()
 }
 
 /// If nobody else has written the store since the last opening, each value that was cached then was the store's, and each loader and
-/// each writer has been honest since, no key is untold. The world at the begin of the run is to count no key as written by others, as a
-/// world at its start does. A reopening that keeps only what is the store's forgets what others had written before.
+/// each writer has been honest since, no key is untold. In the world at the begin of the run no key is to be foreign, as in a world at its
+/// start. A reopening that keeps only what is the store's forgets what others had done before.
 pub fn stays_unwritten()
     ensures { StaysUnwritten }
 {}

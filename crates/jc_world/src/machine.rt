@@ -37,7 +37,7 @@ pub(crate) struct Machine {
     pub(crate) config: Config,
     pub(crate) stripes: Stripes,
     pub(crate) store: Contents,
-    // The keys that somebody else has written since this cache last wrote or newly reserved them, each with an empty value.
+    // The foreign keys, each with an empty value.
     pub(crate) foreign: Contents,
     pub(crate) last: Option<u64>,
     pub(crate) calls: Vec<OpenCall>,

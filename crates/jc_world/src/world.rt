@@ -201,15 +201,17 @@ impl World {
         self.machine.store.entries(alloc)
     }
 
-    /// The keys that somebody else has written since this cache last wrote or newly reserved them, in byte order, each with an empty
-    /// value. An `Err` says that an allocation failed.
+    /// The foreign keys, in byte order, each with an empty value: others have written them in the store, or a loader or a writer has lied
+    /// about them, since this cache last wrote them, reserved them with no entry, or left what the store held of them at a commit. An
+    /// `Err` says that an allocation failed.
     pub fn foreign_keys(&self, alloc: Global) -> Result<Vec<(Key, Value)>, AllocError>
         ensures { IfOk result (λ entries. entries.items ≡ map.entries self.now.world.foreign) }
     {
         self.machine.foreign.entries(alloc)
     }
 
-    /// Whether somebody else has written the key, and the cache has had something of it ever since: an entry, or a reservation.
+    /// Whether the key is foreign, as [`foreign_keys`](World::foreign_keys) says, and the cache has had something of it ever since: an entry,
+    /// or a reservation.
     pub fn is_untold(&self, key: &Key) -> bool
         ensures { result ≡ is_untold self.now.world key.now }
     {

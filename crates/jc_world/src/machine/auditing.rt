@@ -81,7 +81,7 @@ impl Machine {
         Ok(keys)
     }
 
-    /// Whether somebody else has written the key, and the cache has something of it from before.
+    /// Whether the key is foreign, and the cache has something of it.
     pub(crate) fn is_untold(&self, key: &Key) -> bool
         requires { IsSoundWorld self.now }
         ensures { result ≡ is_untold self.now key.now }

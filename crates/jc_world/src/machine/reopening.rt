@@ -84,7 +84,7 @@ fn are_stored(store: &Contents, entries: &[(Key, Value)]) -> bool
     entries.iter().all(|entry| is_stored(store, entry))
 }
 
-/// Whether each of these entries is the store's, but for keys that somebody else has written.
+/// Whether each of these entries is the store's, but for foreign keys.
 fn are_as_told(foreign: &Contents, store: &Contents, entries: &[(Key, Value)]) -> bool
     ensures { result ≡ list_all (is_as_told foreign.now store.now) entries.now }
 {
@@ -93,7 +93,7 @@ fn are_as_told(foreign: &Contents, store: &Contents, entries: &[(Key, Value)]) -
         .all(|entry| is_as_told(foreign, store, entry))
 }
 
-/// Whether the store has this entry, or somebody else has written its key.
+/// Whether the store has this entry, or its key is foreign.
 fn is_as_told(foreign: &Contents, store: &Contents, entry: &(Key, Value)) -> bool
     ensures { result ≡ is_as_told foreign.now store.now entry.now }
 {
