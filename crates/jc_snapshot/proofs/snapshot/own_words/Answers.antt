@@ -1,6 +1,6 @@
 use Rattle.jc_snapshot.proofs.Common.{[], ◌∷◌, ◌++◌, Some, sym, ap, ◌∙◌, framed, flat, bit, last_row}
 use Rattle.jc_snapshot.proofs.FlatRows.{flat_push}
-use Rattle.jc_snapshot.proofs.TableNumbers.{numbers_stay}
+use Rattle.jc_snapshot.proofs.TableNumbers.{extends_self, extends_twice, numbers_stay}
 use Rattle.jc_snapshot.proofs.snapshot.own_words.Goals as goal
 
 pub returns-clause-rows : goal.returns-clause-rows
@@ -26,3 +26,101 @@ returns-clause-rows c =
         foreign_are = numbers_stay _ _ _ _ c.store_numbers.ensures.grows c.in_ok-foreign.ensures.numbers;
       },
     )
+
+pub returns-in_err-store-clause-grows : goal.returns-in_err-store-clause-grows
+returns-in_err-store-clause-grows c = record {
+  configs = c.number_of.ensures.grows;
+  premises = c.number_of-2.ensures.grows;
+  entries = extends_twice _ _ _ c.foreign_numbers.ensures.grows c.store_numbers.ensures.grows;
+  reservations = extends_self _;
+  joiners = extends_self _;
+  answers = extends_self _;
+  parts = extends_self _;
+  joins = extends_self _;
+  heads = extends_self _;
+  tasks = extends_self _;
+}
+
+pub returns-in_err-parts-clause-grows : goal.returns-in_err-parts-clause-grows
+returns-in_err-parts-clause-grows c = record {
+  configs = c.number_of.ensures.grows;
+  premises = c.number_of-2.ensures.grows;
+  entries = extends_twice _ _ _ c.foreign_numbers.ensures.grows c.store_numbers.ensures.grows;
+  reservations = extends_self _;
+  joiners = extends_self _;
+  answers = extends_self _;
+  parts = c.part_numbers.ensures.grows;
+  joins = extends_self _;
+  heads = extends_self _;
+  tasks = extends_self _;
+}
+
+pub returns-in_err-joins-clause-grows : goal.returns-in_err-joins-clause-grows
+returns-in_err-joins-clause-grows c = record {
+  configs = c.number_of.ensures.grows;
+  premises = c.number_of-2.ensures.grows;
+  entries = extends_twice _ _ _ c.foreign_numbers.ensures.grows c.store_numbers.ensures.grows;
+  reservations = extends_self _;
+  joiners = extends_self _;
+  answers = extends_self _;
+  parts = c.part_numbers.ensures.grows;
+  joins = c.join_numbers.ensures.grows;
+  heads = extends_self _;
+  tasks = extends_self _;
+}
+
+pub returns-in_err-last-clause-grows : goal.returns-in_err-last-clause-grows
+returns-in_err-last-clause-grows c = record {
+  configs = c.number_of.ensures.grows;
+  premises = c.number_of-2.ensures.grows;
+  entries = extends_twice _ _ _ c.foreign_numbers.ensures.grows c.store_numbers.ensures.grows;
+  reservations = extends_self _;
+  joiners = extends_self _;
+  answers = extends_self _;
+  parts = c.part_numbers.ensures.grows;
+  joins = c.join_numbers.ensures.grows;
+  heads = extends_self _;
+  tasks = extends_self _;
+}
+
+pub returns-in_err-words-clause-grows : goal.returns-in_err-words-clause-grows
+returns-in_err-words-clause-grows c = record {
+  configs = c.number_of.ensures.grows;
+  premises = c.number_of-2.ensures.grows;
+  entries = extends_twice _ _ _ c.foreign_numbers.ensures.grows c.store_numbers.ensures.grows;
+  reservations = extends_self _;
+  joiners = extends_self _;
+  answers = extends_self _;
+  parts = c.part_numbers.ensures.grows;
+  joins = c.join_numbers.ensures.grows;
+  heads = extends_self _;
+  tasks = extends_self _;
+}
+
+pub returns-in_err-push_row-clause-grows : goal.returns-in_err-push_row-clause-grows
+returns-in_err-push_row-clause-grows c = record {
+  configs = c.number_of.ensures.grows;
+  premises = c.number_of-2.ensures.grows;
+  entries = extends_twice _ _ _ c.foreign_numbers.ensures.grows c.store_numbers.ensures.grows;
+  reservations = extends_self _;
+  joiners = extends_self _;
+  answers = extends_self _;
+  parts = c.part_numbers.ensures.grows;
+  joins = c.join_numbers.ensures.grows;
+  heads = extends_self _;
+  tasks = extends_self _;
+}
+
+pub returns-clause-grows : goal.returns-clause-grows
+returns-clause-grows c = record {
+  configs = c.number_of.ensures.grows;
+  premises = c.number_of-2.ensures.grows;
+  entries = extends_twice _ _ _ c.foreign_numbers.ensures.grows c.store_numbers.ensures.grows;
+  reservations = extends_self _;
+  joiners = extends_self _;
+  answers = extends_self _;
+  parts = c.part_numbers.ensures.grows;
+  joins = c.join_numbers.ensures.grows;
+  heads = extends_self _;
+  tasks = extends_self _;
+}
