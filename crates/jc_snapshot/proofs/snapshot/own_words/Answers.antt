@@ -15,8 +15,8 @@ returns-clause-rows c =
     let foreign = c.deref-5.ensures.value in (
       record { config = config; premises = premises; store = c.in_ok-store.store.items; parts = c.in_ok-parts.parts.items; joins = c.in_ok-joins.joins.items; foreign = c.in_ok-foreign.foreign.items },
       c.in_ok-push_row.ensures
-      ∙ (λ i. (c.in_ok-words.ensures ∙ (λ j. flat ((config ∷ premises ∷ fresh j ∷ []) ∷ last j ∷ store j ∷ parts j ∷ joins j ∷ []))) i ++ framed (foreign i))
-      ∙ sym (flat_push ((config ∷ premises ∷ bit c.args.world.now.world.is_fresh ∷ []) ∷ last_row c.args.world.now.world.last ∷ c.in_ok-store.store.items ∷ c.in_ok-parts.parts.items ∷ c.in_ok-joins.joins.items ∷ []) c.in_ok-foreign.foreign.items),
+          ∙ (λ i. (c.in_ok-words.ensures ∙ (λ j. flat ((config ∷ premises ∷ fresh j ∷ []) ∷ last j ∷ store j ∷ parts j ∷ joins j ∷ []))) i ++ framed (foreign i))
+          ∙ sym (flat_push ((config ∷ premises ∷ bit c.args.world.now.world.is_fresh ∷ []) ∷ last_row c.args.world.now.world.last ∷ c.in_ok-store.store.items ∷ c.in_ok-parts.parts.items ∷ c.in_ok-joins.joins.items ∷ []) c.in_ok-foreign.foreign.items),
       record {
         config_is = c.in_ok-config.ensures.number ∙ ap (λ x. Some x) c.config.ensures;
         premises_are = c.in_ok-premises.ensures.number ∙ ap (λ x. Some x) c.premises.ensures;
