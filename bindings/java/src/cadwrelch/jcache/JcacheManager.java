@@ -97,6 +97,7 @@ final class JcacheManager implements CacheManager {
         Objects.requireNonNull(configuration, "configuration");
         CadwrelchConfiguration<K, V> copy = copyOf(configuration);
         Settings settings = new Settings(own, cacheName, copy);
+        copy.note(settings);
         NativeLibrary.require(Settings.library(own));
         reserve(cacheName);
         JcacheCache<K, V> cache;
@@ -117,9 +118,7 @@ final class JcacheManager implements CacheManager {
 
     private static <K, V> CadwrelchConfiguration<K, V> copyOf(Configuration<K, V> configuration) {
         CadwrelchConfiguration<K, V> own;
-        if (configuration instanceof CadwrelchConfiguration) {
-            own = new CadwrelchConfiguration<>((CadwrelchConfiguration<K, V>) configuration);
-        } else if (configuration instanceof CompleteConfiguration) {
+        if (configuration instanceof CompleteConfiguration) {
             own = new CadwrelchConfiguration<>((CompleteConfiguration<K, V>) configuration);
         } else {
             own = new CadwrelchConfiguration<>();

@@ -4,6 +4,8 @@ import static cadwrelch.tests.Check.equal;
 import static cadwrelch.tests.Check.holds;
 import static cadwrelch.tests.Check.thrown;
 
+import java.time.Duration;
+import java.util.List;
 import java.util.Properties;
 import javax.cache.Cache;
 import javax.cache.CacheException;
@@ -104,6 +106,12 @@ final class Sizes {
         equal("a cache has the size that its configuration had", 3, kept(cache, 20, 1));
         Cache<Integer, Integer> copy = Caches.create(cache.getConfiguration(CadwrelchConfiguration.class));
         equal("and its configuration makes another one of that size", 3, kept(copy, 20, 1));
+        CadwrelchConfiguration<Integer, Integer> of = manager("capacity", "1000", "absent_for", "2 m")
+                .createCache("told", new CadwrelchConfiguration<Integer, Integer>().setRefreshAfter(Duration.ofHours(1)))
+                .getConfiguration(CadwrelchConfiguration.class);
+        equal("a cache's configuration says what the cache has, whatever has said so",
+                List.of(1000, 3, 260, Duration.ofHours(1), Duration.ofMinutes(2)), List.of(of.getCapacity(),
+                        of.getStripes(), of.getHistory(), of.getRefreshAfter(), of.getAbsentFor()));
     }
 
     /** That a cache isn't made, and what the text says. */
@@ -125,7 +133,7 @@ final class Sizes {
         thrown("and properties, when the manager is made", CacheException.class,
                 () -> manager("stripes", "16", "titles.capacity", "8"));
         thrown("a setter refuses what is out of its limits", IllegalArgumentException.class, () -> none.setCapacity(0));
-        thrown("or of another kind", IllegalArgumentException.class, () -> none.setRefreshAfter(java.time.Duration.ZERO));
+        thrown("or of another kind", IllegalArgumentException.class, () -> none.setRefreshAfter(Duration.ZERO));
         System.setProperty("cadwrelch.capacty", "9");
         try {
             CacheException refused = thrown("a system property that isn't there is CacheException",
