@@ -79,8 +79,9 @@ public class CadwrelchConfiguration<K, V> extends MutableConfiguration<K, V> {
         stripes = settings.stripes;
         capacity = settings.capacity;
         history = settings.history;
-        refreshAfter = settings.refreshAfter == 0 ? null : Duration.ofNanos(settings.refreshAfter);
-        absentFor = settings.absentFor == 0 ? null : Duration.ofNanos(settings.absentFor);
+        boolean isReloaded = settings.refreshAfter != 0 && getCacheLoaderFactory() != null;
+        refreshAfter = isReloaded ? Duration.ofNanos(settings.refreshAfter) : null;
+        absentFor = settings.absentFor != 0 && isReadThrough() ? Duration.ofNanos(settings.absentFor) : null;
     }
 
     /**
@@ -167,7 +168,8 @@ public class CadwrelchConfiguration<K, V> extends MutableConfiguration<K, V> {
     /**
      * Sets the age at which an entry is loaded again: a {@code get} that finds an older one answers it at once, and has
      * it reloaded in the background by {@code load} of the cache's loader. Puts of that key wait for the reload, so it
-     * never overwrites a newer value. A reload that fails is logged, and one that finds nothing leaves the entry.
+     * never overwrites a newer value. A reload that fails is logged, and one that finds nothing leaves the entry. The
+     * cache has to have a loader; a property says nothing to one without.
      *
      * @param age longer than 0
      * @return this configuration
@@ -180,7 +182,8 @@ public class CadwrelchConfiguration<K, V> extends MutableConfiguration<K, V> {
     /**
      * Sets for how long it is remembered that the loader has found nothing at a key. Meanwhile {@code get}, {@code
      * getAll} and {@code containsKey} answer that there is nothing, and nobody is asked. Any other call at the key
-     * forgets it first. It takes the room of an entry.
+     * forgets it first. It takes the room of an entry. Read-through has to be on; a property says nothing to a cache
+     * without.
      *
      * @param time longer than 0
      * @return this configuration
