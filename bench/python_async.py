@@ -1,6 +1,11 @@
 #!/usr/bin/env python3
-"""What a hit and a joined load cost in coroutines, and the memory of an entry. usage: python_async.py"""
+"""Measures hits, joined loads, calls of many keys and writes of coroutines: nanoseconds of a processor, the median and the least of some
+rounds, beside what asyncio itself costs.
+
+usage: python_async.py [ROUNDS]
+"""
 import asyncio
+import os
 import statistics
 import sys
 import time
@@ -8,71 +13,116 @@ import time
 import cadwrelch
 
 KEYS = [f'key number {i}' for i in range(1024)]
+TURNS = 50
 
 
-def rss():
-    with open('/proc/self/statm') as file:
-        return int(file.read().split()[1]) * 4096
-
-
-async def nothing(key):
+async def one(key):
     return key
 
 
-async def timed(what, calls):
+async def write(key, value):
+    return None
+
+
+async def measure(rounds, what, calls):
     times = []
-    for _ in range(5):
+    for _ in range(rounds):
         began = time.process_time_ns()
         await what()
         times.append((time.process_time_ns() - began) / calls)
-    return f'{statistics.median(times):.0f}, least {min(times):.0f}'
+    return times
 
 
-async def main():
-    cache = cadwrelch.AsyncCache(loader=nothing, stripes=16, capacity=1024)
+async def awaits(get):
+    for _ in range(TURNS):
+        for key in KEYS:
+            await get(key)
+
+
+async def shielded(key):
+    return await asyncio.shield(asyncio.ensure_future(one(key)))
+
+
+async def puts(cache):
+    for _ in range(TURNS):
+        for key in KEYS:
+            await cache.put(key, key)
+
+
+async def hits(cache):
+    for _ in range(TURNS):
+        for key in KEYS:
+            cache.hit(key)
+
+
+async def tasks(count):
+    await asyncio.gather(*[asyncio.sleep(0) for _ in range(count)])
+
+
+async def stampede(count):
+    loads = []
+
+    async def load(key):
+        loads.append(key)
+        await asyncio.sleep(0)
+        return key
+
+    cache = cadwrelch.AsyncCache(loader=load)
+    await asyncio.gather(*[cache.get('a') for _ in range(count)])
+    assert loads == ['a']
+
+
+class Many:
+    """A loader and a writer of many keys."""
+
+    async def load(self, key):
+        return key
+
+    async def load_many(self, keys):
+        return dict(zip(keys, keys))
+
+    async def write(self, key, value):
+        return None
+
+    delete = load
+
+    async def write_many(self, items):
+        return None
+
+
+async def get_many(loader):
+    await cadwrelch.AsyncCache(loader=loader, stripes=64).get_many(KEYS)
+
+
+async def put_many(writer):
+    await cadwrelch.AsyncCache(writer=writer, stripes=64).put_many(dict.fromkeys(KEYS, 1))
+
+
+async def main(rounds):
+    cache = cadwrelch.AsyncCache(loader=one, stripes=16, capacity=1024)
+    function = cadwrelch.cached(cadwrelch.AsyncCache(stripes=16, capacity=1024))(one)
+    plain, written = cadwrelch.AsyncCache(stripes=16, capacity=1024), cadwrelch.AsyncCache(writer=write, stripes=16, capacity=1024)
     for key in KEYS:
         await cache.get(key)
-
-    async def awaits(get):
-        for _ in range(50):
-            for key in KEYS:
-                await get(key)
-
-    async def hits():
-        for _ in range(50):
-            for key in KEYS:
-                cache.hit(key)
-
-    async def stampede(count):
-        store = {'loads': 0}
-
-        async def load(key):
-            store['loads'] += 1
-            await asyncio.sleep(0)
-            return key
-
-        fresh = cadwrelch.AsyncCache(loader=load)
-        await asyncio.gather(*[fresh.get('a') for _ in range(count)])
-        assert store['loads'] == 1
-
-    print('await of a coroutine that returns its key:', await timed(lambda: awaits(nothing), 50 * 1024))
-    print('await AsyncCache.get, a hit:', await timed(lambda: awaits(cache.get), 50 * 1024))
-    print('AsyncCache.hit:', await timed(hits, 50 * 1024))
-    print('1,000 gets of one missing key by gather, a get:', await timed(lambda: stampede(1000), 1000))
-    count = 100_000
-    keys = list(range(count))
-    values = [object() for _ in keys]
-    before = rss()
-    table = dict(zip(keys, values))
-    between = rss()
-    large = cadwrelch.Cache(maxsize=count * 2)
-    opened = rss()
-    for key in keys:
-        large[key] = values[key]
-    print(f'bytes an entry, key and value not counted: dict {(between - before) / count:.0f}, Cache {(rss() - opened) / count:.0f}; '
-          f'an empty stripe of 4,096 {(opened - between) / (2 * count / 4096):.0f}', len(large), len(table))
+    calls = TURNS * len(KEYS)
+    rows = [('await of a coroutine that returns its key', lambda: awaits(one), calls),
+            ('await AsyncCache.get, a hit', lambda: awaits(cache.get), calls),
+            ('AsyncCache.hit', lambda: hits(cache), calls),
+            ('await of a cached coroutine function, a hit', lambda: awaits(function), calls),
+            ('await AsyncCache.put', lambda: puts(plain), calls),
+            ('await of a shielded task of such a coroutine', lambda: awaits(shielded), calls),
+            ('await AsyncCache.put, written through', lambda: puts(written), calls),
+            ('a task of 1,000 by gather that sleeps once', lambda: tasks(1000), 1000),
+            ('a get of 1,000 of one missing key by gather', lambda: stampede(1000), 1000),
+            ('a key of a get_many of 1,024, loader of one key', lambda: get_many(one), len(KEYS)),
+            ('a key of a get_many of 1,024, loader of many', lambda: get_many(Many()), len(KEYS)),
+            ('a key of a put_many of 1,024, writer of many', lambda: put_many(Many()), len(KEYS))]
+    print(sys.version.split()[0], 'cadwrelch', cadwrelch.__version__, 'load', os.getloadavg()[0])
+    print('\n| coroutines | processor, ns | least |\n|---|---|---|')
+    for name, what, count in rows:
+        times = await measure(rounds, what, count)
+        print(f'| {name} | {statistics.median(times):.0f} | {min(times):.0f} |', flush=True)
 
 
 if __name__ == '__main__':
-    print(sys.version.split()[0])
-    asyncio.run(main())
+    asyncio.run(main(int(sys.argv[1]) if len(sys.argv) > 1 else 5))

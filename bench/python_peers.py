@@ -1,33 +1,28 @@
 #!/usr/bin/env python3
-"""Measures hits, puts and hits of threads of this cache beside functools.lru_cache and cachetools, in one process and in turns.
+"""Measures hits, puts, cached functions, hits of threads and memory of this cache beside functools.lru_cache and, if it is installed,
+cachetools: all in one process and in turns, so that they can be compared whatever else the machine does.
 
-usage: python_peers.py [ROUNDS]     CADWRELCH_CTYPES may name a folder with the module by ctypes, as it was before, with CADWRELCH_CORE_SO
+usage: python_peers.py [ROUNDS]
 """
 import collections
 import functools
-import importlib.util
 import os
 import statistics
+import subprocess
 import sys
 import threading
 import time
 
-import cachetools
 import cadwrelch
+
+try:
+    import cachetools
+except ImportError:
+    cachetools = None
 
 KEYS = [f'key number {i}' for i in range(1024)]
 ROOM = 16384
 CALLS = 100 * len(KEYS)
-
-
-def by_ctypes():
-    folder = os.environ.get('CADWRELCH_CTYPES')
-    if not folder:
-        return None
-    spec = importlib.util.spec_from_file_location('cadwrelch_ctypes', f'{folder}/__init__.py', submodule_search_locations=[folder])
-    sys.modules['cadwrelch_ctypes'] = module = importlib.util.module_from_spec(spec)
-    spec.loader.exec_module(module)
-    return module
 
 
 def filled(put):
@@ -35,54 +30,53 @@ def filled(put):
         put(key, key)
 
 
+def one(key):
+    return key
+
+
+def ours(**words):
+    return cadwrelch.Cache(stripes=16, capacity=1024, **words)
+
+
 def gets():
     """What gets a key of each cache, all hits."""
-    found = {}
-    found['an empty function of Python'] = lambda key: None
-    plain = dict(zip(KEYS, KEYS))
-    found['dict.get'] = plain.get
-    lru = functools.lru_cache(ROOM)(lambda key: key)
-    filled(lambda key, value: lru(key))
-    found['functools.lru_cache'] = lru
-    cache = cachetools.LRUCache(ROOM)
-    filled(cache.__setitem__)
-    found['cachetools.LRUCache.get'] = cache.get
-    found['cachetools.LRUCache[]'] = cache.__getitem__
-    ttl = cachetools.TTLCache(ROOM, 1000)
-    filled(ttl.__setitem__)
-    found['cachetools.TTLCache.get'] = ttl.get
-    locked = cachetools.cached(cachetools.LRUCache(ROOM), lock=threading.RLock())(lambda key: key)
-    filled(lambda key, value: locked(key))
-    found['cachetools.cached(LRUCache, lock)'] = locked
-    locked_ttl = cachetools.cached(cachetools.TTLCache(ROOM, 1000), lock=threading.RLock())(lambda key: key)
-    filled(lambda key, value: locked_ttl(key))
-    found['cachetools.cached(TTLCache, lock)'] = locked_ttl
-    old = by_ctypes()
-    if old is not None:
-        cache = old.Cache(stripes=16, capacity=1024)
-        filled(cache.put)
-        found['by ctypes: Cache.get'] = cache.get
+    found = {'an empty function of Python': lambda key: None, 'dict.get': dict(zip(KEYS, KEYS)).get}
+    if cachetools:
+        cache, ttl = cachetools.LRUCache(ROOM), cachetools.TTLCache(ROOM, 1000)
+        filled(cache.__setitem__)
+        filled(ttl.__setitem__)
+        found.update({'cachetools.LRUCache.get': cache.get, 'cachetools.LRUCache[]': cache.__getitem__, 'cachetools.TTLCache.get': ttl.get})
     for name, words in (('', {}), (', ttl', {'ttl': 1000}), (', tti', {'tti': 1000}), (', ttl, timer=time.monotonic', {'ttl': 1000, 'timer': time.monotonic})):
-        cache = cadwrelch.Cache(stripes=16, capacity=1024, **words)
+        cache = ours(**words)
         filled(cache.put)
-        found[f'extension: Cache.get{name}'] = cache.get
+        found[f'Cache.get{name}'] = cache.get
         if not words:
-            found['extension: Cache[]'] = cache.__getitem__
+            found['Cache[]'] = cache.__getitem__
+    return found
+
+
+def functions():
+    """Functions whose results are cached, all hits."""
+    found = {'functools.lru_cache': functools.lru_cache(ROOM)(one)}
+    if cachetools:
+        found['cachetools.cached(LRUCache)'] = cachetools.cached(cachetools.LRUCache(ROOM))(one)
+        found['cachetools.cached(LRUCache, lock)'] = cachetools.cached(cachetools.LRUCache(ROOM), lock=threading.RLock())(one)
+        found['cachetools.cached(TTLCache, lock)'] = cachetools.cached(cachetools.TTLCache(ROOM, 1000), lock=threading.RLock())(one)
+    found['cadwrelch.cached(Cache)'] = cadwrelch.cached(ours())(one)
+    found['cadwrelch.cached(Cache, ttl)'] = cadwrelch.cached(ours(ttl=1000))(one)
+    for function in found.values():
+        filled(lambda key, value: function(key))
     return found
 
 
 def puts():
     """What puts a key, which is there already."""
-    found = {'dict': {}.__setitem__, 'cachetools.LRUCache': cachetools.LRUCache(ROOM).__setitem__,
-             'cachetools.TTLCache': cachetools.TTLCache(ROOM, 1000).__setitem__}
-    old = by_ctypes()
-    if old is not None:
-        found['by ctypes: Cache.put'] = old.Cache(stripes=16, capacity=1024).put
-        found['by ctypes: Cache.put, written through'] = old.Cache(writer=lambda key, value: None, stripes=16, capacity=1024).put
-    found['extension: Cache[]='] = cadwrelch.Cache(stripes=16, capacity=1024).__setitem__
-    found['extension: Cache.put'] = cadwrelch.Cache(stripes=16, capacity=1024).put
-    found['extension: Cache.put, ttl'] = cadwrelch.Cache(stripes=16, capacity=1024, ttl=1000).put
-    found['extension: Cache.put, written through'] = cadwrelch.Cache(writer=lambda key, value: None, stripes=16, capacity=1024).put
+    found = {'dict': {}.__setitem__}
+    if cachetools:
+        found.update({'cachetools.LRUCache[]=': cachetools.LRUCache(ROOM).__setitem__, 'cachetools.TTLCache[]=': cachetools.TTLCache(ROOM, 1000).__setitem__})
+    found.update({'Cache[]=': ours().__setitem__, 'Cache.put': ours().put, 'Cache.put, ttl': ours(ttl=1000).put,
+                  'Cache.put, written through': ours(writer=lambda key, value: None).put,
+                  'Cache.put, ttl, written through': ours(writer=lambda key, value: None, ttl=1000).put})
     return found
 
 
@@ -109,7 +103,8 @@ def on_threads(run, function, calls, threads):
     return (time.process_time_ns() - processor) / calls, (time.perf_counter_ns() - clock) / calls
 
 
-def table(title, run, functions, rounds, threads):
+def table(title, run, functions, rounds, threads=1):
+    """Prints a table, and returns the median of each row."""
     times = collections.defaultdict(list)
     for _ in range(rounds):
         for name, function in functions.items():
@@ -118,15 +113,53 @@ def table(title, run, functions, rounds, threads):
     for name, found in times.items():
         cpu, clock = zip(*found)
         print(f'| {name} | {statistics.median(cpu):.0f} | {min(cpu):.0f} | {statistics.median(clock):.0f} |', flush=True)
+    return {name: statistics.median([cpu for cpu, _ in found]) for name, found in times.items()}
+
+
+def ratio(found, name, others):
+    for other in others:
+        if other in found:
+            print(f'{name} is {found[name] / found[other]:.2f} of {other}')
+
+
+MEMORY = '''
+import sys
+sys.path[:] = %r
+def rss():
+    with open('/proc/self/statm') as file:
+        return int(file.read().split()[1]) * 4096
+count = 100_000
+keys, values = list(range(count)), [object() for _ in range(count)]
+import cadwrelch
+cache = %s
+before = rss()
+for key in keys:
+    cache[key] = values[key]
+print(round((rss() - before) / count))
+'''
+
+
+def memory():
+    """Bytes an entry, key and value not counted, each in a process of its own."""
+    kinds = {'dict': '{}', 'Cache': 'cadwrelch.Cache(maxsize=200_000)', 'Cache, ttl': 'cadwrelch.Cache(maxsize=200_000, ttl=1000)'}
+    if cachetools:
+        kinds.update({'cachetools.LRUCache': '__import__("cachetools").LRUCache(200_000)', 'cachetools.TTLCache': '__import__("cachetools").TTLCache(200_000, 1000)'})
+    print('\n| memory of an entry | bytes |\n|---|---|')
+    for name, made in kinds.items():
+        said = subprocess.run([sys.executable, '-c', MEMORY % (sys.path, made)], stdout=subprocess.PIPE, universal_newlines=True, check=True)
+        print(f'| {name} | {said.stdout.strip()} |', flush=True)
 
 
 def main(rounds):
-    print(sys.version.split()[0], 'cachetools', cachetools.__version__, 'load', os.getloadavg()[0])
-    functions = gets()
-    table('hit, 1 thread', run_gets, functions, rounds, 1)
-    table('put over an entry, 1 thread', run_puts, puts(), rounds, 1)
-    few = {name: function for name, function in functions.items() if 'LRUCache[]' not in name and 'timer' not in name}
+    print(sys.version.split()[0], 'cadwrelch', cadwrelch.__version__, 'cachetools', cachetools.__version__ if cachetools else 'none', 'load', os.getloadavg()[0])
+    found = table('hit, 1 thread', run_gets, {**gets(), **functions()}, rounds)
+    ratio(found, 'Cache.get', ['cachetools.LRUCache.get', 'functools.lru_cache'])
+    ratio(found, 'cadwrelch.cached(Cache)', ['cachetools.cached(LRUCache)', 'functools.lru_cache'])
+    found = table('put over an entry, 1 thread', run_puts, puts(), rounds)
+    ratio(found, 'Cache.put', ['cachetools.LRUCache[]='])
+    few = {name: function for name, function in {**gets(), **functions()}.items() if '[]' not in name and 'timer' not in name}
     table('hit, 4 threads', run_gets, few, max(3, rounds // 2), 4)
+    memory()
 
 
 if __name__ == '__main__':

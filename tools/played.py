@@ -6,7 +6,7 @@ import dataclasses
 import re
 
 ASKS = ('load', 'write', 'delete')  # what the outside is asked for
-ONE_KEY = ('get', 'contains', 'put', 'getput', 'putif', 'remove', 'removeif', 'getremove', 'replace', 'replaceif', 'getreplace', 'invoke')
+ONE_KEY = ('get', 'contains', 'put', 'getput', 'putif', 'remove', 'removeif', 'getremove', 'replace', 'replaceif', 'getreplace', 'forget', 'invoke')
 FAILURE = re.compile(r'(?:Loader|Writer|Processor)Failed \d+|HistoryFull')
 EVICTION = re.compile(r'evict (\S+) (full|memory) at (\d+)\.(\d+)')
 STEP = re.compile(r'\d+ (\S+) is (.+) at (\d+)\.(\d+)(?: shared (\d+))?')
@@ -212,6 +212,9 @@ class Reader:
     def on_audit(self, _words):
         lines = [self.takes(pattern)[0] for pattern in ('cache.*', 'store.*', 'coherent|differs.*', 'history .*')]
         self.add('audit', '\n'.join(lines))
+
+    def on_untold(self, _words):
+        self.add('untold', self.takes('untold.*')[0])
 
     # What several lines print.
 

@@ -17,7 +17,7 @@ final class ProviderPeer implements Peers.Peer {
     ProviderPeer() {
         Properties properties = new Properties();
         properties.setProperty("cadwrelch.stripes", "16");
-        properties.setProperty("cadwrelch.capacity", String.valueOf(Peers.KEYS));
+        properties.setProperty("cadwrelch.capacity", String.valueOf(16 * Peers.KEYS));
         CacheManager manager = Caching.getCachingProvider().getCacheManager(URI.create("peers"), null, properties);
         plain = manager.createCache("plain", byReference());
         through = manager.createCache("through", byReference()

@@ -144,13 +144,14 @@ uint32_t jc_open(jc_desk *h, const jc_shape *shape, size_t number, const jc_entr
 /* Frees the desk. JC_IN_USE, and it stays open, while a ticket or a join is out. */
 uint32_t jc_close(jc_desk *h);
 
-/* The first phase of the session's next call. JC_MISUSE: the key is of another stripe, or the session has another call out at this desk.
+/* The first phase of the session's next call. JC_MISUSE: the key is of another stripe, the session has another call out at this desk, or
+ * the number of the next call would be 2^64 - 1.
  * A session is whoever has at most one call out: a thread, a task's slot; any number. */
 uint32_t jc_begin(jc_desk *h, uint32_t session, uint32_t op, const uint8_t *key, size_t key_len,
                   const uint8_t *value, size_t value_len, const uint8_t *other, size_t other_len, jc_out *out);
 
-/* A get that finds its entry, and nothing else: JC_NONE says that nothing was done (no entry; the generation is full; misuse): jc_begin
- * then. It evicts nothing. */
+/* A get that finds its entry, and nothing else: JC_NONE says that no call was made (no entry; the generation is full; misuse): jc_begin
+ * then. A full generation may have ended by then, but none of a desk with keeps_events. It evicts nothing. */
 uint32_t jc_hit(jc_desk *h, uint32_t session, const uint8_t *key, size_t key_len, jc_value *value);
 
 /* The last phases. A ticket's number serves once: JC_MISUSE if it isn't out here, or asks for another one. */

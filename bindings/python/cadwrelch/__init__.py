@@ -4,11 +4,15 @@
         cache['home'] = 'text'
         text = cache['home']
 
-AsyncCache is the same for coroutines. cadwrelch.core is the interface of the library itself: one stripe.
+AsyncCache is the same for coroutines; cached keeps the results of functions. cadwrelch.core is the interface of the library itself: one
+stripe.
 """
+from ._none import NONE
 from ._version import __version__
 from .aio import AsyncCache, AsyncEntry
 from .cache import Cache, Entry
 from .errors import BulkError, CacheError, ClosedError, DeadlockError, LoaderError, NotWritten, WriterError
+from .memo import cached, hashkey
 
-__all__ = ['__version__', 'AsyncCache', 'AsyncEntry', 'Cache', 'Entry', 'BulkError', 'CacheError', 'ClosedError', 'DeadlockError', 'LoaderError', 'NotWritten', 'WriterError']
+__all__ = ['NONE', '__version__', 'AsyncCache', 'AsyncEntry', 'Cache', 'Entry', 'BulkError', 'CacheError', 'ClosedError', 'DeadlockError',
+           'LoaderError', 'NotWritten', 'WriterError', 'cached', 'hashkey']

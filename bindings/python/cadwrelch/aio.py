@@ -5,37 +5,92 @@ Tasks of several event loops, and threads, may share a cache: who waits is woken
 A cancelled call:
 - that waits, for a key or for a load that it has joined, is gone, and nobody notices;
 - that loads has failed: its loader is cancelled; those that have joined it begin anew, and one of them loads;
-- that writes only stops waiting: the write goes on, as a task of the cache, and is committed as it ends. aclose waits for it.
+- that writes only stops waiting: the write goes on, as a task of the cache, and is committed as it ends. aclose waits for it. If its loop
+  ends first, as asyncio.run does when its main coroutine has returned, nobody knows what the store has, and the key isn't cached.
 """
 import asyncio
-import contextlib
 import inspect
 import math
 import threading
 import types
 
-from . import _core, waiting
-from .cache import Entry, _check_value, _shape
-from .errors import ClosedError, LoaderError, WriterError
+from . import _core, rounds, waiting
+from .cache import Entry, Processing
+from .errors import CacheError, loader_failed, writer_failed
+from .shape import check_value, many, method, shape
 
 
 class _Loader:
-    """A coroutine function, or an object with such a method load(key)."""
+    """A coroutine function, or an object with such methods load(key) and, if it likes, load_many(keys)."""
 
     def __init__(self, loader):
-        self.load = getattr(loader, 'load', loader)
+        self.load = method(loader, 'load', 'loader')
+        self.load_many = many(loader, 'load_many')
 
 
 class _Writer:
-    """A coroutine function (key, value), with None to delete, or an object with such methods write(key, value) and delete(key)."""
+    """A coroutine function (key, value), with None to delete, or an object with such methods write, delete, and, if it likes, of many."""
 
     def __init__(self, writer):
-        self.write = getattr(writer, 'write', writer)
-        self.delete = getattr(writer, 'delete', lambda key: writer(key, None))
+        self.write = method(writer, 'write', 'writer')
+        self.delete = writer.delete if hasattr(writer, 'write') else lambda key: writer(key, None)
+        self.write_many = many(writer, 'write_many')
+        self.delete_many = many(writer, 'delete_many')
+
+
+_CANCELLED = asyncio.CancelledError('the load was cancelled')
+"""Why a load failed whose task was cancelled: those that have joined it begin anew. (The exception itself refers to the frames of its call.)"""
 
 
 async def _nothing(*_):
     return None
+
+
+async def _attempt(function, *arguments):
+    """What a coroutine function returns, and what it raises: see rounds."""
+    try:
+        return await function(*arguments), None
+    except BaseException as error:
+        return None, error
+
+
+async def _answer(item, function, *arguments):
+    item.answer, item.error = await _attempt(function, *arguments)
+
+
+async def _each(coroutines):
+    """Awaits them at once."""
+    if len(coroutines) == 1:
+        await coroutines[0]
+    else:
+        await asyncio.gather(*coroutines)
+
+
+async def _processed(processor, entry, arguments):
+    result = processor(entry, *arguments)
+    return await result if inspect.isawaitable(result) else result
+
+
+async def _none_as_value(function, arguments, words):
+    value = await function(*arguments, **words)
+    return _core.NONE if value is None else value
+
+
+def _raise_from(failed, key, error):
+    """Raises the error of a key from its cause; what isn't an Exception, as it is."""
+    try:
+        if not isinstance(error, Exception):
+            raise error
+        raise failed(key) from error
+    finally:
+        del error
+
+
+def _shared(flight):
+    """What a call that was waited for has loaded, and why it has failed; (None, None) to begin anew."""
+    if flight is None or not flight.is_over:
+        return None, None
+    return flight.value, flight.error if isinstance(flight.error, Exception) else None
 
 
 class AsyncEntry(Entry):
@@ -44,30 +99,134 @@ class AsyncEntry(Entry):
     @property
     def value(self):
         """The value, or None. The loader isn't asked."""
+        self._check()
         return self._value
 
     @value.setter
     def value(self, value):
         Entry.value.fset(self, value)
 
+    @value.deleter
+    def value(self):
+        self.remove()
+
     async def load(self):
-        """The value, or None. With read-through the loader is asked if there is none and the processor has changed nothing."""
-        if self._may_load and self._load == _core.NOT_ASKED and self._effect == _core.KEEP:
-            self._load = _core.FAILED
-            try:
-                self._value = self._loaded = await self._cache._loader.load(self.key)
-                self._load = _core.NOTHING if self._value is None else _core.FOUND
-            except BaseException as error:
-                self._error = error
-                if not isinstance(error, Exception):
-                    raise
-        if self._error is not None:
-            raise LoaderError('the loader failed') from self._error
-        return self._value
+        """The value, or None. With read-through the loader is asked if there is none and the processor has changed nothing: once, and a
+        LoaderError of it is raised at each further load, too (JCache: getValue)."""
+        self._check()
+        if self._may_ask():
+            self._note_load(*await _attempt(self._cache._loader.load, self.key))
+        return self._read()
+
+
+class _Calls(rounds.Round):
+    """A call of many keys, whose task waits."""
+
+    def __init__(self, cache, work):
+        super().__init__(cache._stripes, cache._life, work)
+        self._cache = cache
+
+    async def run(self):
+        """All rounds: what was found."""
+        while self.items:
+            with waiting.in_round():
+                blocked = await self._round()
+            if blocked is not None:
+                await self._wait(blocked)
+        return self.result()
+
+    async def _round(self):
+        """One round. If it could reserve and join nothing: what it waits for."""
+        reserved, joined, blocked = self.begin()
+        if not reserved and not joined:
+            return blocked
+        try:
+            if reserved and reserved[0].call.next == _core.ASK_LOADER:
+                await self._load(reserved)
+            elif reserved:
+                await self._cache._to_its_end(self._write(reserved))
+            for item in joined:
+                await self._pick_up(item)
+        finally:
+            self.forget(joined)
+        return None
+
+    async def _wait(self, blocked):
+        try:
+            await self._cache._until_free(blocked)
+        except CacheError as error:
+            self.stop(self.items, error)
+
+    async def _load(self, reserved):
+        try:
+            with waiting.holding(*[item.call.flight for item in reserved]):
+                _, error = await _attempt(self._ask_loader, reserved)
+                if error is not None:
+                    self.loaded(reserved, None, error)
+                    del error
+                self.commit_loads(reserved)
+        finally:
+            self.forget(reserved)
+        self.raise_interrupt()
+
+    async def _ask_loader(self, reserved):
+        """Asks the loader. One of one key is asked for all at once."""
+        loader = self._cache._loader
+        if loader.load_many is None:
+            await _each([_answer(item, loader.load, item.key) for item in reserved])
+        else:
+            keys = [item.key for item in reserved]
+            self.loaded(reserved, rounds.values_of(await loader.load_many(keys), keys), None)
+
+    async def _write(self, reserved):
+        try:
+            with waiting.holding(*[item.call.flight for item in reserved]):
+                _, error = await _attempt(self._ask_writer, reserved)
+                if error is not None:
+                    self.written(reserved, error)
+                    del error
+                self.commit_writes(reserved)
+        finally:
+            self.forget(reserved)
+        self.raise_interrupt()
+
+    async def _ask_writer(self, reserved):
+        """Asks the writer. One of one key is asked for all at once."""
+        writer = self._cache._writer
+        is_write = reserved[0].call.next == _core.HAVE_WRITTEN
+        if is_write and writer.write_many is not None:
+            await writer.write_many({item.key: item.value for item in reserved})
+        elif not is_write and writer.delete_many is not None:
+            await writer.delete_many([item.key for item in reserved])
+        else:
+            await _each([_answer(item, self._cache._ask_writer, item.key, item.value) for item in reserved])
+            for item in reserved:
+                item.answer = rounds.outcome_of(item.error)
+            return
+        self.written(reserved, None)
+
+    async def _pick_up(self, item):
+        joined, item.error = await _attempt(self._cache._join, item.call)
+        if joined is not None:
+            reply, item.error = joined
+            del joined
+            self.picked_up(item, reply)
+        else:
+            # It is abandoned.
+            self.end(item, None, item.error)
+            self.raise_interrupt()
 
 
 class AsyncCache:
-    """A cache before a store that a loader reads and a writer changes: see Cache, whose words it takes."""
+    """A cache before a store that a loader reads and a writer changes, for coroutines: see Cache, whose words it takes.
+
+    loader: a coroutine function of a key; or an object with such a method load and, if it likes, load_many(keys). Without load_many a call
+    of many keys awaits one load a key, all at once.
+    writer: a coroutine function (key, value), with None to delete; or an object with such methods write(key, value), delete(key) and, if it
+    likes, write_many(mapping) and delete_many(keys). Without these a call of many keys awaits one write a key, all at once.
+
+    What a call raises, and what it leaves, is said at Cache; what becomes of a cancelled one, in the README: a call that writes goes on.
+    """
 
     def __init__(self, loader=None, writer=None, *, maxsize=None, stripes=None, capacity=None, history=64, ttl=None, tti=None, timer=None,
                  read_through=None, write_through=None):
@@ -76,142 +235,240 @@ class AsyncCache:
         self._ttl_of = ttl if callable(ttl) else None
         reads = loader is not None if read_through is None else read_through
         writes = writer is not None if write_through is None else write_through
-        self._stripes = _core.Stripes(*_shape(maxsize, stripes, capacity), history, reads, writes, None if callable(ttl) else ttl, tti, timer,
-                                      self._ttl_of is not None)
+        self._stripes = _core.Stripes(*shape(maxsize, stripes, capacity), history, reads, writes, ttl, tti, timer)
         self._writes = writes
-        self._tasks = set()
+        self._tasks = {}
         self._hit = self._stripes.hit
 
     # Calls of one key.
 
     async def get(self, key, default=None):
-        """The value of a key: the cached one, or what the loader finds; or the default."""
+        """The value of a key: the cached one, or what the loader finds, which is cached then; or the default (JCache: get).
+
+        It waits while the loader runs, for a load of the key that runs already, and for a change of a key that isn't cached. After a
+        LoaderError the key is as it was, and free. If it is cancelled, so is its loader, and those that have joined the load begin anew.
+        """
         value = self._hit(key)
         if value is None:
             value = (await self._call(_core.GET, key))[1]
         return default if value is None else value
 
     def hit(self, key):
-        """The value that is cached, as a get of it, or None. Nobody is asked, and nothing is awaited."""
+        """The value that is cached, or None. It counts as a use and as a hit. Nobody is asked, nothing is awaited, a miss isn't counted."""
         return self._hit(key)
 
     def __contains__(self, key):
-        """Whether the key is cached. Nobody is asked, and nothing is awaited."""
-        return self._stripes._begin(_core.CONTAINS_KEY, key)[0] == _core.YES
+        """Whether the key is cached (JCache: containsKey). Nobody is asked, and nothing is awaited."""
+        return key in self._stripes
 
     async def put(self, key, value, *, ttl=None):
-        """Writes and caches a value; ttl, if given, is its time to live."""
-        _check_value(value)
+        """Writes a value and caches it (JCache: put); ttl: its seconds to live, if they are others than the cache's.
+
+        It waits for calls that have the key, and while the writer runs. After a WriterError the entry is as it was. If it is cancelled while
+        the writer runs, the write goes on and is committed.
+        """
+        check_value(value)
         await self._call(_core.PUT, key, value, None, ttl)
 
     async def get_and_put(self, key, value, *, ttl=None):
-        """The same. It returns the value that was cached, or None."""
-        _check_value(value)
+        """A put that returns the value that was cached, or None (JCache: getAndPut). The loader isn't asked."""
+        check_value(value)
         return (await self._call(_core.GET_AND_PUT, key, value, None, ttl))[1]
 
     async def put_if_absent(self, key, value, *, ttl=None):
-        """Writes and caches a value if none is cached, and says whether."""
-        _check_value(value)
-        return (await self._call(_core.PUT_IF_ABSENT, key, value, None, ttl))[0] == _core.YES
+        """Writes and caches a value if none is cached, and says whether (JCache: putIfAbsent). It waits and fails as put does. The loader
+        isn't asked: what only the store has is overwritten."""
+        check_value(value)
+        return await self._flag(_core.PUT_IF_ABSENT, key, value, None, ttl)
 
     async def remove(self, key):
-        """Deletes a key from store and cache, and says whether it was cached."""
-        return (await self._call(_core.REMOVE, key))[0] == _core.YES
+        """Deletes a key from store and cache, and says whether it was cached (JCache: remove). The store is asked in any case. It waits and
+        fails as put does."""
+        return await self._flag(_core.REMOVE, key)
+
+    async def remove_if(self, key, old):
+        """Deletes a key if this value is cached, and says whether (JCache: remove(key, oldValue)). It waits and fails as put does."""
+        check_value(old)
+        return await self._flag(_core.REMOVE_IF, key, None, old)
+
+    async def get_and_remove(self, key):
+        """A remove that returns the value that was cached, or None (JCache: getAndRemove)."""
+        return (await self._call(_core.GET_AND_REMOVE, key))[1]
 
     async def replace(self, key, value, *, ttl=None):
-        """Writes and caches a value if one is cached, and says whether."""
-        _check_value(value)
-        return (await self._call(_core.REPLACE, key, value, None, ttl))[0] == _core.YES
+        """Writes and caches a value if one is cached, and says whether (JCache: replace). It waits and fails as put does."""
+        check_value(value)
+        return await self._flag(_core.REPLACE, key, value, None, ttl)
 
     async def replace_if(self, key, old, value, *, ttl=None):
-        """Writes and caches a value if old is cached, and says whether."""
-        _check_value(old)
-        _check_value(value)
-        return (await self._call(_core.REPLACE_IF, key, value, old, ttl))[0] == _core.YES
+        """Writes and caches a value if old is cached, and says whether (JCache: replace(key, oldValue, newValue)). It waits and fails as
+        put does."""
+        check_value(old)
+        check_value(value)
+        return await self._flag(_core.REPLACE_IF, key, value, old, ttl)
 
-    async def clear(self):
-        """Uncaches all keys that are cached now. The store keeps them, and the writer isn't asked."""
-        for key in self.keys():
-            await self._call(_core.CLEAR_KEY, key)
+    async def get_and_replace(self, key, value, *, ttl=None):
+        """Writes and caches a value if one is cached, and returns that one, or None (JCache: getAndReplace). It waits and fails as put
+        does."""
+        check_value(value)
+        return (await self._call(_core.GET_AND_REPLACE, key, value, None, ttl))[1]
 
     async def invoke(self, key, processor, *arguments):
-        """Runs processor(entry, *arguments), a function or a coroutine function, on the key's entry, and returns what it returns. If it
-        raises an exception nothing is changed."""
+        """Runs processor(entry, *arguments), a function or a coroutine function, on the key's entry (an AsyncEntry), and returns what it
+        returns (JCache: invoke).
+
+        It waits for calls that have the key, and while the processor and the writer run; if it is cancelled then, they go on. If the
+        processor raises an exception, that is the call's, and nothing is changed; so after a LoaderError of its entry, and after a
+        WriterError.
+        """
         while True:
             begun = self._stripes._begin(_core.INVOKE, key)
             if not isinstance(begun, _core.Blocked):
                 return await self._to_its_end(self._process(begun, processor, arguments))
-            await _until_free(begun)
+            await self._until_free(begun)
 
-    async def _process(self, call, processor, arguments):
-        entry = AsyncEntry(self, call.key, call.cached, call.may_load)
-        write, failure, result, ttl = _core.NOT_ASKED, None, None, None
-        with waiting.holding(call.flight):
-            try:
-                result = processor(entry, *arguments)
-                if inspect.isawaitable(result):
-                    result = await result
-                if entry._error is None:
-                    ttl = self._life(call.key, entry._value, None)
-                    if self._writes and entry._effect != _core.KEEP:
-                        write = _core.FAILED
-                        await self._ask_writer(call.key, entry._value)
-                        write = _core.WRITTEN
-            except BaseException as error:
-                failure = error
-                if write == _core.NOT_ASKED:
-                    entry._effect = _core.PROCESS_FAILED
-        call.commit_process(entry._load, entry._loaded, entry._effect, entry._value, write, ttl)
-        if failure is not None and (not isinstance(failure, Exception) or (entry._error is None and write == _core.NOT_ASKED)):
-            raise failure
-        if entry._error is not None:
-            raise LoaderError('the loader failed') from entry._error
-        if write == _core.FAILED:
-            raise WriterError('the writer failed') from failure
-        return result
+    # Calls of many keys. A round starts each key that it can, and waits for none of them.
+
+    async def get_many(self, keys):
+        """The values of these keys, of those that have one, as a dict (JCache: getAll).
+
+        The loader is awaited for all that are missing: once, if it has load_many. It waits as get does. Keys whose load failed are the
+        `failed` of a BulkError, whose `found` has the others. If it is cancelled, so are its loads.
+        """
+        return await _Calls(self, [(_core.GET, key, None) for key in keys]).run()
+
+    async def put_many(self, entries):
+        """Writes and caches the values of a mapping (JCache: putAll). It isn't atomic: each key is a put of its own.
+
+        The writer is awaited once, if it has write_many. It waits as put does. Keys that it did not write are the `failed` of a BulkError,
+        and their entries as they were. If it is cancelled while the writer runs, that round goes on and is committed; there is no other one.
+        """
+        work = []
+        for key, value in entries.items():
+            check_value(value)
+            work.append((_core.PUT, key, value))
+        await _Calls(self, work).run()
+
+    async def remove_many(self, keys):
+        """Deletes these keys from store and cache (JCache: removeAll). The writer is awaited once, if it has delete_many. It waits and fails
+        as put_many does."""
+        await _Calls(self, [(_core.REMOVE, key, None) for key in keys]).run()
+
+    async def load_many(self, keys, replace=False):
+        """Loads these keys: those that aren't cached, or, with replace, all (JCache: loadAll). The writer isn't asked. A key for which the
+        loader finds nothing is as it was. It waits and fails as get_many does."""
+        op = _core.RELOAD if replace else _core.LOAD
+        await _Calls(self, [(op, key, None) for key in keys]).run()
+
+    async def clear(self):
+        """Uncaches all keys that are cached now (JCache: clear). The store keeps them, and the writer isn't asked. It waits for calls that
+        have one of the keys."""
+        await _Calls(self, [(_core.CLEAR_KEY, key, None) for key in self.keys()]).run()
 
     # Phases.
 
-    def _life(self, key, value, ttl):
-        if value is None or ttl is not None or self._ttl_of is None:
-            return ttl
+    def _life(self, key, value):
+        """The seconds of a value that comes in; None: those of the cache."""
+        if self._ttl_of is None or value is None:
+            return None
         ttl = self._ttl_of(key, value)
         return math.inf if ttl is None else ttl
 
     async def _ask_writer(self, key, value):
         await (self._writer.delete(key) if value is None else self._writer.write(key, value))
 
+    async def _flag(self, op, key, value=None, old=None, ttl=None):
+        return (await self._call(op, key, value, old, ttl))[0] == _core.YES
+
     async def _call(self, op, key, value=None, old=None, ttl=None):
-        ttl = self._life(key, value, ttl)
+        """A whole call: phases, and whom they ask between. Its reply and value."""
+        if ttl is None:
+            ttl = self._life(key, value)
         while True:
             begun = self._stripes._begin(op, key, value, old, ttl)
             if isinstance(begun, tuple):
                 return begun
-            if isinstance(begun, _core.Blocked):
-                await _until_free(begun)
-            elif begun.next == _core.ASK_LOADER:
-                return await self._load(begun)
-            elif begun.next != _core.JOINED:
-                return await self._to_its_end(self._write(begun))
-            else:
-                reply = await self._join(begun)
-                if reply is not None:
-                    return reply
-
-    async def _load(self, call):
-        with waiting.holding(call.flight):
             try:
-                value = await self._loader.load(call.key)
-                ttl = self._life(call.key, value, None)
-            except BaseException as error:
-                call.commit_load(None, error)
-                if not isinstance(error, Exception):
-                    raise
-                raise LoaderError('the loader failed') from error
-        return call.commit_load(value, None, ttl)
+                reply = await self._finished(begun)
+            finally:
+                del begun
+            if reply is not None:
+                return reply
+
+    async def _finished(self, begun):
+        """The reply of a call that isn't done in one phase; None to begin anew. No frame keeps its exception: see rounds."""
+        error = None
+        try:
+            if isinstance(begun, _core.Blocked):
+                await self._until_free(begun)
+                return None
+            if begun.next not in (_core.ASK_LOADER, _core.JOINED):
+                return await self._to_its_end(self._write(begun))
+            if begun.next == _core.JOINED:
+                reply, error = await self._join(begun)
+            else:
+                reply, error = await self._load(begun, self._loader.load, begun.key)
+            if error is not None:
+                raise loader_failed(begun.key) from error
+            return reply
+        finally:
+            begun = error = None
+
+    async def _get_or_load(self, key, function, arguments, words):
+        """A get whose loader is this function, for None of which NONE is cached. What it raises is raised as it is. Without read-through a
+        get asks nobody: a loadAll of the key follows it, which waits for another load instead of joining it."""
+        op = _core.GET
+        while True:
+            begun = self._stripes._begin(op, key)
+            if isinstance(begun, tuple):
+                if begun[1] is not None:
+                    return begun[1]
+                op = _core.LOAD if op == _core.GET else _core.GET
+                continue
+            try:
+                value = await self._loaded_by(begun, function, arguments, words)
+            finally:
+                del begun
+            if value is not None:
+                return value
+
+    async def _loaded_by(self, begun, function, arguments, words):
+        """The value of a key whose call asks this function, or waits; None to begin anew."""
+        value = error = None
+        try:
+            if isinstance(begun, _core.Blocked):
+                await self._until_free(begun)
+                value, error = _shared(begun.flight)
+            elif begun.next == _core.JOINED:
+                reply, error = await self._join(begun)
+                value = None if reply is None else reply[1]
+            else:
+                _, error = await self._load(begun, _none_as_value, function, arguments, words)
+                value = begun.flight.value
+            if error is not None:
+                raise error
+            return value
+        finally:
+            begun = error = None
+
+    async def _load(self, call, function, *arguments):
+        """Asks for a value, and commits it: the reply, or why it has failed. An interrupt is raised."""
+        try:
+            with waiting.holding(call.flight):
+                value, error = await _attempt(function, *arguments)
+                ttl = None
+                if value is not None:
+                    ttl, error = rounds.attempt(self._life, call.key, value)
+            if not rounds.is_interrupt(error):
+                return call.commit_load(value, error, ttl), error
+            call.commit_load(None, _CANCELLED)
+            raise error
+        finally:
+            call.forget()
+            call = error = None
 
     async def _join(self, call):
-        """What the load replies; None to begin anew."""
+        """What the load replies, or why it has failed; (None, None) to begin anew."""
         try:
             with waiting.noted(call.flight):
                 while not call.flight.is_over:
@@ -221,46 +478,83 @@ class AsyncCache:
             raise
         reply = call.pick_up()
         if reply is None or reply[0] != _core.LOADER_FAILED:
-            return reply
-        if isinstance(call.flight.error, (asyncio.CancelledError, GeneratorExit)):
-            return None
-        raise LoaderError('the loader failed') from call.flight.error
+            return reply, None
+        return None, call.flight.error if isinstance(call.flight.error, Exception) else None
 
     async def _write(self, call):
-        with waiting.holding(call.flight):
-            try:
-                await self._ask_writer(call.key, call.value if call.next == _core.HAVE_WRITTEN else None)
-            except BaseException as error:
-                call.commit_write(False)
-                if not isinstance(error, Exception):
-                    # Its loop ends while it writes: nobody knows what the store has now, so the cache has nothing.
-                    with contextlib.suppress(ClosedError):
-                        self._stripes._begin(_core.CLEAR_KEY, call.key)
-                    raise
-                raise WriterError('the writer failed') from error
-        return call.commit_write(True)
+        try:
+            with waiting.holding(call.flight):
+                value = call.value if call.next == _core.HAVE_WRITTEN else None
+                _, error = await _attempt(self._ask_writer, call.key, value)
+            reply = call.commit_write(rounds.outcome_of(error))
+            if error is not None:
+                _raise_from(writer_failed, call.key, error)
+            return reply
+        finally:
+            call.forget()
+            error = None
+
+    async def _process(self, call, processor, arguments):
+        try:
+            entry = AsyncEntry(self, call.key, call.cached, call.may_load)
+            run = Processing()
+            with waiting.holding(call.flight):
+                run.result, run.failure = await _attempt(_processed, processor, entry, arguments)
+                if run.failure is None and entry._error is None:
+                    run.ttl, run.failure = rounds.attempt(self._life, call.key, entry._value)
+                if run.failure is None and entry._error is None and self._writes and entry._effect != _core.KEEP:
+                    _, run.failure = await _attempt(self._ask_writer, call.key, entry._value)
+                    run.write = rounds.outcome_of(run.failure)
+            return run.end(call, entry)
+        finally:
+            call.forget()
 
     async def _to_its_end(self, writing):
         """Awaits what isn't cancelled with its caller."""
         task = asyncio.ensure_future(writing)
-        self._tasks.add(task)
-        task.add_done_callback(self._tasks.discard)
-        return await asyncio.shield(task)
+        self._tasks[task] = _End()
+        task.add_done_callback(self._forget)
+        try:
+            return await asyncio.shield(task)
+        finally:
+            del task
+
+    def _forget(self, task):
+        end = self._tasks.pop(task, None)
+        if end is not None:
+            end.set()
+
+    def _end_the_dead(self):
+        """Ends the writes whose loop was closed, and has not cancelled them. Nobody else can, and they may have what is waited for."""
+        for task in list(self._tasks):
+            if task.get_loop().is_closed():
+                task.get_coro().close()
+                self._forget(task)
+
+    async def _until_free(self, blocked):
+        self._end_the_dead()
+        if blocked.flight is not None:
+            with waiting.noted(blocked.flight):
+                await _sleep(blocked)
+        else:
+            waiting.check_outside()
+            await _sleep(blocked)
 
     # The cache as a whole.
 
-    __class_getitem__ = classmethod(types.GenericAlias)
+    def __class_getitem__(cls, item):
+        return types.GenericAlias(cls, item)
 
     def keys(self):
-        """The keys that are cached, stripe by stripe."""
+        """The keys that are cached, as a list, stripe by stripe."""
         return self._stripes.keys()
 
     def expire(self):
-        """Uncaches all that has expired, and says how many."""
+        """Uncaches all that has expired, but for keys that a call has, and says how many. Nothing is awaited."""
         return self._stripes.expire()
 
     def stats(self):
-        """Hits, misses, puts, removals and evictions since the cache was made, as a dict."""
+        """Hits, misses, puts, removals and evictions since the cache was made, as a dict (JCache: CacheStatisticsMXBean)."""
         return self._stripes.stats()
 
     def __len__(self):
@@ -268,11 +562,15 @@ class AsyncCache:
         return len(self._stripes)
 
     def __bool__(self):
+        """A cache is true, also if it is empty."""
         return True
 
     def __iter__(self):
         """Iterates over the keys that are cached now. The loader isn't asked."""
         return iter(self.keys())
+
+    def __reduce__(self):
+        return self._stripes.__reduce__()
 
     @property
     def closed(self):
@@ -280,14 +578,16 @@ class AsyncCache:
         return self._stripes.closed
 
     def close(self):
-        """Later calls, and those that wait to begin, raise ClosedError. Calls under way end as they would."""
+        """Later calls, and those that wait to begin, raise ClosedError; calls under way end as they would (JCache: close). Nothing is
+        awaited, and it may be called again."""
         self._stripes.close()
 
     async def aclose(self):
-        """The same; and it waits for writes that go on."""
+        """A close that waits for the writes that go on, of other loops, too."""
         self.close()
+        self._end_the_dead()
         while self._tasks:
-            await asyncio.wait(self._tasks)
+            await _sleep(next(iter(self._tasks.values())))
 
     async def __aenter__(self):
         return self
@@ -297,6 +597,24 @@ class AsyncCache:
 
     def _agrees(self):
         return self._stripes._agrees()
+
+
+class _End:
+    """The end of a task, for waiters of any loop."""
+
+    def __init__(self):
+        self._is_over = False
+        self._waiters = []
+
+    def add_waiter(self, waiter):
+        """Has this called when the task has ended. False: it has."""
+        self._waiters.append(waiter)
+        return not self._is_over
+
+    def set(self):
+        self._is_over = True
+        for waiter in self._waiters:
+            waiter()
 
 
 def _wake(future):
@@ -317,12 +635,3 @@ async def _sleep(waits_at):
 
     if waits_at.add_waiter(wake):
         await future
-
-
-async def _until_free(blocked):
-    if blocked.flight is not None:
-        with waiting.noted(blocked.flight):
-            await _sleep(blocked)
-    else:
-        waiting.check_outside()
-        await _sleep(blocked)

@@ -9,6 +9,9 @@ from ctypes import c_bool, c_char_p, c_size_t, c_uint8, c_uint32, c_uint64, c_vo
 
 from . import _core
 
+VERSION = 2000
+"""The version that this module is of: 1,000,000 * major + 1,000 * minor + patch."""
+
 KEY_MAX = 32
 VALUE_MAX = 256
 STRIPES_MAX = 64
@@ -155,10 +158,26 @@ def _load():
         'jc_end_generation': (handle,),
         'jc_version': (),
     }
-    for name, kinds in parameters.items():
-        function = getattr(library, name)
-        function.argtypes = kinds
-        function.restype = c_size_t if name == 'jc_events_len' else c_uint32
+    try:
+        for name, kinds in parameters.items():
+            function = getattr(library, name)
+            function.argtypes = kinds
+            function.restype = c_size_t if name == 'jc_events_len' else c_uint32
+    except AttributeError as error:
+        raise ImportError(f'{_path()} is not the core {_dotted(VERSION)}: {error}') from None
+    return library
+
+
+def _dotted(version):
+    return f'{version // 1000000}.{version // 1000 % 1000}.{version % 1000}'
+
+
+def _check_version(library):
+    """Before 1.0 a struct may change with the minor number."""
+    version = library.jc_version()
+    if version // 1000 != VERSION // 1000:
+        raise ImportError(f'this module is for the core {_dotted(VERSION)}, and {_path()} is the core {_dotted(version)}: unset CADWRELCH_CORE_SO, or '
+                          'set it to a libcadwrelch.so of this version')
     return library
 
 
@@ -170,7 +189,7 @@ def _check_sizes():
 
 
 _check_sizes()
-LIBRARY = _load()
+LIBRARY = _check_version(_load())
 # The call of a hit, for arguments that are objects of ctypes already: that is twice as fast.
 HIT = LIBRARY['jc_hit']
 

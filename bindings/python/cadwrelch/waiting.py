@@ -3,17 +3,17 @@
 A context (contextvars) has the flights of the calls that it is inside: the loader, writer or processor of such a call runs, and may call
 a cache. Who would wait for one of them, directly or over calls that wait for each other, raises DeadlockError.
 """
-import contextlib
 import contextvars
 import threading
 
 from .errors import DeadlockError
 
-_HELD = contextvars.ContextVar('held', default=())
+HELD = contextvars.ContextVar('held', default=())
 """The flights of the calls that run outside."""
 _ROUNDS = contextvars.ContextVar('rounds', default=0)
 """How many rounds of calls of many keys run. Such a one has calls out at several keys, and waits for no room with them."""
 _LOCK = threading.Lock()
+"""Of all waits_for."""
 
 
 class _Restored:
@@ -29,12 +29,16 @@ class _Restored:
         return self
 
     def __exit__(self, *_):
-        self._variable.reset(self._token)
+        try:
+            self._variable.reset(self._token)
+        except ValueError:
+            # A coroutine that was forgotten ends in the context of whoever collects it, which has another value.
+            pass
 
 
 def holding(*flights):
     """What runs with it is asked for the calls of these flights."""
-    return _Restored(_HELD, _HELD.get() + flights)
+    return _Restored(HELD, HELD.get() + flights)
 
 
 def in_round():
@@ -44,27 +48,45 @@ def in_round():
 
 def check_outside():
     """Who waits for room may not be inside a call, whose end may be what makes room."""
-    if _ROUNDS.get() or any(not flight.is_over for flight in _HELD.get()):
-        raise DeadlockError('a call inside another one needs a stripe that has no room')
+    if _ROUNDS.get() or any(not flight.is_over for flight in HELD.get()):
+        raise DeadlockError('a call inside another one needs a stripe that has no room: give the cache more stripes, or a history of up to 260')
 
 
-@contextlib.contextmanager
-def noted(flight):
-    """Notes that this context waits for a flight, so that others find it."""
-    held = _HELD.get()
-    with _LOCK:
-        seen = flight
-        while seen is not None and seen not in held:
-            seen = seen.waits_for
-        if seen is not None:
-            raise DeadlockError('the call would wait for itself')
-        for own in held:
-            own.waits_for = flight
-    try:
-        yield
-    finally:
-        for own in held:
-            own.waits_for = None
+class noted:
+    """Notes that this context waits for a flight, so that others find it. It raises DeadlockError if the flight waits for this context."""
+
+    __slots__ = ('_flight', '_held')
+
+    def __init__(self, flight):
+        self._flight = flight
+        self._held = HELD.get()
+
+    def __enter__(self):
+        with _LOCK:
+            if self._held and _reaches(self._flight, self._held):
+                raise DeadlockError('the call would wait for itself')
+            for own in self._held:
+                own.waits_for = (*(own.waits_for or ()), self._flight)
+
+    def __exit__(self, *_):
+        with _LOCK:
+            for own in self._held:
+                left = list(own.waits_for)
+                left.remove(self._flight)
+                own.waits_for = tuple(left) or None
+
+
+def _reaches(flight, held):
+    """Whether a flight is one of these, or waits for one, directly or not. A loader of coroutines may wait for several at once."""
+    seen, todo = set(), [flight]
+    while todo:
+        flight = todo.pop()
+        if flight in held:
+            return True
+        if flight not in seen:
+            seen.add(flight)
+            todo.extend(flight.waits_for or ())
+    return False
 
 
 def _sleep(waits_at):

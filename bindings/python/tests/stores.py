@@ -1,4 +1,8 @@
-"""A store in memory that counts its calls, and fails when it is told to."""
+"""A store in memory that counts its calls, and fails when it is told to; and who says when calls wait."""
+import threading
+from unittest import mock
+
+from cadwrelch import aio, waiting
 
 
 class Broken(Exception):
@@ -32,3 +36,45 @@ class Store:
         if self.write_fails is not None:
             raise self.write_fails
         self.held.pop(key, None)
+
+
+class Waits:
+    """With it, one can wait for calls to wait: for a load that they have joined, a key, or room."""
+
+    def __init__(self):
+        self._sleeps = threading.Semaphore(0)
+        self._patches = [mock.patch.object(waiting, '_sleep', self._noted(waiting._sleep)),
+                         mock.patch.object(aio, '_sleep', self._noted(aio._sleep))]
+
+    def _noted(self, sleep):
+        def noted(waits_at):
+            return sleep(_Noted(waits_at, self._sleeps))
+
+        return noted
+
+    def of(self, count):
+        """Returns when so many calls more have begun to wait."""
+        for _ in range(count):
+            assert self._sleeps.acquire(timeout=60)
+
+    def __enter__(self):
+        for patch in self._patches:
+            patch.start()
+        return self
+
+    def __exit__(self, *_):
+        for patch in self._patches:
+            patch.stop()
+
+
+class _Noted:
+    """What somebody waits at."""
+
+    def __init__(self, waits_at, sleeps):
+        self._waits_at = waits_at
+        self._sleeps = sleeps
+
+    def add_waiter(self, waiter):
+        is_waiting = self._waits_at.add_waiter(waiter)
+        self._sleeps.release()
+        return is_waiting

@@ -113,7 +113,7 @@ class Operations(unittest.TestCase):
         self.assertTrue(cache._agrees())
 
     def test_none_is_no_value(self):
-        for call in (lambda: self.cache.put('a', None), lambda: self.cache.set_many({'a': None}),
+        for call in (lambda: self.cache.put('a', None), lambda: self.cache.put_many({'a': None}),
                      lambda: self.cache.remove_if('a', None), lambda: self.cache.replace_if('a', 1, None)):
             self.assertRaises(ValueError, call)
 
@@ -203,11 +203,33 @@ class Failures(unittest.TestCase):
         for error in (KeyboardInterrupt(), SystemExit()):
             self.store.load_fails = self.store.write_fails = error
             for call in (lambda: self.cache.get('b'), lambda: self.cache.put('a', 2), lambda: self.cache.get_many('bcb'),
-                         lambda: self.cache.delete_many('ab'), lambda: self.cache.invoke('b', lambda entry: entry.value)):
+                         lambda: self.cache.remove_many('ab'), lambda: self.cache.invoke('b', lambda entry: entry.value)):
+                self.cache.hit('a')
                 with self.assertRaises(type(error)):
                     call()
                 self.assertTrue(self.cache._agrees())
-        self.assertEqual(self.cache['a'], 1)
+
+    def test_a_writer_that_was_interrupted_leaves_no_entry(self):
+        """Nobody knows what the store has."""
+        cache, store = self.cache, self.store
+        for call in (lambda: cache.put('a', 9), lambda: cache.get_and_put('a', 9), lambda: cache.remove('a'), lambda: cache.remove_if('a', 1),
+                     lambda: cache.get_and_remove('a'), lambda: cache.replace('a', 9), lambda: cache.replace_if('a', 1, 9),
+                     lambda: cache.get_and_replace('a', 9), lambda: cache.invoke('a', lambda entry: setattr(entry, 'value', 9)),
+                     lambda: cache.put_many({'a': 9}), lambda: cache.remove_many('a')):
+            store.held['a'] = 1
+            cache.load_many('a', replace=True)
+            store.write_fails = KeyboardInterrupt()
+            self.assertRaises(KeyboardInterrupt, call)
+            self.assertEqual((cache.hit('a'), 'a' in cache, len(cache), cache.keys()), (None, False, 0, []))
+            store.write_fails = None
+            store.held['a'] = 2
+            self.assertEqual((cache['a'], cache.hit('a'), cache.replace_if('a', 2, 1), cache.hit('a')), (2, 2, True, 1))
+            self.assertTrue(cache._agrees())
+            store.write_fails = KeyboardInterrupt()
+            self.assertRaises(KeyboardInterrupt, call)
+            self.assertEqual((cache['a'], cache.hit('a')), (1, 1))
+            self.assertRaises(KeyboardInterrupt, cache.put, 'a', 4)
+            self.assertEqual((cache.expire(), cache._agrees()), (1, True))
 
     def test_closed(self):
         self.cache.close()
@@ -307,12 +329,12 @@ class Bulk(unittest.TestCase):
         self.assertEqual(self.cache.get_many(['a', 'b', 'c', 'b']), {'a': 1, 'b': 2})
         self.assertEqual(self.cache.get_many([]), {})
 
-    def test_set_and_delete_many(self):
+    def test_put_and_remove_many(self):
         entries = {f'key{i}': i for i in range(150)}
-        self.cache.set_many(entries)
+        self.cache.put_many(entries)
         self.assertEqual(len(self.store.held), 152)
         self.assertEqual(self.cache.get_many(entries), entries)
-        self.cache.delete_many(entries)
+        self.cache.remove_many(entries)
         self.assertEqual((self.store.held, len(self.cache)), ({'a': 1, 'b': 2}, 0))
 
     def test_load_many(self):
@@ -341,12 +363,12 @@ class Bulk(unittest.TestCase):
         store = Odd()
         cache = cache_of(store)
         with self.assertRaises(cadwrelch.BulkError) as caught:
-            cache.set_many({key: key for key in range(10)})
+            cache.put_many({key: key for key in range(10)})
         self.assertEqual(sorted(caught.exception.failed), [1, 3, 5, 7, 9])
         self.assertEqual(sorted(cache.keys()), [0, 2, 4, 6, 8])
         store.write_fails = Broken('no delete')
         with self.assertRaises(cadwrelch.BulkError) as caught:
-            cache.delete_many([0, 2])
+            cache.remove_many([0, 2])
         self.assertIs(caught.exception.__cause__, store.write_fails)
         self.assertEqual(caught.exception.failed, [0, 2])
         self.assertTrue(cache._agrees())
@@ -363,7 +385,7 @@ class Bulk(unittest.TestCase):
         cache = cache_of(store)
         entries = dict.fromkeys(range(200), 1)
         with self.assertRaises(cadwrelch.BulkError) as caught:
-            cache.set_many(entries)
+            cache.put_many(entries)
         self.assertIs(caught.exception.__cause__, store.write_fails)
         self.assertEqual(sorted(caught.exception.failed), sorted(entries))
 

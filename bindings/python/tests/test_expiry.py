@@ -6,7 +6,7 @@ import unittest
 
 import cadwrelch
 
-from .stores import Store
+from .stores import Store, Waits
 
 
 class Clock:
@@ -132,14 +132,16 @@ class Expiry(unittest.TestCase):
         self.assertTrue(asked.wait(60))
         self.clock.now += 10
         self.assertEqual(cache.expire(), 0)
+        self.assertNotIn('a', cache)
         got = []
         get = threading.Thread(target=lambda: got.append(cache.get('a')))
-        get.start()
-        time.sleep(0.05)
-        self.assertEqual(got, [])
-        may_answer.set()
-        put.join(60)
-        get.join(60)
+        with Waits() as waits:
+            get.start()
+            waits.of(1)
+            self.assertEqual(got, [])
+            may_answer.set()
+            put.join(60)
+            get.join(60)
         self.assertEqual(got, ['written'])
         self.assertTrue(cache._agrees())
 
@@ -148,11 +150,46 @@ class Expiry(unittest.TestCase):
             self.assertRaises((ValueError, TypeError), cadwrelch.Cache, **words)
 
     def test_the_system_s_clock(self):
-        cache = cadwrelch.Cache(ttl=0.05)
+        cache = cadwrelch.Cache(ttl=3600)
         cache['a'] = 1
-        self.assertEqual(cache.hit('a'), 1)
-        time.sleep(0.06)
+        cache.put('b', 1, ttl=1e-9)
+        began = time.monotonic_ns()
+        while time.monotonic_ns() - began < 2:
+            pass
+        self.assertEqual((cache.hit('a'), cache.hit('b')), (1, None))
+
+    def test_a_timer_that_fails(self):
+        cache = self.cache(ttl=10)
+        cache['a'] = 2
+        for wrong, kind in ((math.nan, ValueError), (1e300, ValueError), ('soon', TypeError)):
+            self.clock.now = wrong
+            self.assertRaises(kind, cache.hit, 'a')
+            self.assertRaises(kind, cache.put, 'a', 3)
+            self.assertRaises(kind, cache.keys)
+        self.clock.now = 1000.0
+        self.assertEqual(cache.hit('a'), 2)
+
+    def test_a_timer_that_fails_when_the_store_has_changed(self):
+        def write(key, value):
+            if value == 2:
+                self.clock.now = 'soon'
+
+        cache = cadwrelch.Cache(writer=write, ttl=10, timer=self.clock)
+        cache['a'] = 1
+        self.assertRaises(TypeError, cache.put, 'a', 2)
+        self.clock.now = 1000.0
         self.assertIsNone(cache.hit('a'))
+        self.assertNotIn('a', cache)
+        self.assertTrue(cache._agrees())
+
+    def test_times_that_are_far_apart(self):
+        cache = self.cache(ttl=math.inf, tti=1e300)
+        cache['a'] = 2
+        self.clock.now = -3.9e9
+        cache.put('b', 3, ttl=8.9e9)
+        cache.put('c', 3, ttl=1e18)
+        self.clock.now = 3.9e9
+        self.assertEqual([cache.hit(key) for key in 'abc'], [2, 3, 3])
 
 
 if __name__ == '__main__':

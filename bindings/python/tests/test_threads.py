@@ -1,12 +1,12 @@
 """Threads that share a cache."""
+import gc
 import random
 import threading
-import time
 import unittest
 
 import cadwrelch
 
-from .stores import Broken, Store
+from .stores import Broken, Store, Waits
 
 
 def run(*calls):
@@ -49,11 +49,11 @@ class Joins(unittest.TestCase):
         self.cache = cadwrelch.Cache(loader=self.loader, stripes=1)
 
     def joined(self):
-        results = run(*[lambda: self.cache.get('a')] * 8)
-        self.assertTrue(self.loader.asked.wait(60))
-        time.sleep(0.05)
-        self.loader.may_answer.set()
-        results = results()
+        with Waits() as waits:
+            results = run(*[lambda: self.cache.get('a')] * 8)
+            waits.of(7)
+            self.loader.may_answer.set()
+            results = results()
         self.assertEqual(self.loader.loads, 1)
         self.assertTrue(self.cache._agrees())
         return results
@@ -79,10 +79,11 @@ class Joins(unittest.TestCase):
     def test_a_close_wakes_who_waits_to_begin(self):
         results = run(lambda: self.cache.get('a'))
         self.assertTrue(self.loader.asked.wait(60))
-        waits = run(lambda: self.cache.put('a', 2))
-        time.sleep(0.05)
-        self.cache.close()
-        self.assertIsInstance(waits()[0], cadwrelch.ClosedError)
+        with Waits() as waits:
+            put = run(lambda: self.cache.put('a', 2))
+            waits.of(1)
+            self.cache.close()
+            self.assertIsInstance(put()[0], cadwrelch.ClosedError)
         self.loader.may_answer.set()
         self.assertEqual(results(), [7])
         self.assertTrue(self.cache._agrees())
@@ -99,7 +100,7 @@ class Deadlocks(unittest.TestCase):
     def test_a_call_of_many_keys_that_waits_for_itself(self):
         store = Store()
         store.write_fails = Broken('no write')
-        cache = cadwrelch.Cache(loader=lambda key: cache.set_many({'other': 1, key: 2}), writer=store)
+        cache = cadwrelch.Cache(loader=lambda key: cache.put_many({'other': 1, key: 2}), writer=store)
         with self.assertRaises(cadwrelch.LoaderError) as caught:
             cache.get('a')
         stopped = caught.exception.__cause__
@@ -174,7 +175,7 @@ class Reentrant(unittest.TestCase):
                 cache.get(Key(number % 6))
                 cache.put(Key(number % 6), Value(2))
                 cache.replace_if(Key(number % 6), Value(2), Value(3))
-                cache.set_many({Key(number % 6): Value(4)})
+                cache.put_many({Key(number % 6): Value(4)})
                 cache.invoke(Key(number % 6), lambda entry: setattr(entry, 'value', Value(5)))
                 cache.get_many([Key(1), Key(2), Key(1)])
                 cache.remove_if(Key(number % 6), Value(5))
@@ -185,6 +186,8 @@ class Reentrant(unittest.TestCase):
         self.assertTrue(cache._agrees())
         cache.close()
         self.assertEqual(sorted(calls), ['del of a key', 'del of a value', 'eq of a key', 'eq of a value', 'hash'])
+        # Its keys and values are gone, with their finalizers.
+        gc.collect()
 
 
 class Shaky(Store):
@@ -222,7 +225,7 @@ class Stress(unittest.TestCase):
         calls = [lambda: cache.get(key)] * 6 + [
             lambda: cache.put(key, value), lambda: cache.remove(key), lambda: cache.put_if_absent(key, value),
             lambda: cache.replace_if(key, value, value + 1), lambda: cache.invoke(key, add_one), lambda: cache.get_many(few),
-            lambda: cache.set_many(dict.fromkeys(few, value)), lambda: cache.delete_many(few)]
+            lambda: cache.put_many(dict.fromkeys(few, value)), lambda: cache.remove_many(few)]
         try:
             chance.choice(calls)()
         except cadwrelch.CacheError:

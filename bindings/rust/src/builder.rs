@@ -30,8 +30,8 @@ pub struct Builder<K, V, L = NoLoader, W = NoWriter> {
 impl<K, V> Builder<K, V> {
     pub(crate) fn new() -> Self {
         Builder {
-            // A key's number says nothing of its stripe, which is chosen by its hash: each desk is a cache of one stripe, and this number is
-            // that of the desks.
+            // A key's number says nothing of its stripe, which is chosen by its hash: each desk is a cache of one stripe, and this
+            // number is that of the desks.
             shape: Shape {
                 stripes: 16,
                 capacity: 1024,
@@ -55,15 +55,16 @@ impl<K, V, L, W> Builder<K, V, L, W> {
         self
     }
 
-    /// How many entries of each stripe: 1 to 4,096, without it 1,024. A new key of a full stripe evicts the one that was used longest ago.
+    /// How many entries of each stripe: 1 to 4,096, without it 1,024. A new key of a full stripe evicts the one that was used longest
+    /// ago.
     pub fn capacity(mut self, capacity: usize) -> Self {
         self.shape.capacity = capacity;
         self
     }
 
-    /// How many events of each stripe's history, 16 to 65,536, before it begins a new one; 884 bytes each. A call under way needs room for
-    /// three, and one that has joined a load for one: with 260, as without this, there is room for as many as there can be. With fewer, calls at
-    /// other keys of the stripe wait beside a slow load that many have joined.
+    /// How many events of each stripe's history, 16 to 65,536, before it begins a new one; 884 bytes each. A call under way needs room
+    /// for three, and one that has joined a load for one: with 260, as without this, there is room for as many as there can be. With
+    /// fewer, calls at other keys of the stripe wait beside a slow load that many have joined.
     pub fn history(mut self, history: usize) -> Self {
         self.shape.history = history;
         self
@@ -113,10 +114,10 @@ impl<K, V, L, W> Builder<K, V, L, W> {
         self.loader(Shared(store.clone())).writer(Shared(store))
     }
 
-    /// How long an entry lives after its value was put or loaded.
+    /// How long an entry lives after its value was put or loaded. One that lives for `Duration::ZERO` is never found.
     ///
-    /// The call that meets an expired entry uncaches it, as a step of its own, and then goes on as if the key hadn't been cached. If another
-    /// call has reserved the key, it waits for that. Time costs a cache nothing until it has a reason to look at it.
+    /// The call that meets an expired entry uncaches it, as a step of its own, and then goes on as if the key hadn't been cached. If
+    /// another call has reserved the key, it waits for that. While no entry can expire, the clock isn't read.
     ///
     /// ```
     /// use cadwrelch::Cache;
@@ -155,8 +156,8 @@ impl<K, V, L, W> Builder<K, V, L, W> {
         self
     }
 
-    /// What the cache takes the time from: a function that says how much has passed since some moment, and never goes back. Without it that is
-    /// the system's monotonic clock. It is read with no lock held, and only while an entry may expire.
+    /// What the cache takes the time from: a function that says how much has passed since some moment, never goes back, and doesn't call
+    /// the cache. Without it that is the system's monotonic clock. It is read with no lock held, and only while an entry may expire.
     pub fn clock(mut self, clock: impl Fn() -> Duration + Send + Sync + 'static) -> Self {
         self.times.clock = Some(Arc::new(clock));
         self
@@ -165,8 +166,8 @@ impl<K, V, L, W> Builder<K, V, L, W> {
     /// The cache.
     ///
     /// # Errors
-    /// [`BuildError::Limits`]: a number is out of its limits. [`BuildError::NoMemory`]. [`BuildError::Version`]: `CADWRELCH_CORE` named a library
-    /// of another version at the build.
+    /// [`BuildError::Limits`]: a number is out of its limits. [`BuildError::NoMemory`]. [`BuildError::Version`]: `CADWRELCH_CORE` named
+    /// a library of another version at the build.
     pub fn build(mut self) -> Result<Cache<K, V, L, W>, BuildError>
     where
         L: Loader<K, V>,

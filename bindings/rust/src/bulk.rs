@@ -94,8 +94,8 @@ fn end_all<T>(calls: impl Iterator<Item = T>, mut end: impl FnMut(T)) {
     }
 }
 
-/// Calls of many keys: each key is a step of its own, and the call as a whole isn't atomic. The store is asked once for all keys that are free;
-/// those that another call has reserved are tried again afterwards.
+/// Calls of many keys: each key is a step of its own, and the call as a whole isn't atomic. The store is asked once for all keys that
+/// are free; those that another call has reserved are tried again afterwards.
 impl<K, V, L, W> Cache<K, V, L, W>
 where
     K: Eq + Hash,
@@ -105,7 +105,8 @@ where
     /// The values of these keys, of those that have one. [`Loader::load_all`] is asked for all that are missing.
     ///
     /// # Errors
-    /// The first failure, with the keys that failed. What was found for others is cached. [`Error::Closed`] and [`Error::WouldDeadlock`] stop it.
+    /// The first failure, with the keys that failed. What was found for others is cached. [`Error::Closed`] and
+    /// [`Error::WouldDeadlock`] stop it.
     pub fn get_all(
         &self,
         keys: impl IntoIterator<Item = K>,
@@ -124,7 +125,8 @@ where
     /// Writes and caches these values. [`Writer::write_all`] is asked.
     ///
     /// # Errors
-    /// The first failure, with the keys that failed: at all others the call took effect. [`Error::Closed`] and [`Error::WouldDeadlock`] stop it.
+    /// The first failure, with the keys that failed: at all others the call took effect. [`Error::Closed`] and [`Error::WouldDeadlock`]
+    /// stop it.
     pub fn put_all<T: Into<Arc<V>>>(
         &self,
         entries: impl IntoIterator<Item = (K, T)>,
@@ -138,7 +140,8 @@ where
     /// Deletes these keys from store and cache. [`Writer::delete_all`] is asked.
     ///
     /// # Errors
-    /// The first failure, with the keys that failed: at all others the call took effect. [`Error::Closed`] and [`Error::WouldDeadlock`] stop it.
+    /// The first failure, with the keys that failed: at all others the call took effect. [`Error::Closed`] and [`Error::WouldDeadlock`]
+    /// stop it.
     pub fn remove_all(&self, keys: impl IntoIterator<Item = K>) -> Result<(), Bulk<K, V, L, W>> {
         self.rounds(self.items(keys, || Op::Remove)).map(drop)
     }
@@ -146,7 +149,8 @@ where
     /// Loads these keys: those that aren't cached, or all. [`Loader::load_all`] is asked, also without read-through.
     ///
     /// # Errors
-    /// The first failure, with the keys that failed: at all others the call took effect. [`Error::Closed`] and [`Error::WouldDeadlock`] stop it.
+    /// The first failure, with the keys that failed: at all others the call took effect. [`Error::Closed`] and [`Error::WouldDeadlock`]
+    /// stop it.
     pub fn load_all(
         &self,
         keys: impl IntoIterator<Item = K>,
@@ -156,7 +160,8 @@ where
         self.rounds(self.items(keys, op)).map(drop)
     }
 
-    /// Uncaches all keys that are cached now. The store keeps them, and the writer isn't asked. It waits for keys that others have reserved.
+    /// Uncaches all keys that are cached now. The store keeps them, and the writer isn't asked. It waits for keys that others have
+    /// reserved.
     ///
     /// # Errors
     /// [`Error::Closed`], [`Error::WouldDeadlock`]: keys that it hasn't reached are as they were.

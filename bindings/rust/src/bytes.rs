@@ -16,8 +16,8 @@ use stripe::{First, Stripe};
 /// stripes. A key is of the stripe (sum of its bytes) mod stripes.
 ///
 /// It has the calls of one key, [`clear`](BytesCache::clear), [`entries`](BytesCache::entries) and [`stats`](BytesCache::stats), as
-/// [`Cache`](crate::Cache) has them, and waits, fails and passes panics on as that does. It has no expiry, no calls of many keys, no processors and
-/// no phases for async code.
+/// [`Cache`](crate::Cache) has them, and waits, fails and passes panics on as that does. It has no expiry, no calls of many keys, no
+/// processors and no phases for async code.
 pub struct BytesCache<L = NoLoader, W = NoWriter>
 where
     L: Loader<[u8], Vec<u8>>,
@@ -117,8 +117,8 @@ impl<L, W> BytesBuilder<L, W> {
     /// The cache.
     ///
     /// # Errors
-    /// [`BuildError::Limits`]: a number is out of its limits. [`BuildError::NoMemory`]. [`BuildError::Version`]: `CADWRELCH_CORE` named a library
-    /// of another version at the build.
+    /// [`BuildError::Limits`]: a number is out of its limits. [`BuildError::NoMemory`]. [`BuildError::Version`]: `CADWRELCH_CORE` named
+    /// a library of another version at the build.
     pub fn build(self) -> Result<BytesCache<L, W>, BuildError>
     where
         L: Loader<[u8], Vec<u8>>,
@@ -240,8 +240,8 @@ where
         self.value(core::Op::GetAndReplace(value), key)
     }
 
-    /// Uncaches all keys that are cached now, one after the other. The store keeps them, and the writer isn't asked. It waits for keys that others
-    /// have reserved.
+    /// Uncaches all keys that are cached now, one after the other. The store keeps them, and the writer isn't asked. It waits for keys
+    /// that others have reserved.
     ///
     /// # Errors
     /// [`Error::WouldDeadlock`], [`Error::Closed`]: keys that it hasn't reached are as they were.

@@ -23,15 +23,16 @@ use std::time::Duration;
 ///
 /// - A `get` of a missing key asks the loader; calls for the same key meanwhile join that load.
 /// - A mutation is written first, and is in the cache when the writer has written.
-/// - No lock is held while a loader, a writer, a processor, a policy, a clock, or any method of a key or a value runs. While one call has
-///   reserved a key, other calls at this key wait, and all others don't; a `contains_key`, and a `get` that finds the entry, don't wait either.
+/// - No lock is held while a loader, a writer, a processor, a policy, a clock, or any method of a key or a value runs. While one call
+///   has reserved a key, other calls at this key wait, and all others don't; a `contains_key`, and a `get` that finds the entry, don't
+///   wait either.
 /// - A loader, writer or processor may call the cache at other keys. Where it would wait for itself it gets
 ///   [`Error::WouldDeadlock`].
 ///
 /// Which keys are evicted is decided in each stripe, which has its part of the keys and its own order of use.
 ///
-/// A panic of a loader, a writer or a processor goes on once its call has been ended as failed; of one of a key's or a value's methods it goes
-/// on, and nothing was done. No panic of theirs leaves a key reserved, or a lock.
+/// A panic of a loader, a writer or a processor goes on once its call has been ended as failed; of one of a key's or a value's methods
+/// it goes on, and nothing was done. No panic of theirs leaves a key reserved, or a lock.
 pub struct Cache<K, V, L = NoLoader, W = NoWriter>
 where
     L: Loader<K, V>,
@@ -401,8 +402,8 @@ where
         Ok(self.len()? == 0)
     }
 
-    /// How many threads sleep in calls of this cache: they wait for a load that they have joined, for a key or for room. It is a figure for
-    /// monitors, and for tests; a future that waits isn't counted.
+    /// How many threads sleep in calls of this cache: they wait for a load that they have joined, for a key or for room. It is a figure
+    /// for monitors, and for tests; a future that waits isn't counted.
     pub fn waiting(&self) -> usize {
         self.stripes.iter().map(Stripe::waiting).sum()
     }

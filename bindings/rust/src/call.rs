@@ -5,15 +5,18 @@
 //!
 //! | Dropped | leaves |
 //! |---|---|
-//! | a [`Ticket`] | nothing: it is withdrawn, and calls that have joined its load begin anew |
-//! | an [`AskedLoad`] | no entry: it has failed, and calls that have joined it begin anew. If it is dropped by a panic, they fail with [`Error::LoaderPanicked`] |
-//! | an [`AskedWrite`] | the entry as it was, though the writer may have changed the store: whoever drops it has to know, or to uncache the key ([`Op::Clear`](crate::Op::Clear)) |
-//! | a [`Processing`] | the entry as it was; if it was writing, the same holds |
+//! | a [`Ticket`] | nothing: it is withdrawn, and who has joined its load begins anew |
+//! | an [`AskedLoad`] | no entry: it has failed, and who has joined it begins anew |
+//! | an [`AskedWrite`] | the entry as it was, though the store may be changed |
+//! | a [`Processing`] | the entry as it was; if it was writing, the store may be changed |
 //! | a [`Join`], a [`Busy`] | nothing |
 //!
-//! Who has a ticket or an asked call should await nothing but its store: whoever waits for the key waits for that. Entries [expire](crate::Expiry)
-//! here as in whole calls: a first phase that meets an expired entry uncaches it, or is [`Begun::Busy`] if the key is reserved; a commit asks
-//! the policy.
+//! If a panic drops an asked load, those who have joined it fail with [`Error::LoaderPanicked`]. Who drops an asked write, and doesn't
+//! know what the store has then, uncaches the key: [`Op::Clear`](crate::Op::Clear).
+//!
+//! Who has a ticket or an asked call should await nothing but its store: whoever waits for the key waits for that. Entries
+//! [expire](crate::Expiry) here as in whole calls: a first phase that meets an expired entry uncaches it, or is [`Begun::Busy`] if the
+//! key is reserved; a commit asks the policy.
 use crate::Error;
 use crate::core::{self, Written};
 use crate::op::Reply;
@@ -22,6 +25,7 @@ use crate::processing::{Process, Reserved};
 use crate::step::{Answer, Blocked, Call, FAILED, Fault, First, Loaded, Out, Stop};
 use crate::stripe::Stripe;
 use crate::table::Failure;
+use crate::waiting::Seat;
 use std::future::Future;
 use std::marker::PhantomData;
 use std::pin::Pin;
@@ -67,7 +71,22 @@ pub(crate) struct Held<'c, K, V, L> {
     is_over: bool,
 }
 
-impl<K, V, L> Held<'_, K, V, L> {
+impl<'c, K, V, L> Held<'c, K, V, L> {
+    fn new(
+        stripe: &'c Stripe<K, V, L>,
+        out: Out<K, V, L>,
+        if_dropped: fn(&mut Process<V, L>) -> Answer<V, L>,
+    ) -> Self {
+        Held {
+            stripe,
+            out,
+            if_dropped,
+            process: Process::default(),
+            is_asked: false,
+            is_over: false,
+        }
+    }
+
     pub(crate) fn commit(&mut self, answer: &Answer<V, L>) -> Result<Reply<V>, Fault> {
         self.is_over = true;
         self.stripe.commit(&self.out, answer)
@@ -101,41 +120,24 @@ fn failed_write<V, L>(_process: &mut Process<V, L>) -> Answer<V, L> {
 }
 
 /// The first phase's answer, as calls of this module.
+#[inline]
 fn begun<'c, K, V, L, W>(
     stripe: &'c Stripe<K, V, L>,
     first: First<K, V, L>,
 ) -> Begun<'c, K, V, L, W> {
-    let held = |out, if_dropped| Held {
-        stripe,
-        out,
-        if_dropped,
-        process: Process::default(),
-        is_asked: false,
-        is_over: false,
-    };
     let writer = PhantomData;
     match first {
         First::Done(reply) => Begun::Done(reply),
         First::Load(out) => {
-            let held = held(out, failed_load);
+            let held = Held::new(stripe, out, failed_load);
             Begun::Load(Ticket(AskedLoad { held, writer }))
         }
-        First::Write(out) => Begun::Write(Ticket(AskedWrite {
-            held: held(out, failed_write),
-            is_delete: false,
-            writer,
-        })),
-        First::Delete(out) => Begun::Write(Ticket(AskedWrite {
-            held: held(out, failed_write),
-            is_delete: true,
-            writer,
-        })),
-        First::Process {
-            out,
-            entry,
-            may_load,
-        } => {
-            let mut held = held(out, Process::failed);
+        First::Write(out) => {
+            let held = Held::new(stripe, out, failed_write);
+            Begun::Write(Ticket(AskedWrite { held, writer }))
+        }
+        First::Process(out, entry, may_load) => {
+            let mut held = Held::new(stripe, out, Process::failed);
             held.process.entry = entry;
             held.process.may_load = may_load;
             Begun::Process(Ticket(Processing::new(held)))
@@ -144,9 +146,14 @@ fn begun<'c, K, V, L, W>(
             stripe,
             out,
             join: Some(join),
+            seat: None,
             writer,
         }),
-        First::Busy(blocked) => Begun::Busy(Busy { stripe, blocked }),
+        First::Busy(blocked) => Begun::Busy(Busy {
+            stripe,
+            blocked,
+            seat: None,
+        }),
     }
 }
 
@@ -216,7 +223,6 @@ pub enum Change<'a, V> {
 /// A call that asks the writer.
 pub struct AskedWrite<'c, K, V, L, W> {
     held: Held<'c, K, V, L>,
-    is_delete: bool,
     writer: PhantomData<fn() -> W>,
 }
 
@@ -235,8 +241,8 @@ impl<K, V, L, W> AskedWrite<'_, K, V, L, W> {
     /// What the writer is to do.
     pub fn change(&self) -> Change<'_, V> {
         match &self.held.out.brought {
-            Some(value) if !self.is_delete => Change::Write(&value.value),
-            _ => Change::Delete,
+            Some(value) => Change::Write(&value.value),
+            None => Change::Delete,
         }
     }
 
@@ -268,14 +274,15 @@ pub(crate) fn written(is_written: bool) -> Written {
 
 /// A call that has joined another call's load. It is awaited, or waited for. Dropped, it gives up its answer.
 ///
-/// A join needs one place of its stripe's history until it is picked up, also one that was dropped, until its load is over. So in a stripe of a
-/// history shorter than the default joins of a slow load can keep calls at other keys [busy](Begun::Busy).
+/// A join needs one place of its stripe's history until it is picked up, also one that was dropped, until its load is over. So in a
+/// stripe of a history shorter than the default joins of a slow load can keep calls at other keys [busy](Begun::Busy).
 #[must_use]
 pub struct Join<'c, K, V, L, W> {
     stripe: &'c Stripe<K, V, L>,
     out: Out<K, V, L>,
     /// None: it was picked up.
     join: Option<core::Join>,
+    seat: Seat,
     writer: PhantomData<fn() -> W>,
 }
 
@@ -293,7 +300,8 @@ impl<K, V, L, W> Join<'_, K, V, L, W> {
     /// Sleeps until the load is over. None: it was withdrawn or cancelled; begin anew.
     ///
     /// # Errors
-    /// [`Error::Loader`], [`Error::LoaderPanicked`], [`Error::Limits`] of the load. [`Error::WouldDeadlock`]: this thread would wait for itself.
+    /// [`Error::Loader`], [`Error::LoaderPanicked`], [`Error::Limits`] of the load. [`Error::WouldDeadlock`]: this thread would wait
+    /// for itself.
     ///
     /// # Panics
     /// If it was awaited to its end.
@@ -311,10 +319,11 @@ impl<K, V, L, W> Future for Join<'_, K, V, L, W> {
     fn poll(mut self: Pin<&mut Self>, context: &mut Context<'_>) -> Poll<Self::Output> {
         let join = self.join.expect("it was not picked up");
         let waker = context.waker().clone();
-        match self.stripe.pick_up(&self.out, join, Some(waker)) {
+        let it = &mut *self;
+        match it.stripe.pick_up(&it.out, join, &mut it.seat, waker) {
             None => Poll::Pending,
             Some(picked) => {
-                self.join = None;
+                it.join = None;
                 Poll::Ready(joined(picked))
             }
         }
@@ -324,7 +333,7 @@ impl<K, V, L, W> Future for Join<'_, K, V, L, W> {
 impl<K, V, L, W> Drop for Join<'_, K, V, L, W> {
     fn drop(&mut self) {
         if let Some(join) = self.join {
-            self.stripe.abandon(&self.out, join);
+            self.stripe.abandon(&self.out, join, self.seat);
         }
     }
 }
@@ -334,6 +343,7 @@ impl<K, V, L, W> Drop for Join<'_, K, V, L, W> {
 pub struct Busy<'c, K, V, L> {
     stripe: &'c Stripe<K, V, L>,
     blocked: Blocked<V, L>,
+    seat: Seat,
 }
 
 impl<K, V, L> Busy<'_, K, V, L> {
@@ -349,9 +359,10 @@ impl<K, V, L> Busy<'_, K, V, L> {
 impl<K, V, L> Future for Busy<'_, K, V, L> {
     type Output = ();
 
-    fn poll(self: Pin<&mut Self>, context: &mut Context<'_>) -> Poll<()> {
+    fn poll(mut self: Pin<&mut Self>, context: &mut Context<'_>) -> Poll<()> {
         let waker = context.waker().clone();
-        if self.stripe.poll(&self.blocked, waker) {
+        let it = &mut *self;
+        if it.stripe.poll(&it.blocked, &mut it.seat, waker) {
             Poll::Ready(())
         } else {
             Poll::Pending
@@ -359,7 +370,16 @@ impl<K, V, L> Future for Busy<'_, K, V, L> {
     }
 }
 
+impl<K, V, L> Drop for Busy<'_, K, V, L> {
+    fn drop(&mut self) {
+        if self.seat.is_some() {
+            self.stripe.forget(&self.blocked, self.seat);
+        }
+    }
+}
+
 /// Begins a call at a stripe.
+#[inline]
 pub(crate) fn begin<'c, K: Eq, V, L, W>(
     stripe: &'c Stripe<K, V, L>,
     call: &Call<'_, K, V>,

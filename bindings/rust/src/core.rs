@@ -161,10 +161,12 @@ impl Desk {
     /// Opens a desk over stripe `number` (from 0) with these entries, the first one the most recently used.
     ///
     /// # Errors
-    /// [`Code::BadArgument`]: the shape is out of its limits, no stripe has this number, or the entries don't fit: one has a key or a value out
-    /// of the limits, a key is there twice or of another stripe, or there are more than the capacity. [`Code::NoMemory`].
+    /// [`Code::BadArgument`]: the shape is out of its limits, no stripe has this number, or the entries don't fit: one has a key or a
+    /// value out of the limits, a key is there twice or of another stripe, or there are more than the capacity. [`Code::NoMemory`].
     /// [`Code::WrongVersion`]: the library that was linked is of another version.
     pub fn open(shape: &Shape, number: usize, entries: &[(&[u8], &[u8])]) -> Result<Desk, Code> {
+        // Nothing of a library of another version is called, not even to close what it didn't open.
+        check_version()?;
         let mut desk = Desk {
             room: Box::new(Room {
                 handle: raw::Handle::CLOSED,
@@ -185,7 +187,6 @@ impl Desk {
         number: usize,
         entries: &[(&[u8], &[u8])],
     ) -> Result<(), Code> {
-        check_version()?;
         let shape = raw_shape(shape);
         let entries = raw_entries(entries);
         let handle = &mut self.room.handle;
@@ -205,8 +206,8 @@ impl Desk {
     /// The first phase of the session's next call. A session is whoever has at most one call out at this desk.
     ///
     /// # Errors
-    /// [`Code::BadArgument`]: a key or a value is out of its limits. [`Code::Misuse`]: the key is of another stripe, or the session has another
-    /// call out. [`Code::NoMemory`], [`Code::WrongHandle`]. Nothing was done.
+    /// [`Code::BadArgument`]: a key or a value is out of its limits. [`Code::Misuse`]: the key is of another stripe, or the session has
+    /// another call out. [`Code::NoMemory`], [`Code::WrongHandle`]. Nothing was done.
     #[inline]
     pub fn begin(&mut self, session: u32, op: Op<'_>, key: &[u8]) -> Result<Asked<'_>, Code> {
         let (op, value, other) = op.parts();
@@ -262,8 +263,8 @@ impl Desk {
     /// The last phase of a call whose writer was asked.
     ///
     /// # Errors
-    /// [`Code::Misuse`]: the ticket isn't out here, or asks for another phase. [`Code::NoMemory`], [`Code::WrongHandle`]. Nothing was done, and
-    /// the ticket is as it was.
+    /// [`Code::Misuse`]: the ticket isn't out here, or asks for another phase. [`Code::NoMemory`], [`Code::WrongHandle`]. Nothing was
+    /// done, and the ticket is as it was.
     pub fn commit_write(&mut self, ticket: Ticket, written: Written) -> Result<Done<'_>, Code> {
         let (answer, code) = written_parts(Some(written));
         let Room { handle, out } = &mut *self.room;
@@ -275,8 +276,8 @@ impl Desk {
     /// The last phase of a call whose processor ran.
     ///
     /// # Errors
-    /// As [`commit_load`](Desk::commit_load); and [`Code::Misuse`]: the loader answered though it may not be asked, or the writer was (not)
-    /// asked though it wasn't (was) due.
+    /// As [`commit_load`](Desk::commit_load); and [`Code::Misuse`]: the loader answered though it may not be asked, or the writer was
+    /// (not) asked though it wasn't (was) due.
     pub fn commit_process(
         &mut self,
         ticket: Ticket,

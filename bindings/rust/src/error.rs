@@ -18,8 +18,8 @@ pub enum Error<L, W> {
     Writer(W),
     /// The processor of an `invoke` failed, with an error of its own.
     Processor(Box<dyn StdError + Send + Sync>),
-    /// The call would wait for its own thread: it was made inside a loader, a writer or a processor, at a key that this thread has
-    /// reserved, at one whose call waits for this thread, or in a stripe that has no room for a call more.
+    /// The call would wait for its own thread: it was made inside a loader, a writer, a processor or a policy, at a key that this thread
+    /// has reserved, at one whose call waits for this thread, or in a stripe that has no room for a call more.
     WouldDeadlock,
     /// Of a [`BytesCache`](crate::BytesCache): a key has 1 to 32 bytes, and a value 0 to 256, also one that a loader finds.
     Limits,

@@ -8,16 +8,17 @@ use std::time::Duration;
 
 /// Says how long entries live: see [`Builder::expiry`](crate::Builder::expiry).
 ///
-/// Each method answers how long the entry lives from now on, or None for as long as it may. It is asked with no lock held, so it may be asked
-/// again, or in vain, if another call comes between; a policy that counts how it was asked counts too many. `left` is what the entry has left
-/// of the time that the policy, or a call as [`Cache::put_for`], gave it; None: it has no such deadline. The cache's
-/// [`time_to_live`](crate::Builder::time_to_live) and [`time_to_idle`](crate::Builder::time_to_idle) are beside it: what comes first counts.
+/// Each method answers how long the entry lives from now on, or None for as long as it may. It is asked with no lock held, so it may be
+/// asked again, or in vain, if another call comes between; a policy that counts how it was asked counts too many. `left` is what the
+/// entry has left of the time that the policy, or a call as [`Cache::put_for`], gave it; None: it has no such deadline. The cache's
+/// [`time_to_live`](crate::Builder::time_to_live) and [`time_to_idle`](crate::Builder::time_to_idle) are beside it: what comes first
+/// counts.
 ///
 /// | After a call | is asked |
 /// |---|---|
 /// | that cached a value for a key that had none, or whose entry had expired | `after_create` |
 /// | that replaced a cached value | `after_update` |
-/// | `get`, `get_all`, an `invoke` that looked at the value, a `replace_if` or `remove_if` that found another value: with the entry there and left as it is | `after_read` |
+/// | `get`, `get_all`, an `invoke` that looked at the value, a conditional call that found another: if it left the entry | `after_read` |
 /// | `contains_key`, a `put_if_absent` or `load_all` that found an entry, all that remove one, and a call that failed | nothing |
 ///
 /// A call with a life of its own isn't asked for when its value comes in. If a policy panics, the panic goes on; a call whose store or
@@ -55,8 +56,8 @@ impl<K, V, T: Expiry<K, V> + ?Sized> Expiry<K, V> for Arc<T> {
 
 /// Values with a life of their own.
 ///
-/// Such a value expires after this time, whatever the policy and the cache's time to live say; its time to idle counts as always. Any cache has
-/// these calls, also one that was built without times. Errors, and what they leave, are those of the call without `_for`.
+/// Such a value expires after this time, whatever the policy and the cache's time to live say; its time to idle counts as always. Any
+/// cache has these calls, also one that was built without times. Errors, and what they leave, are those of the call without `_for`.
 impl<K, V, L, W> Cache<K, V, L, W>
 where
     K: Eq + Hash,
@@ -182,11 +183,11 @@ where
     L: Loader<K, V>,
     W: Writer<K, V>,
 {
-    /// Uncaches all entries that have expired, and says how many: each as a step of its own, and a few at a time with a stripe's lock held. An
-    /// entry whose key another call has reserved is left to the next call that meets it. It never waits for another call.
+    /// Uncaches all entries that have expired, and says how many: each as a step of its own, and a few at a time with a stripe's lock
+    /// held. An entry whose key another call has reserved is left to the next call that meets it. It never waits for another call.
     ///
-    /// No call finds an entry that has expired, so this is for its memory alone; and a full stripe evicts by order of use, whether or not an
-    /// entry has expired. A cache that is closed has none.
+    /// No call finds an entry that has expired, so this is for its memory alone; and a full stripe evicts by order of use, whether or
+    /// not an entry has expired. A cache that is closed has none.
     pub fn expire(&self) -> usize {
         if !self.lives().is_on() {
             return 0;

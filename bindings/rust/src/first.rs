@@ -16,6 +16,8 @@ struct Known {
     matching: (u64, bool),
     /// What the policy has said of which value.
     said: Option<(Question, u64, Said)>,
+    /// Once the call can be made: what becomes of the life of an entry by it.
+    renewal: Renewal,
 }
 
 impl Known {
@@ -24,6 +26,7 @@ impl Known {
             compared: Compared::default(),
             matching: (NO_VERSION, false),
             said: None,
+            renewal: Renewal::NONE,
         }
     }
 
@@ -48,7 +51,7 @@ enum Look<K, V> {
     /// The entry at this slot has expired.
     Expired(usize),
     /// It can be made, at this slot if the key has one.
-    Ready(Option<usize>, Renewal),
+    Ready(Option<usize>),
 }
 
 impl<K, V, E> Stripe<K, V, E> {
@@ -86,11 +89,11 @@ impl<K, V, E> Stripe<K, V, E> {
     fn hit_among(&self, hash: u64, is_key: impl Fn(&K) -> bool) -> Result<Option<Arc<V>>, Stop> {
         let mut known = Known::nothing();
         let mut same = None;
+        let mut now = self.lives.now();
         loop {
-            let now = self.lives.now();
             let mut guard = self.lock();
             let side = &mut *guard;
-            match self.look(side, hash, &Op::Get, None, &known, now)? {
+            match self.look(side, hash, &Op::Get, None, &mut known, now)? {
                 Look::Compare(id, key) => {
                     drop(guard);
                     let is_same = is_key(&key);
@@ -103,15 +106,16 @@ impl<K, V, E> Stripe<K, V, E> {
                     drop(guard);
                     let key = same.as_ref().expect("it was compared");
                     known.said = self.ask(key, version, &asking);
+                    now = self.lives.now();
                 }
-                Look::Ready(Some(slot), renewal) => {
+                Look::Ready(Some(slot)) => {
                     let hit = side.hit(slot);
                     if hit.is_some() {
-                        renewal.renew(&mut side.table.slot(slot).life, false);
+                        known.renewal.renew(&mut side.table.slot(slot).life, false);
                     }
                     return Ok(hit);
                 }
-                Look::Ready(None, _) | Look::Expired(_) => return Ok(None),
+                Look::Ready(None) | Look::Expired(_) => return Ok(None),
                 Look::Match(_) => unreachable!("a get expects no value"),
             }
         }
@@ -123,12 +127,12 @@ impl<K, V, E> Stripe<K, V, E> {
         K: Eq,
     {
         let mut known = Known::nothing();
+        let mut now = self.lives.now();
         loop {
-            let now = self.lives.now();
             let mut leavings = Leavings::default();
             let mut guard = self.lock();
             let side = &mut *guard;
-            match self.look(side, call.hash, call.op, call.life, &known, now)? {
+            match self.look(side, call.hash, call.op, call.life, &mut known, now)? {
                 Look::Compare(id, other) => {
                     drop(guard);
                     known.compared.note(id, *call.key == other);
@@ -141,28 +145,30 @@ impl<K, V, E> Stripe<K, V, E> {
                 Look::Ask(version, asking) => {
                     drop(guard);
                     known.said = self.ask(call.key, version, &asking);
+                    now = self.lives.now();
                 }
                 Look::Expired(slot) => {
                     if let Some(blocked) = side.expire(slot, &mut leavings)? {
                         return Ok(First::Busy(blocked));
                     }
                 }
-                Look::Ready(slot, renewal) => {
+                Look::Ready(slot) => {
                     let slot = slot.unwrap_or_else(|| side.table.add(call.key.clone(), call.hash));
-                    return side.make(call, slot, known.equal(), &renewal, &mut leavings);
+                    return side.make(call, slot, known.equal(), &known.renewal, &mut leavings);
                 }
             }
         }
     }
 
     /// What a first phase still has to know.
+    #[inline(always)]
     fn look(
         &self,
         side: &Side<K, V, E>,
         hash: u64,
         op: &Op<V>,
         life: Option<Duration>,
-        known: &Known,
+        known: &mut Known,
         now: Nanos,
     ) -> Result<Look<K, V>, Stop> {
         side.check_open()?;
@@ -179,13 +185,13 @@ impl<K, V, E> Stripe<K, V, E> {
                 return Ok(Look::Match(entry.clone()));
             }
         }
-        if !self.lives.is_on() {
-            return Ok(Look::Ready(at, Renewal::NONE));
+        if self.lives.is_on() {
+            match self.renewal_at_once(slot, op, life, known, now) {
+                Ok(renewal) => known.renewal = renewal,
+                Err((version, asking)) => return Ok(Look::Ask(version, asking)),
+            }
         }
-        Ok(match self.renewal_at_once(slot, op, life, known, now) {
-            Ok(renewal) => Look::Ready(at, renewal),
-            Err((version, asking)) => Look::Ask(version, asking),
-        })
+        Ok(Look::Ready(at))
     }
 
     /// What becomes of the life of an entry by a first phase that asks nobody; or what the policy is to be asked for that.

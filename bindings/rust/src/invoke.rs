@@ -63,8 +63,8 @@ where
 {
     /// Runs a processor on the entry of a key, and returns what it returns.
     ///
-    /// It waits if another call has reserved the key, or the stripe has no room. The writer is asked after the processor, for the net effect
-    /// alone.
+    /// It waits if another call has reserved the key, or the stripe has no room. The writer is asked after the processor, for the net
+    /// effect alone.
     ///
     /// ```
     /// # let cache = cadwrelch::Cache::<String, u32>::builder().build()?;
@@ -80,8 +80,8 @@ where
     /// # Errors
     /// What the processor returned ([`Error::processor`](crate::Error::processor) makes an error of its own);
     /// [`Error::Loader`](crate::Error::Loader), also if the processor has made light of it; [`Error::Writer`](crate::Error::Writer);
-    /// [`Error::WouldDeadlock`](crate::Error::WouldDeadlock), [`Error::Closed`](crate::Error::Closed). After any of these the entry is as it was. So
-    /// it is if the processor panics, and the panic goes on.
+    /// [`Error::WouldDeadlock`](crate::Error::WouldDeadlock), [`Error::Closed`](crate::Error::Closed). After any of these the entry is
+    /// as it was. So it is if the processor panics, and the panic goes on.
     pub fn invoke<T>(
         &self,
         key: K,

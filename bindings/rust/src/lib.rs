@@ -1,19 +1,12 @@
-//! A cache with read-through, write-through and request coalescing, after the rules of JCache (JSR 107).
+#![doc = include_str!("../README.md")]
 //!
-//! ```
-//! use cadwrelch::Cache;
-//!
-//! let cache = Cache::<String, usize>::builder()
-//!     .loader(|key: &String| Ok::<_, std::io::Error>(Some(key.len())))
-//!     .build()?;
-//! assert_eq!(*cache.get("four")?.expect("it was loaded"), 4);
-//! # Ok::<(), Box<dyn std::error::Error>>(())
-//! ```
+//! ## The parts
 //!
 //! - [`Cache`] keeps keys and values of any types. The core decides what is cached, who may go on and who waits, by numbers; the
 //!   objects are beside it.
 //! - [`BytesCache`] keeps keys of at most 32 and values of at most 256 bytes in the core itself.
-//! - [`call`] has the phases of a call, for async hosts.
+//! - [`Expiry`] says how long entries live.
+//! - [`call`] has the phases of a call, for async code.
 //! - [`core`] is the library's own interface: one stripe.
 #![deny(missing_docs)]
 

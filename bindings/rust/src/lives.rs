@@ -1,7 +1,7 @@
 //! When entries expire: the times of a cache, and the life of each entry.
 //!
-//! An entry has three deadlines: its own, of the policy or of the call that brought its value; that of the cache's time to live; and that of its
-//! time to idle. It has expired once the first of them has come.
+//! An entry has three deadlines: its own, of the policy or of the call that brought its value; that of the cache's time to live; and
+//! that of its time to idle. It has expired once the first of them has come.
 use crate::expiry::Expiry;
 use std::fmt;
 use std::panic::{RefUnwindSafe, UnwindSafe};
@@ -76,6 +76,7 @@ impl Life {
         idle: NEVER,
     };
 
+    #[inline]
     pub(crate) fn is_over(&self, now: Nanos) -> bool {
         now >= self.own.min(self.live).min(self.idle)
     }
@@ -111,10 +112,11 @@ pub(crate) enum Said {
 }
 
 /// What becomes of the life of an entry by a step.
+#[derive(Clone, Copy)]
 pub(crate) struct Renewal {
     question: Option<Question>,
-    said: Said,
-    now: Nanos,
+    /// Its own deadline; None: as before.
+    own: Option<Nanos>,
     live: Nanos,
     idle: Nanos,
 }
@@ -123,13 +125,13 @@ impl Renewal {
     /// A value that comes in lives for ever, and nothing else counts.
     pub(crate) const NONE: Renewal = Renewal {
         question: None,
-        said: Said::Lives(None),
-        now: 0,
+        own: Some(NEVER),
         live: NEVER,
         idle: NEVER,
     };
 
     /// The life of an entry after a step, by which it has got a value or not.
+    #[inline]
     pub(crate) fn renew(&self, life: &mut Life, is_kept: bool) {
         if is_kept {
             let before = match self.question {
@@ -137,21 +139,13 @@ impl Renewal {
                 _ => NEVER,
             };
             *life = Life {
-                own: self.own(before),
+                own: self.own.unwrap_or(before),
                 live: self.live,
                 idle: self.idle,
             };
         } else if self.question == Some(Question::Read) {
-            life.own = self.own(life.own);
+            life.own = self.own.unwrap_or(life.own);
             life.idle = self.idle;
-        }
-    }
-
-    fn own(&self, before: Nanos) -> Nanos {
-        match self.said {
-            Said::Stays => before,
-            Said::Lives(None) => NEVER,
-            Said::Lives(Some(time)) => self.now.saturating_add(nanos(time)),
         }
     }
 }
@@ -196,9 +190,10 @@ impl<K, V> Lives<K, V> {
     }
 
     /// The time; 0 while no entry can expire. It is read with no lock held.
+    #[inline]
     pub(crate) fn now(&self) -> Nanos {
         if self.is_on() {
-            nanos((self.clock)())
+            nanos((self.clock)()).min(NEVER - 1)
         } else {
             0
         }
@@ -242,8 +237,10 @@ impl<K, V> Lives<K, V> {
         };
         Renewal {
             question,
-            said,
-            now,
+            own: match said {
+                Said::Stays => None,
+                Said::Lives(time) => Some(after(time.map(nanos))),
+            },
             live,
             idle: after(self.idle),
         }

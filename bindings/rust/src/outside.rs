@@ -57,8 +57,8 @@ pub trait Loader<K: ?Sized, V> {
     /// Its own: the call fails with [`Error::Loader`](crate::Error::Loader), and so do those that have joined it.
     fn load(&self, key: &K) -> Result<Option<V>, Self::Error>;
 
-    /// The store's value of each of these keys, in their order. If the answer is shorter, the other keys have no value. Without a method of its
-    /// own it asks for one key after the other, up to the first failure.
+    /// The store's value of each of these keys, in their order. If the answer is shorter, the other keys have no value. Without a
+    /// method of its own it asks for one key after the other, up to the first failure.
     ///
     /// # Errors
     /// Its own: each of these keys has failed.

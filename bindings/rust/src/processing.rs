@@ -137,8 +137,8 @@ impl<'c, K, V, L, W> Processing<'c, K, V, L, W> {
             && matches!(process.effect, Effect::Keep)
     }
 
-    /// The loader is being asked: it is to be. If its answer never comes, because it panicked, the call fails with [`Error::LoaderPanicked`],
-    /// whatever the processor does.
+    /// The loader is being asked: it is to be. If its answer never comes, because it panicked, the call fails with
+    /// [`Error::LoaderPanicked`], whatever the processor does.
     ///
     /// # Panics
     /// If [`must_load`](Processing::must_load) is false. The call fails then as if the processor had.
@@ -247,7 +247,8 @@ impl<'c, K, V, L, W> Processing<'c, K, V, L, W> {
         }
     }
 
-    /// Ends the call with a failure of the processor: nothing of it counts. It returns that error, or that of a load, which comes before it.
+    /// Ends the call with a failure of the processor: nothing of it counts. It returns that error, or that of a load, which comes
+    /// before it.
     pub fn fail(self, error: impl Into<Box<dyn std::error::Error + Send + Sync>>) -> Error<L, W> {
         self.end_failed().unwrap_or_else(|| Error::processor(error))
     }

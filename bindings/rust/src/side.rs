@@ -66,7 +66,9 @@ impl<K, V, E> Side<K, V, E> {
         renewal: &Renewal,
         leavings: &mut Leavings<K, V, E>,
     ) -> Result<First<K, V, E>, Stop> {
-        let first = self.step(call, slot, old, renewal, leavings);
+        let brought = call.op.brought();
+        let brought = brought.map(|value| self.table.version(value.clone()));
+        let first = self.step(call, slot, old, brought, renewal, leavings);
         self.table.release(slot, &mut leavings.keys[0]);
         first
     }
@@ -76,18 +78,16 @@ impl<K, V, E> Side<K, V, E> {
         call: &Call<'_, K, V>,
         slot: usize,
         old: u64,
+        brought: Option<Versioned<V>>,
         renewal: &Renewal,
         leavings: &mut Leavings<K, V, E>,
     ) -> Result<First<K, V, E>, Stop> {
         let session = self.sessions.next();
-        let brought = call.op.brought();
-        let brought = brought.map(|value| self.table.version(value.clone()));
-        let bytes = bytes_of(brought.as_ref());
-        let old = old.to_le_bytes();
-        let op = call.op.numbered(&bytes, &old);
+        let (bytes, old) = (bytes_of(brought.as_ref()), old.to_le_bytes());
         let id = self.table.slot(slot).id.bytes();
-        let (ticket, next): (_, fn(_) -> _) = match self.desk.begin(session, op, &id).expect(RULES)
-        {
+        let op = call.op.numbered(&bytes, &old);
+        let asked = self.desk.begin(session, op, &id).expect(RULES);
+        let (ticket, next): (_, fn(_) -> _) = match asked {
             Asked::Done(done) => {
                 let reply = reply_of(&self.table, slot, &done, None);
                 let table = &mut self.table;
@@ -102,18 +102,12 @@ impl<K, V, E> Side<K, V, E> {
                 assert_eq!(value, bytes, "the core has another value");
                 (ticket, First::Write)
             }
-            Asked::Delete(ticket) => (ticket, First::Delete),
-            Asked::Process {
-                ticket,
-                entry,
-                may_load,
-            } => {
-                let known = self.table.check(slot, entry);
-                return Ok(First::Process {
-                    out: self.reserve(call, slot, session, ticket, None),
-                    entry: known,
-                    may_load,
-                });
+            Asked::Delete(ticket) => (ticket, First::Write),
+            #[rustfmt::skip]
+            Asked::Process { ticket, entry, may_load } => {
+                let entry = self.table.check(slot, entry);
+                let out = self.reserve(call, slot, session, ticket, None);
+                return Ok(First::Process(out, entry, may_load));
             }
         };
         Ok(next(self.reserve(call, slot, session, ticket, brought)))
@@ -180,14 +174,12 @@ impl<K, V, E> Side<K, V, E> {
     }
 
     /// Uncaches an entry that has expired, as a step of its own. If that can't be done now: what it waits for.
+    #[cold]
     pub(crate) fn expire(
         &mut self,
         slot: usize,
         leavings: &mut Leavings<K, V, E>,
     ) -> Result<Option<Blocked<V, E>>, Stop> {
-        if let Some(flight) = self.table.flight(slot) {
-            return Ok(Some(Blocked::Key(flight.clone())));
-        }
         let session = self.sessions.next();
         let id = self.table.slot(slot).id.bytes();
         let asked = self.desk.begin(session, core::Op::Clear, &id);

@@ -61,13 +61,10 @@ pub(crate) struct Out<K, V, E> {
 pub(crate) enum First<K, V, E> {
     Done(Reply<V>),
     Load(Out<K, V, E>),
+    /// The writer is to write the value that is brought, or to delete the key.
     Write(Out<K, V, E>),
-    Delete(Out<K, V, E>),
-    Process {
-        out: Out<K, V, E>,
-        entry: Option<Arc<V>>,
-        may_load: bool,
-    },
+    /// The entry that the processor sees, and whether the loader may be asked.
+    Process(Out<K, V, E>, Option<Arc<V>>, bool),
     Joined(Out<K, V, E>, core::Join),
     Busy(Blocked<V, E>),
 }
@@ -106,6 +103,10 @@ pub(crate) enum Answer<V, E> {
     },
 }
 
+fn has_written(written: &Written) -> bool {
+    matches!(written, Written::Done)
+}
+
 impl<V, E> Answer<V, E> {
     /// What a call does by it for the life of its key's entry, with the value that counts; nothing if it has failed.
     pub(crate) fn question<K>(
@@ -113,36 +114,48 @@ impl<V, E> Answer<V, E> {
         out: &Out<K, V, E>,
         entry: Option<&Versioned<V>>,
     ) -> Option<(Question, Arc<V>)> {
-        let comes = match entry {
-            Some(_) => Question::Update,
-            None => Question::Create,
-        };
-        match self {
-            Answer::Load(Ok(Some(value))) => Some((comes, value.clone())),
-            Answer::Write(Written::Done) => Some((comes, out.brought.as_ref()?.value.clone())),
-            Answer::Process {
-                load: Some(Err(_)), ..
+        let comes = match self {
+            Answer::Load(load) => load.as_ref().ok()?.clone(),
+            Answer::Write(write) => {
+                has_written(write).then_some(())?;
+                out.brought.as_ref().map(|brought| brought.value.clone())
             }
-            | Answer::Process {
-                write: Some(Written::Failed(_)),
-                ..
-            } => None,
             Answer::Process {
-                effect: Effect::Set(value),
+                load,
+                effect,
+                write,
                 ..
-            } => Some((comes, value.clone())),
+            } => {
+                write.as_ref().is_none_or(has_written).then_some(())?;
+                let loaded = load.as_ref().map(|load| load.as_ref().ok());
+                match (loaded, effect) {
+                    (Some(None), _) => return None,
+                    (_, Effect::Set(value)) => Some(value.clone()),
+                    (Some(Some(found)), Effect::Keep) => found.clone(),
+                    _ => None,
+                }
+            }
+        };
+        match (comes, entry) {
+            (Some(value), None) => Some((Question::Create, value)),
+            (Some(value), Some(_)) => Some((Question::Update, value)),
+            (None, entry) => {
+                let entry = entry.filter(|_| self.has_only_read())?;
+                Some((Question::Read, entry.value.clone()))
+            }
+        }
+    }
+
+    /// Whether a processor has looked at the value, and changed nothing.
+    fn has_only_read(&self) -> bool {
+        matches!(
+            self,
             Answer::Process {
                 effect: Effect::Keep,
-                load,
-                has_read,
+                has_read: true,
                 ..
-            } => match (load, entry) {
-                (Some(Ok(Some(value))), _) => Some((comes, value.clone())),
-                (_, Some(entry)) if *has_read => Some((Question::Read, entry.value.clone())),
-                _ => None,
-            },
-            _ => None,
-        }
+            }
+        )
     }
 
     /// The life of its own that the value has.

@@ -1,5 +1,5 @@
-//! One stripe: a desk and its table under a mutex, the last phases of calls, and who waits. First phases are in `first`. Nothing of the user's is
-//! called while the mutex is held.
+//! One stripe: a desk and its table under a mutex, the last phases of calls, and who waits. First phases are in `first`. Nothing of the
+//! user's is called while the mutex is held.
 use crate::core::{self, Shape, Statistics, Ticket};
 use crate::lives::{Asking, Lives, Nanos, Renewal};
 use crate::op::Reply;
@@ -7,7 +7,7 @@ use crate::outside::in_call;
 use crate::side::Side;
 use crate::step::{Answer, Blocked, Fault, Out, Stop};
 use crate::table::{Failure, Flight, Leavings};
-use crate::waiting::{self, Waiters};
+use crate::waiting::{self, Seat, Waiters};
 use std::panic::{AssertUnwindSafe, catch_unwind, resume_unwind};
 use std::sync::atomic::Ordering::Relaxed;
 use std::sync::{Arc, Mutex, MutexGuard};
@@ -117,19 +117,20 @@ impl<K, V, E> Stripe<K, V, E> {
         self.room.wake(&mut leavings.wakers);
     }
 
-    /// Picks up what was joined, if the load is over: a reply, or None to begin anew.
+    /// Picks up what was joined, if the load is over: a reply, or None to begin anew. If it isn't, the waker is kept.
     pub(crate) fn pick_up(
         &self,
         out: &Out<K, V, E>,
         join: core::Join,
-        waker: Option<Waker>,
+        seat: &mut Seat,
+        waker: Waker,
     ) -> Picked<V, E> {
         let mut leavings = Leavings::default();
         let mut _spare = None;
         let mut guard = self.lock();
         let picked = guard.pick_up(out, join);
         match &picked {
-            None => _spare = waker.and_then(|waker| out.flight.waiters.keep(waker)),
+            None => _spare = out.flight.waiters.keep(seat, waker),
             Some(_) => self.end_join(&mut guard, out, &mut leavings),
         }
         picked
@@ -179,8 +180,9 @@ impl<K, V, E> Stripe<K, V, E> {
     }
 
     /// Nobody waits for this join any more.
-    pub(crate) fn abandon(&self, out: &Out<K, V, E>, join: core::Join) {
+    pub(crate) fn abandon(&self, out: &Out<K, V, E>, join: core::Join, seat: Seat) {
         let mut leavings = Leavings::default();
+        let _spare = out.flight.waiters.forget(seat);
         let mut guard = self.lock();
         if guard.pick_up(out, join).is_some() {
             self.end_join(&mut guard, out, &mut leavings);
@@ -214,17 +216,26 @@ impl<K, V, E> Stripe<K, V, E> {
     }
 
     /// Whether it may be tried again what was refused; if not, the waker is kept.
-    pub(crate) fn poll(&self, blocked: &Blocked<V, E>, waker: Waker) -> bool {
+    pub(crate) fn poll(&self, blocked: &Blocked<V, E>, seat: &mut Seat, waker: Waker) -> bool {
         let mut _spare = None;
         let guard = self.lock();
         if !guard.is_blocked(blocked) {
             return true;
         }
-        _spare = match blocked {
-            Blocked::Key(flight) => flight.waiters.keep(waker),
-            Blocked::Room(_) => self.room.keep(waker),
-        };
+        _spare = self.waiters(blocked).keep(seat, waker);
         false
+    }
+
+    /// Nobody waits any more to try it again.
+    pub(crate) fn forget(&self, blocked: &Blocked<V, E>, seat: Seat) {
+        drop(self.waiters(blocked).forget(seat));
+    }
+
+    fn waiters<'w>(&'w self, blocked: &'w Blocked<V, E>) -> &'w Waiters {
+        match blocked {
+            Blocked::Key(flight) => &flight.waiters,
+            Blocked::Room(_) => &self.room,
+        }
     }
 
     /// The keys that are cached, but for those whose entry has expired by then.

@@ -261,9 +261,7 @@ impl<K, V, E> Table<K, V, E> {
     }
 
     pub(crate) fn find(&self, hash: u64, compared: &Compared) -> Place<K> {
-        if let Some(id) = compared.same
-            && self.is_in_use(id)
-        {
+        if let Some(id) = compared.same.filter(|id| self.is_in_use(*id)) {
             return Place::At(id.slot());
         }
         let mut at = self.first.get(&hash).copied().unwrap_or(NO_SLOT);
@@ -341,7 +339,8 @@ impl<K, V, E> Table<K, V, E> {
         self.slots[before as usize].next = next;
     }
 
-    /// Does what the core says came and went with a step of the slot's key, which brought this value; and the entry lives as the step says.
+    /// Does what the core says came and went with a step of the slot's key, which brought this value; and the entry lives as the step
+    /// says.
     pub(crate) fn follow(
         &mut self,
         at: usize,

@@ -1,10 +1,10 @@
 //! Who waits for whom: condition variables, wakers, and a register of waiting threads that finds a deadlock before it happens.
-use std::collections::HashMap;
+use std::collections::{BTreeMap, HashMap};
 use std::sync::atomic::{AtomicU64, Ordering::Relaxed};
 use std::sync::{Condvar, Mutex, MutexGuard, OnceLock};
 use std::task::Waker;
 
-/// Those who wait for one thing. All of it is guarded by the mutex of a stripe.
+/// Those who wait for one thing. Who sleeps, and who is woken, is guarded by the mutex of a stripe.
 #[derive(Default)]
 pub(crate) struct Waiters {
     condvar: Condvar,
@@ -14,8 +14,13 @@ pub(crate) struct Waiters {
 #[derive(Default)]
 struct State {
     sleepers: usize,
-    wakers: Vec<Waker>,
+    /// The first to wait is the first to be woken.
+    wakers: BTreeMap<u64, Waker>,
+    last: u64,
 }
+
+/// By which a future's waker is found again. None: it has none here.
+pub(crate) type Seat = Option<u64>;
 
 impl Waiters {
     fn state(&self) -> MutexGuard<'_, State> {
@@ -38,20 +43,24 @@ impl Waiters {
         self.state().sleepers
     }
 
-    /// Keeps a waker, unless it is kept already: then it is handed back, to be dropped with no lock held.
-    pub(crate) fn keep(&self, waker: Waker) -> Option<Waker> {
+    /// Keeps the waker of a future, instead of the one that it had, which is handed back, to be dropped with no lock held.
+    pub(crate) fn keep(&self, seat: &mut Seat, waker: Waker) -> Option<Waker> {
         let mut state = self.state();
-        if state.wakers.iter().any(|kept| kept.will_wake(&waker)) {
-            return Some(waker);
-        }
-        state.wakers.push(waker);
-        None
+        let number = seat.unwrap_or(state.last + 1);
+        state.last = state.last.max(number);
+        *seat = Some(number);
+        state.wakers.insert(number, waker)
+    }
+
+    /// Forgets the waker of a future that is gone, and hands it back, to be dropped with no lock held.
+    pub(crate) fn forget(&self, seat: Seat) -> Option<Waker> {
+        self.state().wakers.remove(&seat?)
     }
 
     /// Wakes all sleepers, and moves the wakers out: they are to be woken with no lock held. Says whether anyone slept.
     pub(crate) fn wake(&self, wakers: &mut Vec<Waker>) -> bool {
         let mut state = self.state();
-        wakers.append(&mut state.wakers);
+        wakers.extend(std::mem::take(&mut state.wakers).into_values());
         if state.sleepers == 0 {
             return false;
         }

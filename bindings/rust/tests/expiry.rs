@@ -5,7 +5,7 @@ use cadwrelch::{Cache, Op, Reply};
 use common::timed::{CASES, Call, Clock, Noting, Timed, a, new, seconds, timed, under};
 use common::{Mode, Store, Texts, text};
 use std::panic::{AssertUnwindSafe, catch_unwind};
-use std::sync::atomic::{AtomicUsize, Ordering::SeqCst};
+use std::sync::atomic::{AtomicU64, AtomicUsize, Ordering::SeqCst};
 use std::sync::{Arc, Weak};
 use std::time::Duration;
 
@@ -189,6 +189,28 @@ fn what_the_policy_does_not_change_stays_to_the_second() {
 }
 
 #[test]
+fn a_clock_at_its_end_ends_no_life_without_a_deadline() {
+    let builder = Cache::<String, String>::builder().clock(|| Duration::MAX);
+    let cache = builder.time_to_idle(Duration::MAX).build().unwrap();
+    cache.put(a(), new("1")).unwrap();
+    assert_eq!(cache.get("a").unwrap(), text("1"));
+    cache.put_for(a(), new("1"), Duration::ZERO).unwrap();
+    assert_eq!(cache.get("a").unwrap(), None);
+}
+
+#[test]
+fn a_deadline_that_stays_does_not_drift() {
+    let ticks = AtomicU64::new(0);
+    let clock = move || seconds(ticks.fetch_add(1, SeqCst));
+    let builder = Cache::builder().expiry(Noting::new(1000)).clock(clock);
+    let cache = builder.build().unwrap();
+    cache.put(a(), new("1")).unwrap();
+    // Each looks at the clock before it asks the policy, and after that.
+    let reads = (0..1000).take_while(|_| cache.get("a").unwrap().is_some());
+    assert!((490..510).contains(&reads.count()));
+}
+
+#[test]
 fn a_life_of_its_own_needs_no_times() {
     let clock = Clock::default();
     let cache: Cache<String, String> = Cache::builder().clock(clock.read()).build().unwrap();
@@ -235,6 +257,28 @@ fn a_life_of_its_own_replaces_that_of_the_cache() {
         !it.cache.contains_key("a").unwrap(),
         "but nobody has used it for 30"
     );
+}
+
+#[test]
+fn the_last_value_of_a_processor_counts_with_its_life() {
+    let clock = Clock::default();
+    let builder = Cache::<String, String>::builder().clock(clock.read());
+    let cache = builder.build().unwrap();
+    let lives = [Some(seconds(5)), None];
+    for (first, last) in [(0, 1), (1, 0)] {
+        let set = |entry: &mut cadwrelch::Entry<'_, _, _, _, _>, life| match life {
+            Some(life) => entry.set_for(new("1"), life),
+            None => entry.set(new("1")),
+        };
+        let processor = |entry: &mut cadwrelch::Entry<'_, _, _, _, _>| {
+            set(entry, lives[first]);
+            set(entry, lives[last]);
+            Ok(())
+        };
+        cache.invoke(a(), processor).unwrap();
+        clock.go(5);
+        assert_eq!(cache.contains_key("a").unwrap(), lives[last].is_none());
+    }
 }
 
 #[test]
@@ -285,6 +329,9 @@ fn what_has_expired_is_not_there_and_is_swept() {
     assert!(it.cache.is_empty().unwrap());
     assert_eq!(it.cache.stats().unwrap().removals, 0);
     it.cache.clear().unwrap();
+    assert_eq!(it.cache.expire(), 0, "a clear has swept it");
+    it.cache.put(a(), new("1")).unwrap();
+    it.clock.go(10);
     it.cache.close();
     assert_eq!(it.cache.expire(), 0);
 }

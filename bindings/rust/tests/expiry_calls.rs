@@ -2,7 +2,7 @@
 mod common;
 use cadwrelch::call::Begun;
 use cadwrelch::{Cache, Error, Expiry, Op};
-use common::timed::{CASES, Noting, a, new, seconds, timed, under};
+use common::timed::{CASES, Clock, Noting, a, new, seconds, timed, under};
 use common::{Outside, Store, Texts, text};
 use std::future::Future;
 use std::panic::{AssertUnwindSafe, catch_unwind};
@@ -188,6 +188,26 @@ fn phases_of_async_code() {
 }
 
 #[test]
+fn a_first_phase_brings_a_life_to_any_cache() {
+    let clock = Clock::default();
+    let cache = Cache::<String, String>::builder()
+        .clock(clock.read())
+        .build()
+        .unwrap();
+    for op in [
+        Op::Put(Arc::new(new("1"))),
+        Op::Replace(Arc::new(new("2"))),
+        Op::Get,
+    ] {
+        let begun = cache.begin_for(a(), &op, seconds(3)).unwrap();
+        assert!(matches!(begun, Begun::Done(_)));
+        clock.go(2);
+    }
+    assert!(!cache.contains_key("a").unwrap(), "a get brings none");
+    assert!(cache.agrees());
+}
+
+#[test]
 fn an_expired_entry_waits_for_room() {
     let it = timed(|builder| builder.stripes(1).history(16).time_to_live(seconds(10)));
     it.cache.put(a(), new("1")).unwrap();
@@ -214,6 +234,8 @@ fn an_expired_entry_waits_for_room() {
 struct Wild {
     cache: OnceLock<Weak<Cache<String, String, Outside, Outside>>>,
     panics: Mutex<bool>,
+    /// What its own calls were answered.
+    answers: Mutex<Vec<String>>,
 }
 
 impl Wild {
@@ -227,8 +249,8 @@ impl Wild {
             .and_then(Weak::upgrade)
             .filter(|_| key != "inner")
         {
-            cache.put("inner".to_string(), new("9")).unwrap();
-            cache.get("inner").unwrap();
+            let put = cache.put("inner".to_string(), new("9"));
+            self.answers.lock().unwrap().push(format!("{put:?}"));
         }
         Some(seconds(10))
     }
@@ -264,13 +286,110 @@ fn wild(has_writer: bool) -> (Arc<Wild>, Arc<Store>, Arc<Texts>) {
 fn a_policy_may_call_the_cache() {
     for has_writer in [true, false] {
         for (name, call, _, _) in CASES {
-            let (_policy, store, cache) = wild(has_writer);
+            let (policy, store, cache) = wild(has_writer);
             store.set("a", "s");
             call(&cache);
             call(&cache);
-            assert!(cache.agrees(), "{name}");
+            let answers = policy.answers.lock().unwrap();
+            assert!(answers.iter().all(|it| it == "Ok(())"), "{name}");
+            assert!(cache.agrees());
         }
     }
+}
+
+#[test]
+fn a_policy_that_would_wait_for_room_is_told() {
+    let (policy, store) = (Arc::new(Wild::default()), Arc::new(Store::default()));
+    let builder = Cache::builder()
+        .stripes(1)
+        .history(16)
+        .expiry(policy.clone());
+    let cache = Arc::new(builder.store(store).build().unwrap());
+    policy.cache.set(Arc::downgrade(&cache)).unwrap();
+    let begin = |i: usize| cache.begin(format!("key{i}"), &Op::Get).unwrap();
+    let mut tickets: Vec<_> = (0..8).map(begin).collect();
+    tickets.retain(|it| matches!(it, Begun::Load(_)));
+    let Some(Begun::Load(last)) = tickets.pop() else {
+        panic!("it loads")
+    };
+    last.ask().commit(Ok(Some(new("1")))).unwrap();
+    assert_eq!(*policy.answers.lock().unwrap(), ["Err(WouldDeadlock)"]);
+    drop(tickets);
+    assert!(cache.agrees());
+}
+
+#[test]
+fn a_policy_is_not_asked_for_a_value_that_can_not_come_in() {
+    let policy = Noting::new(10);
+    let it = timed(|builder| builder.expiry(policy.clone()).write_through(false));
+    it.cache.put(a(), new("1")).unwrap();
+    let processing = it.cache.begin(a(), &Op::Invoke).unwrap();
+    policy.take();
+    let put = Op::Put(Arc::new(new("2")));
+    assert!(matches!(it.cache.begin(a(), &put).unwrap(), Begun::Busy(_)));
+    assert!(matches!(
+        it.cache.begin(a(), &Op::Get).unwrap(),
+        Begun::Done(_)
+    ));
+    assert_eq!(policy.take(), "read 1 10");
+    drop(processing);
+    assert!(it.cache.agrees());
+}
+
+/// A policy that replaces the value of which it is asked, the first time.
+#[derive(Default)]
+struct Meddling {
+    cache: OnceLock<Weak<Cache<String, String>>>,
+    asked: Mutex<Vec<String>>,
+}
+
+impl Meddling {
+    fn run(&self, what: &str, key: &str, value: &str) -> Option<Duration> {
+        self.asked.lock().unwrap().push(format!("{what} {value}"));
+        if matches!((what, value), ("read", "1") | ("create", "2")) {
+            let cache = self.cache.get().and_then(Weak::upgrade).unwrap();
+            cache
+                .put_for(key.to_string(), new("9"), seconds(60))
+                .unwrap();
+        }
+        Some(seconds(u64::from(value == "9") * 60))
+    }
+}
+
+impl Expiry<String, String> for Meddling {
+    fn after_create(&self, key: &String, value: &String) -> Option<Duration> {
+        self.run("create", key, value)
+    }
+
+    fn after_update(&self, key: &String, value: &String, _: Option<Duration>) -> Option<Duration> {
+        self.run("update", key, value).map(|_| seconds(60))
+    }
+
+    fn after_read(&self, key: &String, value: &String, _: Option<Duration>) -> Option<Duration> {
+        self.run("read", key, value)
+    }
+}
+
+#[test]
+fn an_answer_counts_for_the_value_of_which_it_was_asked() {
+    let policy = Arc::new(Meddling::default());
+    let cache = Arc::new(Cache::builder().expiry(policy.clone()).build().unwrap());
+    policy.cache.set(Arc::downgrade(&cache)).unwrap();
+    cache.put_for(a(), new("1"), seconds(60)).unwrap();
+    assert_eq!(cache.get("a").unwrap(), text("9"));
+    assert_eq!(*policy.asked.lock().unwrap(), ["read 1", "read 9"]);
+    cache.remove("a").unwrap();
+    cache.put(a(), new("2")).unwrap();
+    assert_eq!(
+        cache.get("a").unwrap(),
+        text("2"),
+        "it was an update, and lives for 60"
+    );
+    assert_eq!(
+        policy.asked.lock().unwrap()[2..],
+        ["create 2", "update 2", "read 2"]
+    );
+    assert!(cache.agrees());
 }
 
 #[test]
@@ -278,27 +397,24 @@ fn a_policy_that_panics_leaves_no_key_reserved() {
     let (policy, store, cache) = wild(true);
     store.set("b", "s");
     *policy.panics.lock().unwrap() = true;
-    let b = || "b".to_string();
+    let of = |keys: [&str; 2]| keys.map(|key| (key.to_string(), new("2")));
     assert!(catch_unwind(AssertUnwindSafe(|| cache.put(a(), new("1")))).is_err());
     assert!(catch_unwind(AssertUnwindSafe(|| cache.get("b"))).is_err());
-    let both = [(a(), new("2")), (b(), new("2"))];
-    assert!(catch_unwind(AssertUnwindSafe(|| cache.put_all(both))).is_err());
-    assert!(catch_unwind(AssertUnwindSafe(|| cache.load_all([b(), a()], true))).is_err());
     assert!(
         catch_unwind(AssertUnwindSafe(|| cache.get("a"))).is_err(),
         "a read asks first"
     );
+    assert!(catch_unwind(AssertUnwindSafe(|| cache.put_all(of(["a", "c"])))).is_err());
+    assert_eq!(cache.len().unwrap(), 3, "what was written is cached");
+    let keys = ["d", "e"].map(str::to_string);
+    keys.iter().for_each(|key| store.set(key, "s"));
+    assert!(catch_unwind(AssertUnwindSafe(|| cache.load_all(keys, false))).is_err());
+    assert_eq!(cache.len().unwrap(), 5, "what was loaded is cached");
     *policy.panics.lock().unwrap() = false;
-    assert_eq!(
-        (store.get("a"), store.get("b")),
-        (Some(new("2")), Some(new("2")))
-    );
-    assert_eq!(
-        cache.get("a").unwrap(),
-        text("2"),
-        "what was written is cached"
-    );
-    assert_eq!(cache.get("b").unwrap(), text("2"));
+    for (key, value) in [("a", "2"), ("b", "s"), ("c", "2"), ("d", "s"), ("e", "s")] {
+        assert_eq!(cache.get(key).unwrap(), text(value));
+        assert_eq!(store.get(key).as_deref(), Some(value));
+    }
     assert!(cache.agrees());
     let (policy, _store, cache) = wild(false);
     *policy.panics.lock().unwrap() = true;

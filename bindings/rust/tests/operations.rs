@@ -1,8 +1,8 @@
 //! Each operation of one key: present and missing, and with a loader or a writer that fails or panics.
 mod common;
-use cadwrelch::{BuildError, Cache, Error};
+use cadwrelch::{BuildError, Cache, Error, Op};
 use common::{Broken, Mode, Texts, cache_of, text};
-use std::panic::{AssertUnwindSafe, catch_unwind};
+use std::panic::{AssertUnwindSafe, RefUnwindSafe, UnwindSafe, catch_unwind};
 use std::sync::atomic::Ordering::SeqCst;
 
 fn own(value: &str) -> String {
@@ -211,6 +211,20 @@ fn without_loader_and_writer_it_is_a_map() {
     cache.put(1, 2u32).unwrap();
     assert_eq!(cache.get(&1).unwrap().as_deref(), Some(&2));
     assert!(cache.remove(&1).unwrap());
+}
+
+/// What threads share, and what a panic may pass.
+#[test]
+fn a_cache_is_shared_by_threads_and_passed_by_panics() {
+    fn shared<T: Send + Sync + UnwindSafe + RefUnwindSafe>(_: &T) {}
+    fn sent<T: Send>(_: &T) {}
+    let (_store, cache) = cache_of(1, 8);
+    shared(&cache);
+    shared(&Cache::<u32, u32>::builder().build().unwrap());
+    shared(&cadwrelch::BytesCache::builder().build().unwrap());
+    for op in [Op::Get, Op::Invoke, Op::Remove] {
+        sent(&cache.begin(own("a"), &op).unwrap());
+    }
 }
 
 #[test]

@@ -118,6 +118,61 @@ fn a_mistake_panics_and_fails_its_call_alone() {
 }
 
 #[test]
+fn a_processor_that_goes_on_after_its_loaders_panic_has_failed() {
+    let (store, cache) = cache_of(1, 8);
+    *store.loading.lock().unwrap() = common::Mode::Panics;
+    let reply = cache.invoke("a".to_string(), |entry| {
+        assert!(catch_unwind(AssertUnwindSafe(|| entry.value())).is_err());
+        assert!(matches!(entry.value(), Err(Error::LoaderPanicked)));
+        entry.set("1".to_string());
+        entry.remove();
+        entry.set_for("2".to_string(), std::time::Duration::MAX);
+        Ok(())
+    });
+    assert!(matches!(reply, Err(Error::LoaderPanicked)));
+    let Begun::Process(ticket) = begin(&cache, &Op::Invoke) else {
+        panic!("it processes")
+    };
+    let mut processing = ticket.ask();
+    processing.start_load();
+    assert!(!processing.must_load());
+    processing.set("1".to_string());
+    assert_eq!(processing.change(), None);
+    assert!(matches!(
+        processing.commit(None),
+        Err(Error::LoaderPanicked)
+    ));
+    assert_eq!(
+        (store.loads.load(SeqCst), store.writes.load(SeqCst)),
+        (1, 0)
+    );
+    assert!(!cache.contains_key("a").unwrap());
+    assert!(cache.agrees());
+}
+
+#[test]
+fn joins_that_are_dropped_hold_no_other_key() {
+    let outside = common::Outside::default();
+    let builder = Cache::builder().stripes(1).capacity(8);
+    let cache: Texts = builder
+        .loader(outside.clone())
+        .writer(outside)
+        .build()
+        .unwrap();
+    let Begun::Load(slow) = begin(&cache, &Op::Get) else {
+        panic!("it loads")
+    };
+    for _ in 0..64 {
+        assert!(matches!(begin(&cache, &Op::Get), Begun::Joined(_)));
+    }
+    for i in 0..63 {
+        cache.put(format!("key{i}"), "1".to_string()).unwrap();
+    }
+    drop(slow);
+    assert!(cache.agrees());
+}
+
+#[test]
 fn a_joiner_of_a_withdrawn_load_begins_anew() {
     let (_store, cache) = cache_of(1, 8);
     let Begun::Load(ticket) = begin(&cache, &Op::Get) else {
@@ -175,11 +230,38 @@ fn futures_are_woken_when_the_key_is_free() {
         assert!(busy.as_mut().poll(&mut context).is_pending());
     }
     asked.commit(Ok(Some("1".to_string()))).unwrap();
-    assert_eq!(counted.0.load(SeqCst), 1);
+    assert_eq!(counted.0.load(SeqCst), 2);
     assert!(busy.as_mut().poll(&mut context).is_ready());
     match join.as_mut().poll(&mut context) {
         Poll::Ready(Ok(Some(Reply::Value(value)))) => assert_eq!(value, text("1")),
         _ => panic!("it has its answer"),
+    }
+}
+
+#[test]
+fn a_future_that_is_dropped_leaves_no_waker() {
+    let (_store, cache) = cache_of(1, 8);
+    let Begun::Load(_ticket) = begin(&cache, &Op::Get) else {
+        panic!("it loads")
+    };
+    let counted = Arc::new(Counted::default());
+    let waker = Waker::from(counted.clone());
+    let mut context = Context::from_waker(&waker);
+    for _ in 0..3 {
+        let Begun::Joined(join) = begin(&cache, &Op::Get) else {
+            panic!("it joins")
+        };
+        let Begun::Busy(busy) = begin(&cache, &Op::Remove) else {
+            panic!("it is busy")
+        };
+        let (mut join, mut busy) = (Box::pin(join), Box::pin(busy));
+        for _ in 0..2 {
+            assert!(join.as_mut().poll(&mut context).is_pending());
+            assert!(busy.as_mut().poll(&mut context).is_pending());
+        }
+        assert_eq!(Arc::strong_count(&counted), 4);
+        drop((join, busy));
+        assert_eq!(Arc::strong_count(&counted), 2);
     }
 }
 

@@ -1,12 +1,13 @@
 //! Calls on threads: joined loads, waiting, deadlocks, and a long run over a store that fails.
 mod common;
-use cadwrelch::{BytesCache, Cache, Error, Loader, Writer};
+use cadwrelch::{Builder, BytesCache, Cache, Error, Loader, Writer};
 use common::{Broken, Store};
 use std::collections::HashMap;
-use std::sync::atomic::{AtomicUsize, Ordering::SeqCst};
+use std::sync::atomic::{AtomicBool, AtomicU64, AtomicUsize, Ordering::SeqCst};
 use std::sync::mpsc::{Receiver, Sender, channel};
 use std::sync::{Arc, Barrier, Mutex};
 use std::thread::{self, scope, yield_now};
+use std::time::Duration;
 
 /// A loader that says when it is asked, and answers when it is told to.
 struct Gated {
@@ -55,8 +56,8 @@ fn gate() -> Gate {
     }
 }
 
-/// Until so many calls sleep. By then they have joined what they joined.
-fn wait_for_sleepers(cache: &Cache<String, u32, Gated>, count: usize) {
+/// Until so many calls wait: by then they have joined what they joined.
+fn wait_until_waiting(cache: &Cache<String, u32, Gated>, count: usize) {
     while cache.waiting() < count {
         yield_now();
     }
@@ -70,7 +71,7 @@ fn joined(answer: impl FnOnce(&mut Option<Sender<Result<u32, Broken>>>)) -> Vec<
         let first = threads.spawn(|| cache.get("a"));
         gate.asked.recv().unwrap();
         let others: Vec<_> = (0..7).map(|_| threads.spawn(|| cache.get("a"))).collect();
-        wait_for_sleepers(cache, 7);
+        wait_until_waiting(cache, 7);
         answer(&mut gate.answers);
         let said = |it: thread::Result<Result<Option<Arc<u32>>, _>>| match it {
             Ok(reply) => format!("{reply:?}"),
@@ -130,7 +131,7 @@ fn a_slow_loader_holds_up_its_own_key_alone() {
         cache.put("b".into(), 1u32).unwrap();
         assert_eq!(cache.get("b").unwrap().as_deref(), Some(&1));
         let waits = threads.spawn(|| cache.put("a".into(), 2u32));
-        wait_for_sleepers(cache, 1);
+        wait_until_waiting(cache, 1);
         assert!(!waits.is_finished());
         gate.answers.as_ref().unwrap().send(Ok(7)).unwrap();
         assert_eq!(slow.join().unwrap().unwrap().as_deref(), Some(&7));
@@ -147,7 +148,7 @@ fn a_close_wakes_who_waits_to_begin() {
         let slow = threads.spawn(|| cache.get("a"));
         gate.asked.recv().unwrap();
         let waits = threads.spawn(|| cache.put("a".into(), 2u32));
-        wait_for_sleepers(cache, 1);
+        wait_until_waiting(cache, 1);
         cache.close();
         assert!(matches!(waits.join().unwrap(), Err(Error::Closed)));
         gate.answers.as_ref().unwrap().send(Ok(7)).unwrap();
@@ -283,10 +284,11 @@ fn calls_of_one_thread() -> usize {
         .unwrap_or(5_000)
 }
 
-fn one_call(cache: &Cache<String, String, Shaky, Shaky>, state: &mut u64) {
+/// One of so many kinds of calls: of 16 none brings a value with a life of its own.
+fn one_call(cache: &Cache<String, String, Shaky, Shaky>, state: &mut u64, kinds: u64) {
     let key = format!("key{}", random(state) % 96);
     let value = "v".repeat(random(state) as usize % 600);
-    let _ = match random(state) % 16 {
+    let _ = match random(state) % kinds {
         0..8 => cache.get(&key).map(drop),
         8 => cache.put(key, value),
         9 => cache.remove(&key).map(drop),
@@ -307,45 +309,70 @@ fn one_call(cache: &Cache<String, String, Shaky, Shaky>, state: &mut u64) {
             let keys = (0..5).map(|i| (format!("key{}", (random(state) + i) % 96), value.clone()));
             return drop(cache.put_all(keys.collect::<Vec<_>>()));
         }
-        _ => cache.put_if_absent(key, value).map(drop),
+        15 => cache.put_if_absent(key, value).map(drop),
+        16 => cache.put_for(key, value, LIFE),
+        17 => cache.replace_for(key, value, LIFE).map(drop),
+        _ => {
+            cache.expire();
+            Ok(())
+        }
     };
 }
 
+/// So long some values live in a long run: so many reads of its clock, of which each says a nanosecond more.
+const LIFE: Duration = Duration::from_nanos(50);
+
 #[test]
 fn after_a_long_run_cached_is_stored() {
-    long_run(4, 16, 64);
+    long_run([4, 16, 64], 16, |builder| builder);
 }
 
 #[test]
 fn after_a_long_run_in_little_room_cached_is_stored() {
-    long_run(1, 2, 16);
+    long_run([1, 2, 16], 16, |builder| builder);
 }
 
-fn long_run(stripes: usize, capacity: usize, history: usize) {
+#[test]
+fn after_a_long_run_of_short_lives_cached_is_stored() {
+    long_run([2, 64, 64], 19, |builder| {
+        builder.time_to_live(16 * LIFE).time_to_idle(8 * LIFE)
+    });
+}
+
+type Built = Builder<String, String, Shaky, Shaky>;
+
+fn long_run([stripes, capacity, history]: [usize; 3], kinds: u64, times: fn(Built) -> Built) {
     let outside = Shaky::default();
     let store = outside.0.clone();
-    let cache = Cache::builder()
+    let (clock, goes) = (AtomicU64::new(0), Arc::new(AtomicBool::new(true)));
+    let is_going = goes.clone();
+    let builder = Cache::builder()
         .stripes(stripes)
         .capacity(capacity)
         .history(history)
+        .clock(move || {
+            let step = u64::from(is_going.load(SeqCst));
+            Duration::from_nanos(clock.fetch_add(step, SeqCst))
+        })
         .loader(outside.clone())
-        .writer(outside)
-        .build()
-        .unwrap();
+        .writer(outside);
+    let cache = times(builder).build().unwrap();
     scope(|threads| {
         for me in 0..8u64 {
             let cache = &cache;
             threads.spawn(move || {
                 let mut state = me * 7919 + 1;
                 for _ in 0..calls_of_one_thread() {
-                    one_call(cache, &mut state);
+                    one_call(cache, &mut state, kinds);
                 }
             });
         }
     });
+    goes.store(false, SeqCst);
     assert!(cache.agrees());
     let cached = cache.keys().unwrap();
     assert!(!cached.is_empty() && cached.len() <= stripes * capacity);
+    assert_eq!(cached.len(), cache.len().unwrap());
     for key in cached {
         assert!(cache.contains_key(&*key).unwrap());
         assert_eq!(

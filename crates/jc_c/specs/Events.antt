@@ -4,6 +4,15 @@
 --     read_outside       the outside answers of a step
 --     shared_in          the place of the step whose load is shared, if it is
 --     ShowsEvent         an event, by the fields of a struct that count for it
+--     KeepsBesideValues  beside these values of an operation, the bytes behind those that were written stay, and all of the rooms
+--                        that it has no value for
+--     KeepsBesideLoad    the same for the answer of a loader; its code stays unless it failed
+--     KeepsBesideWrite   the code of a writer stays unless it failed
+--     KeepsBesideEffect  the same for the effect of a processor
+--     KeepsBesideProcess the same for the answer of a processor
+--     KeepsBesideOutside the same for the outside answers
+--     KeepsBesideShared  the place of the step whose load is shared stays if none is
+--     KeepsBesideEvent   the same for an event: of an eviction only its key and its cause are written, of a step no cause
 --     HasKnownNumbers    the numbers of a step's operation and of its outside answers are known
 --     HasOutsideLengths  the lengths of the values of the outside answers fit
 --     HasLengths         the lengths of all values of an event fit
@@ -13,10 +22,16 @@
 --     outside_fits       the fields of the outside answers of a step fit
 --     step_fits          the fields of a step fit
 --     event_fits         the fields of an event fit
-use Rattle.std.specs.Prelude.{◌≡◌, ◌==◌, ◌&&◌, ◌||◌, ℕ, Bool, true, false, nat_le, Option, None, Some, if◌then◌else◌}
+use Rattle.std.specs.Prelude.{◌≡◌, ◌==◌, ◌&&◌, ◌||◌, ℕ, List, [], ◌∷◌, Bool, true, false, nat_le, Option, None, Some, if◌then◌else◌}
 use Rattle.jc_types.specs.declared.refusal.Refusal.TheVariants as refusal
 use Rattle.jc_model.specs.declared.event.Cause.{Cause}
 use Rattle.jc_model.specs.declared.event.Cause.TheVariants as cause
+use Rattle.jc_model.specs.declared.event.Effect.{Effect}
+use Rattle.jc_model.specs.declared.event.Effect.TheVariants as effect
+use Rattle.jc_model.specs.declared.event.LoadAnswer.{LoadAnswer}
+use Rattle.jc_model.specs.declared.event.LoadAnswer.TheVariants as load
+use Rattle.jc_model.specs.declared.event.WriteAnswer.{WriteAnswer}
+use Rattle.jc_model.specs.declared.event.WriteAnswer.TheVariants as write
 use Rattle.jc_model.specs.declared.event.Out.{Out}
 use Rattle.jc_model.specs.declared.event.ProcessAnswer.{ProcessAnswer}
 use Rattle.jc_model.specs.declared.event.ProcessAnswer.TheVariants as process
@@ -25,12 +40,14 @@ use Rattle.jc_model.specs.declared.event.Reply.TheVariants as reply
 use Rattle.jc_model.specs.declared.event.Event.{Event}
 use Rattle.jc_model.specs.declared.event.Event.TheVariants.{Step, Evict}
 use Rattle.jc_model.specs.Cache.{Bytes}
+use Rattle.jc_model.specs.Table.{op_values}
 use Rattle.jc_c.specs.declared.codes.TheConstants.{JC_EVICTION, JC_FOR_MEMORY, JC_FOR_ROOM, JC_LOADER_FAILED, JC_NO, JC_NOT_ASKED, JC_NOT_RUN, JC_NULL, JC_PROCESSOR_FAILED, JC_STEP, JC_UNIT, JC_VALUE, JC_WRITER_FAILED, JC_YES}
 use Rattle.jc_c.specs.declared.layouts.FlatEvent.{FlatEvent}
 use Rattle.jc_c.specs.declared.layouts.ProcessorAnswers.{ProcessorAnswers}
-use Rattle.jc_c.specs.Layouts.{inline_value, inline_key, is_inline_value, is_inline_key, HoldsKey}
+use Rattle.jc_c.specs.declared.layouts.InlineValue.{InlineValue}
+use Rattle.jc_c.specs.Layouts.{inline_value, inline_key, is_inline_value, is_inline_key, HoldsKey, StaysBehindValue, StaysBehindKey}
 use Rattle.jc_c.specs.Requests.{op_of_number, op_number_fits, load_number_fits, write_number_fits, effect_number_fits, op_fits, answers_beside, read_process, process_fits, others_fit}
-use Rattle.jc_c.specs.Replies.{ShowsReply}
+use Rattle.jc_c.specs.Replies.{ShowsReply, KeepsBesideValue, KeepsBesideReply}
 
 -- 1. An event that is written.
 
@@ -62,6 +79,54 @@ ShowsEvent (Step caller op key out shared reply) f =
     (f.kind ≡ JC_STEP) × (f.session ≡ caller.session) × (f.call ≡ caller.call) × (op_of_number f.op (inline_value f.value) (inline_value f.other) ≡ op)
     × HoldsKey f.key key × (read_outside f.outside ≡ out) × (shared_in f ≡ shared) × ShowsReply reply f.reply f.reply_code f.replied × HasKnownNumbers f
 ShowsEvent (Evict key cause) f = (f.kind ≡ JC_EVICTION) × HoldsKey f.key key × (read_cause f.cause ≡ cause) × (nat_le f.cause JC_FOR_MEMORY ≡ true)
+
+abbrev pub KeepsBesideValues : List Bytes → InlineValue → InlineValue → InlineValue → InlineValue → Type 0
+KeepsBesideValues [] old new old_other other = (new ≡ old) × (other ≡ old_other)
+KeepsBesideValues (value ∷ []) old new old_other other = StaysBehindValue old new × (other ≡ old_other)
+KeepsBesideValues (first ∷ second ∷ more) old new old_other other =
+    StaysBehindValue old new × StaysBehindValue old_other other
+
+abbrev pub KeepsBesideLoad : LoadAnswer → ℕ → ℕ → InlineValue → InlineValue → Type 0
+KeepsBesideLoad load.NotAsked old_code code old new = (code ≡ old_code) × (new ≡ old)
+KeepsBesideLoad (load.Found value) old_code code old new = (code ≡ old_code) × StaysBehindValue old new
+KeepsBesideLoad load.Nothing old_code code old new = (code ≡ old_code) × (new ≡ old)
+KeepsBesideLoad (load.Failed failed) old_code code old new = new ≡ old
+
+abbrev pub KeepsBesideWrite : WriteAnswer → ℕ → ℕ → Type 0
+KeepsBesideWrite write.NotAsked old_code code = code ≡ old_code
+KeepsBesideWrite write.Done old_code code = code ≡ old_code
+KeepsBesideWrite (write.Failed failed) old_code code = Unit {0}
+
+abbrev pub KeepsBesideEffect : Effect → InlineValue → InlineValue → Type 0
+KeepsBesideEffect effect.Keep old new = new ≡ old
+KeepsBesideEffect (effect.Set value) old new = StaysBehindValue old new
+KeepsBesideEffect effect.Remove old new = new ≡ old
+
+abbrev pub KeepsBesideProcess : ProcessAnswer → ProcessorAnswers → ProcessorAnswers → Type 0
+KeepsBesideProcess process.NotAsked old new =
+    (new.code ≡ old.code) × (new.has_outcome ≡ old.has_outcome) × (new.set ≡ old.set) × (new.outcome ≡ old.outcome)
+KeepsBesideProcess (process.Ended effect outcome) old new =
+    (new.code ≡ old.code) × KeepsBesideEffect effect old.set new.set × KeepsBesideValue outcome old.outcome new.outcome
+KeepsBesideProcess (process.Failed failed) old new =
+    (new.has_outcome ≡ old.has_outcome) × (new.set ≡ old.set) × (new.outcome ≡ old.outcome)
+
+pub record KeepsBesideOutside (out : Out) (old new : ProcessorAnswers) : Type 0 where
+  pub load_stays : KeepsBesideLoad out.load old.load_code new.load_code old.loaded new.loaded
+  pub write_stays : KeepsBesideWrite out.write old.write_code new.write_code
+  pub process_stays : KeepsBesideProcess out.process old new
+
+abbrev pub KeepsBesideShared : Option ℕ → ℕ → ℕ → Type 0
+KeepsBesideShared None old new = new ≡ old
+KeepsBesideShared (Some step) old new = Unit {0}
+
+abbrev pub KeepsBesideEvent : Event → FlatEvent → FlatEvent → Type 0
+KeepsBesideEvent (Step caller op key out shared reply) old new =
+    (new.cause ≡ old.cause) × StaysBehindKey old.key new.key
+    × KeepsBesideValues (op_values op) old.value new.value old.other new.other
+    × KeepsBesideOutside out old.outside new.outside × KeepsBesideShared shared old.shared_with new.shared_with
+    × KeepsBesideReply reply old.reply_code new.reply_code old.replied new.replied
+KeepsBesideEvent (Evict key cause) old new =
+    StaysBehindKey old.key new.key × (new ≡ record old { kind = new.kind; key = new.key; cause = new.cause })
 
 -- 2. An event that is read.
 

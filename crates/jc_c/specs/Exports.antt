@@ -28,42 +28,47 @@ use Rattle.jc_c.specs.declared.layouts.CacheShape.{CacheShape}
 use Rattle.jc_c.specs.declared.layouts.InlineEntry.{InlineEntry}
 use Rattle.jc_c.specs.declared.layouts.InlineValue.{InlineValue}
 use Rattle.jc_c.specs.declared.layouts.CountsOut.{CountsOut}
-use Rattle.jc_c.specs.Layouts.{inline_value, is_inline_value, inline_entry, inline_entries, config_of}
+use Rattle.jc_c.specs.Layouts.{inline_value, is_inline_value, StaysBehindValue, inline_entry, inline_entries, config_of}
 use Rattle.jc_c.specs.Requests.{op_of_number, entry_fits}
-use Rattle.jc_c.specs.Replies.{ShowsFirstAnswer, ShowsDone, ShowsPickUp}
+use Rattle.jc_c.specs.Replies.{ShowsFirstAnswer, ShowsDone, ShowsPickUp, KeepsBesideAnswer, KeepsBesideDone, KeepsBesidePickUp}
 
 abbrev pub export_code : Bool → Bool → Bool → ℕ → ℕ
 export_code is_open fits takes other = if is_open then (if fits then (if takes then JC_OK else other) else JC_BAD_ARGUMENT) else JC_WRONG_HANDLE
 
 -- 1. Phases.
 
-pub record BeginsForC (old : DeskState) (session number : ℕ) (key value other : Bytes) (out : PhaseOut) (new : DeskState) : Type 0 where
+pub record BeginsForC (old : DeskState) (session number : ℕ) (key value other : Bytes) (before out : PhaseOut) (new : DeskState) : Type 0 where
   pub reply : Reply
   pub moves : MovesMade
   pub answer : FirstAnswer
   pub begins : BeginsAtDesk old session out.call key (op_of_number number value other) reply moves answer new
   pub shown : ShowsFirstAnswer answer (newest new.stripe) reply moves out
+  pub others_stay : KeepsBesideAnswer answer (newest new.stripe) reply moves (record before { call = out.call }) out
 
-pub record HitsForC (old : DeskState) (session : ℕ) (key : Bytes) (out : InlineValue) (new : DeskState) : Type 0 where
+pub record HitsForC (old : DeskState) (session : ℕ) (key : Bytes) (before out : InlineValue) (new : DeskState) : Type 0 where
   pub call : ℕ
   pub hits : HitsAtDesk old session key (inline_value out) call new
   pub fits : is_inline_value out ≡ true
+  pub behind : StaysBehindValue before out
 
-pub record CommitsForC (old : DeskState) (number : ℕ) (answers : Out) (out : PhaseOut) (new : DeskState) : Type 0 where
+pub record CommitsForC (old : DeskState) (number : ℕ) (answers : Out) (before out : PhaseOut) (new : DeskState) : Type 0 where
   pub reply : Reply
   pub moves : MovesMade
   pub commit : CommitDone
   pub commits : CommitsAtDesk old number answers reply moves commit new
   pub shown : ShowsDone commit.place commit.shared reply moves out
+  pub others_stay : KeepsBesideDone reply moves before out
+  pub call_stays : out.call ≡ before.call
 
 abbrev pub join_named : ℕ → ℕ → Bytes → ℕ → JoinClaim
 join_named session call key load = record { caller = record { session = session; call = call }; key = key; load = load }
 
-pub record PicksUpForC (old : DeskState) (join : JoinClaim) (out : PhaseOut) (new : DeskState) : Type 0 where
+pub record PicksUpForC (old : DeskState) (join : JoinClaim) (before out : PhaseOut) (new : DeskState) : Type 0 where
   pub reply : Reply
   pub answer : PickUpAnswer
   pub picks_up : PicksUpAtDesk old join reply answer new
   pub shown : ShowsPickUp answer reply out
+  pub others_stay : KeepsBesidePickUp answer reply before out
 
 -- 2. The contents of a desk.
 

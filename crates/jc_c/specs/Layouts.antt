@@ -5,10 +5,12 @@
 --     is_inline_key      at least one byte counts, and at most as many as a key may have
 --     HoldsValue         an inline value holds these bytes, and no more bytes count than it has
 --     HoldsKey           the same for an inline key
+--     StaysBehindValue   the bytes behind those that count of an inline value are as they were
+--     StaysBehindKey     the same for an inline key
 --     inline_entry       an inline entry
 --     inline_entries     inline entries, in their order
 --     config_of          the shape of a cache
-use Rattle.std.specs.Prelude.{◌≡◌, ◌&&◌, true, List, map, take, Bool, nat_le, nat_lt}
+use Rattle.std.specs.Prelude.{◌≡◌, ◌&&◌, true, List, map, take, drop, Bool, nat_le, nat_lt}
 use Rattle.jc_types.specs.declared.config.Config.{Config}
 use Rattle.jc_types.specs.declared.limits.TheConstants.{KEY_MAX, VALUE_MAX}
 use Rattle.jc_model.specs.Cache.{Bytes}
@@ -34,6 +36,12 @@ HoldsValue r value = (inline_value r ≡ value) × (is_inline_value r ≡ true)
 
 abbrev pub HoldsKey : InlineKey → Bytes → Type 0
 HoldsKey r key = (inline_key r ≡ key) × (is_inline_key r ≡ true)
+
+abbrev pub StaysBehindValue : InlineValue → InlineValue → Type 0
+StaysBehindValue old new = drop new.len new.bytes ≡ drop new.len old.bytes
+
+abbrev pub StaysBehindKey : InlineKey → InlineKey → Type 0
+StaysBehindKey old new = drop new.len new.bytes ≡ drop new.len old.bytes
 
 abbrev pub inline_entry : InlineEntry → Bytes × Bytes
 inline_entry e = (inline_key e.key, inline_value e.value)

@@ -11,6 +11,15 @@
 --     ShowsReservation    the partner that a reservation asks first, if there is a reservation
 --     ShowsFirstAnswer    the outcome of a first phase; if it reserved its key, the partner that the reservation asks
 --     ShowsPickUp         the answer to a joiner: no value came or went
+--     KeepsBesideValue    if a value was written, the bytes behind it stay; if none was, all of the room stays
+--     KeepsBesideVictim   the same for a victim and the value that it had
+--     KeepsBesideReply    the same for the value of a reply; the code stays, but with a fault
+--     KeepsBesideDone     beside a step that was done, only its place, its reply, its moves and the number of calls that share it
+--                         are written
+--     KeepsBesideFirst    beside a partner to ask, only what is asked for is written
+--     KeepsBesideReservation    the same for the newest reservation, if there is one
+--     KeepsBesideAnswer   the same for the outcome of a first phase, beside the call's number
+--     KeepsBesidePickUp   the same for the answer of a pick-up
 use Rattle.std.specs.Prelude.{◌≡◌, ◌+◌, ℕ, true, false, Option, None, Some, is_some, if◌then◌else◌}
 use Rattle.jc_types.specs.declared.refusal.Refusal.{Refusal}
 use Rattle.jc_types.specs.declared.refusal.Refusal.TheVariants as refusal
@@ -32,7 +41,7 @@ use Rattle.jc_c.specs.declared.codes.TheConstants.{JC_AGAIN, JC_ASK_LOADER, JC_B
 use Rattle.jc_c.specs.declared.layouts.InlineValue.{InlineValue}
 use Rattle.jc_c.specs.declared.layouts.InlineKey.{InlineKey}
 use Rattle.jc_c.specs.declared.layouts.PhaseOut.{PhaseOut}
-use Rattle.jc_c.specs.Layouts.{HoldsValue, HoldsKey}
+use Rattle.jc_c.specs.Layouts.{HoldsValue, HoldsKey, StaysBehindValue, StaysBehindKey}
 
 abbrev pub ShowsFault : Refusal → ℕ → ℕ → Type 0
 ShowsFault (refusal.LoaderFailed code) number shown = (number ≡ JC_LOADER_FAILED) × (shown ≡ code)
@@ -126,3 +135,67 @@ ShowsPickUp (pick_up_answer.Answer place shared_with) reply out = (out.next ≡ 
 ShowsPickUp pick_up_answer.Again reply out = (out.next ≡ JC_AGAIN) × (out.moves ≡ 0)
 ShowsPickUp pick_up_answer.NotYet reply out = (out.next ≡ JC_NOT_YET) × (out.moves ≡ 0)
 ShowsPickUp pick_up_answer.Misuse reply out = ⊥
+
+-- What stays.
+
+abbrev pub KeepsBesideValue : Option Bytes → InlineValue → InlineValue → Type 0
+KeepsBesideValue None old new = new ≡ old
+KeepsBesideValue (Some value) old new = StaysBehindValue old new
+
+abbrev pub KeepsBesideVictim : Option (Bytes × Bytes) → InlineKey → InlineKey → InlineValue → InlineValue → Type 0
+KeepsBesideVictim None old_victim new_victim old new = (new_victim ≡ old_victim) × (new ≡ old)
+KeepsBesideVictim (Some gone) old_victim new_victim old new = StaysBehindKey old_victim new_victim × StaysBehindValue old new
+
+abbrev pub KeepsBesideReply : Reply → ℕ → ℕ → InlineValue → InlineValue → Type 0
+KeepsBesideReply reply.Unit old_code code old new = (code ≡ old_code) × (new ≡ old)
+KeepsBesideReply (reply.Flag flag) old_code code old new = (code ≡ old_code) × (new ≡ old)
+KeepsBesideReply (reply.Value value) old_code code old new = (code ≡ old_code) × KeepsBesideValue value old new
+KeepsBesideReply (reply.Fault fault) old_code code old new = new ≡ old
+
+pub record KeepsBesideDone (reply : Reply) (moves : MovesMade) (old new : PhaseOut) : Type 0 where
+  pub number_stays : new.number ≡ old.number
+  pub reply_stays : KeepsBesideReply reply old.code new.code old.value new.value
+  pub left_stays : KeepsBesideValue moves.left old.left new.left
+  pub victim_stays : KeepsBesideVictim moves.victim old.victim new.victim old.evicted new.evicted
+
+abbrev pub KeepsBesideFirst : First → ℕ → ℕ → ℕ → ℕ → InlineValue → InlineValue → Type 0
+KeepsBesideFirst first.Nobody old_number number old_code code old new =
+    (number ≡ old_number) × (code ≡ old_code) × (new ≡ old)
+KeepsBesideFirst first.Loader old_number number old_code code old new =
+    (number ≡ old_number) × (code ≡ old_code) × (new ≡ old)
+KeepsBesideFirst (first.Writer (change.Write v)) old_number number old_code code old new =
+    (number ≡ old_number) × (code ≡ old_code) × StaysBehindValue old new
+KeepsBesideFirst (first.Writer change.Delete) old_number number old_code code old new =
+    (number ≡ old_number) × (code ≡ old_code) × (new ≡ old)
+KeepsBesideFirst (first.Processor entry may_load) old_number number old_code code old new = KeepsBesideValue entry old new
+
+abbrev pub KeepsBesideReservation : Option Reservation → PhaseOut → PhaseOut → Type 0
+KeepsBesideReservation None old new = Unit {0}
+KeepsBesideReservation (Some r) old new = KeepsBesideFirst r.first old.reply new.reply old.code new.code old.value new.value
+
+abbrev pub KeepsBesideAnswer : FirstAnswer → Option Reservation → Reply → MovesMade → PhaseOut → PhaseOut → Type 0
+KeepsBesideAnswer (first_answer.Done place) newest reply moves old new = KeepsBesideDone reply moves old new
+KeepsBesideAnswer (first_answer.Asks number) newest reply moves old new =
+    KeepsBesideReservation newest old new × (new.place ≡ old.place) × (new.shared ≡ old.shared)
+    × (new.left ≡ old.left) × (new.victim ≡ old.victim) × (new.evicted ≡ old.evicted)
+KeepsBesideAnswer (first_answer.Joined load) newest reply moves old new =
+    new ≡ record old { next = new.next; number = new.number; moves = new.moves }
+KeepsBesideAnswer (first_answer.Refused refusal) newest reply moves old new =
+    new ≡ record old { next = new.next; reply = new.reply; moves = new.moves }
+KeepsBesideAnswer first_answer.Full newest reply moves old new = new ≡ record old { next = new.next; moves = new.moves }
+KeepsBesideAnswer first_answer.Misuse newest reply moves old new = Unit {0}
+
+abbrev pub KeepsBesidePickUp : PickUpAnswer → Reply → PhaseOut → PhaseOut → Type 0
+KeepsBesidePickUp (pick_up_answer.Answer place shared_with) reply old new =
+    KeepsBesideReply reply old.code new.code old.value new.value
+    × (new ≡ record old {
+      next = new.next;
+      reply = new.reply;
+      code = new.code;
+      place = new.place;
+      moves = new.moves;
+      value = new.value;
+    })
+KeepsBesidePickUp pick_up_answer.Again reply old new = new ≡ record old { next = new.next; moves = new.moves }
+KeepsBesidePickUp pick_up_answer.NotYet reply old new = new ≡ record old { next = new.next; moves = new.moves }
+KeepsBesidePickUp pick_up_answer.Misuse reply old new = Unit {0}

@@ -5,10 +5,13 @@ ghost use Rattle.jc_model.specs.Cache.{Bytes};
 ghost use Rattle.jc_model.specs.declared.event.Event.{Event};
 ghost use Rattle.jc_model.specs.declared.event.ProcessAnswer.TheVariants.{Ended};
 ghost use Rattle.jc_model.specs.Legal.{Legal};
+ghost use Rattle.jc_model.specs.Table.{op_values};
 ghost use Rattle.jc_c.specs.declared.codes.TheConstants.{JC_OK, JC_NONE, JC_NO_MEMORY, JC_BAD_ARGUMENT, JC_NOT_ASKED, JC_NOT_RUN, JC_FOR_MEMORY, JC_PROCESSOR_FAILED};
-ghost use Rattle.jc_c.specs.Layouts.{inline_value, is_inline_value, inline_entries, config_of};
+ghost use Rattle.jc_c.specs.Layouts.{inline_value, is_inline_value, StaysBehindValue, inline_entries, config_of};
 ghost use Rattle.jc_c.specs.Requests.{op_of_number, op_number_fits, load_number_fits, write_number_fits, effect_number_fits, load_of_number, write_of_number, process_answer_of, read_outcome, entry_fits};
 ghost use Rattle.jc_c.specs.Events.{read_cause, process_if_run, read_outside, shared_in, read_reply, step_fits, read_step, outside_fits, event_fits, read_event, HasOutsideLengths, HasLengths, ShowsEvent};
+ghost use Rattle.jc_c.specs.Replies.{KeepsBesideValue};
+ghost use Rattle.jc_c.specs.Events.{KeepsBesideValues, KeepsBesideLoad, KeepsBesideWrite, KeepsBesideEffect, KeepsBesideProcess, KeepsBesideOutside, KeepsBesideShared, KeepsBesideEvent};
 ghost use Rattle.jc_c.specs.Exports.{export_code};
 
 use crate::codes::{
@@ -35,6 +38,7 @@ fn show_op(op: &Op, number: &mut u32, value: &mut InlineValue, other: &mut Inlin
     ensures number { op_number_fits number.new ≡ true }
     ensures value { is_inline_value value.old ≡ true → is_inline_value value.new ≡ true }
     ensures other { is_inline_value other.old ≡ true → is_inline_value other.new ≡ true }
+    ensures others { KeepsBesideValues (op_values op.now) value.old value.new other.old other.new }
 {
     *number = u32::from(op.number());
     match op.values() {
@@ -52,6 +56,7 @@ fn show_with(value: &Value, is: u32, number: &mut u32, room: &mut InlineValue)
     ensures number { number.new ≡ is }
     ensures value { inline_value room.new ≡ value.now }
     ensures fits { is_inline_value room.new ≡ true }
+    ensures behind { StaysBehindValue room.old room.new }
 {
     *number = is;
     show_value(value, room);
@@ -62,6 +67,7 @@ fn show_load(load: &LoadAnswer, number: &mut u32, code: &mut u32, room: &mut Inl
     ensures load { load_of_number number.new code.new (inline_value room.new) ≡ load.now }
     ensures number { ((number.new == JC_NOT_ASKED) || load_number_fits number.new) ≡ true }
     ensures fits { is_inline_value room.old ≡ true → is_inline_value room.new ≡ true }
+    ensures others { KeepsBesideLoad load.now code.old code.new room.old room.new }
 {
     match load {
         LoadAnswer::NotAsked => *number = JC_NOT_ASKED,
@@ -78,6 +84,7 @@ fn show_load(load: &LoadAnswer, number: &mut u32, code: &mut u32, room: &mut Inl
 fn show_write(write: &WriteAnswer, number: &mut u32, code: &mut u32)
     ensures write { write_of_number number.new code.new ≡ write.now }
     ensures number { ((number.new == JC_NOT_ASKED) || write_number_fits number.new) ≡ true }
+    ensures others { KeepsBesideWrite write.now code.old code.new }
 {
     match write {
         WriteAnswer::NotAsked => *number = JC_NOT_ASKED,
@@ -95,6 +102,7 @@ fn show_effect(effect: &Effect, number: &mut u32, room: &mut InlineValue)
     ensures known { effect_number_fits number.new ≡ true }
     ensures fits { is_inline_value room.old ≡ true → is_inline_value room.new ≡ true }
     ensures effect { (code : ℕ) (outcome : Option Bytes) → process_answer_of number.new code (inline_value room.new) outcome ≡ Ended effect.now outcome }
+    ensures others { KeepsBesideEffect effect.now room.old room.new }
 {
     match effect {
         Effect::Keep => *number = JC_KEEP,
@@ -107,6 +115,7 @@ fn show_effect(effect: &Effect, number: &mut u32, room: &mut InlineValue)
 fn show_outcome(outcome: &Option<Value>, has: &mut bool, room: &mut InlineValue)
     ensures outcome { read_outcome has.new (inline_value room.new) ≡ outcome.now }
     ensures fits { is_inline_value room.old ≡ true → is_inline_value room.new ≡ true }
+    ensures others { KeepsBesideValue outcome.now room.old room.new }
 {
     match outcome {
         None => *has = false,
@@ -125,6 +134,7 @@ fn show_process(process: &ProcessAnswer, out: &mut ProcessorAnswers)
     ensures outcome { is_inline_value out.old.outcome ≡ true → is_inline_value out.new.outcome ≡ true }
     ensures load { (out.new.load ≡ out.old.load) × (out.new.load_code ≡ out.old.load_code) × (out.new.loaded ≡ out.old.loaded) }
     ensures write { (out.new.write ≡ out.old.write) × (out.new.write_code ≡ out.old.write_code) }
+    ensures others { KeepsBesideProcess process.now out.old out.new }
 {
     match process {
         ProcessAnswer::NotAsked => out.effect = JC_NOT_RUN,
@@ -146,6 +156,7 @@ fn show_outside(answers: &Out, out: &mut ProcessorAnswers)
     ensures write { ((out.new.write == JC_NOT_ASKED) || write_number_fits out.new.write) ≡ true }
     ensures effect { ((out.new.effect == JC_NOT_RUN) || effect_number_fits out.new.effect) ≡ true }
     ensures fits { HasOutsideLengths out.old → HasOutsideLengths out.new }
+    ensures others { KeepsBesideOutside answers.now out.old out.new }
 {
     show_load(
         &answers.load,
@@ -160,6 +171,7 @@ fn show_outside(answers: &Out, out: &mut ProcessorAnswers)
 /// Writes an event.
 fn show_event(event: &Event, out: &mut FlatEvent)
     ensures shown { ShowsEvent event.now out.new }
+    ensures others { KeepsBesideEvent event.now out.old out.new }
     ensures fits { HasLengths out.old → HasLengths out.new }
 {
     match event {
@@ -193,7 +205,8 @@ fn show_event(event: &Event, out: &mut FlatEvent)
 
 /// Writes the place of the step whose load is shared, if it is.
 fn show_shared(shared: Option<u32>, is_shared: &mut bool, place: &mut u32)
-    ensures { (if is_shared.new then Some place.new else None) ≡ shared }
+    ensures shared { (if is_shared.new then Some place.new else None) ≡ shared }
+    ensures others { KeepsBesideShared shared place.old place.new }
 {
     match shared {
         None => *is_shared = false,
@@ -208,7 +221,8 @@ fn show_shared(shared: Option<u32>, is_shared: &mut bool, place: &mut u32)
 #[unsafe(no_mangle)]
 pub extern "C" fn jc_event(h: &mut Handle, alloc: Global, place: usize, out: &mut FlatEvent) -> u32
     ensures code { result ≡ export_code h.old.is_open true (nat_lt place (length h.old.desk.stripe.history)) JC_NONE }
-    ensures shown { result ≡ JC_OK → (event : Event) × (slice_get h.old.desk.stripe.history place ≡ Some event) × ShowsEvent event out.new }
+    ensures shown { result ≡ JC_OK → (event : Event) × (slice_get h.old.desk.stripe.history place ≡ Some event) × ShowsEvent event out.new
+        × KeepsBesideEvent event out.old out.new }
     ensures fits { result ≡ JC_OK → HasLengths out.old → HasLengths out.new }
     ensures none { (result ≡ JC_OK) ⊎ (out.new ≡ out.old) }
     ensures same { (h.new.is_open ≡ h.old.is_open) × (h.new.desk ≡ h.old.desk) }

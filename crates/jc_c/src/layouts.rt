@@ -1,6 +1,6 @@
 //! The structs that cross to C.
 ghost use Rattle.std.specs.Prelude.{◌≡◌, true, is_some, IfSome};
-ghost use Rattle.jc_c.specs.Layouts.{inline_value, is_inline_value, inline_key, is_inline_key, inline_entry};
+ghost use Rattle.jc_c.specs.Layouts.{inline_value, is_inline_value, inline_key, is_inline_key, StaysBehindValue, StaysBehindKey, inline_entry};
 ghost use Rattle.jc_c.specs.Requests.{entry_fits};
 
 use crate::replies::show_value;
@@ -203,6 +203,7 @@ impl InlineKey {
     pub(crate) fn set(&mut self, key: &Key)
         ensures key { inline_key self.new ≡ key.now }
         ensures fits { is_inline_key self.new ≡ true }
+        ensures behind { StaysBehindKey self.old self.new }
     {
         let bytes = key.bytes();
         self.bytes[..bytes.len()].copy_from_slice(bytes);
@@ -228,6 +229,7 @@ impl InlineEntry {
     pub(crate) fn set(&mut self, entry: &(Key, Value))
         ensures entry { inline_entry self.new ≡ entry.now }
         ensures fits { entry_fits self.new ≡ true }
+        ensures behind { StaysBehindKey self.old.key self.new.key × StaysBehindValue self.old.value self.new.value }
     {
         self.key.set(&entry.0);
         show_value(&entry.1, &mut self.value);

@@ -8,7 +8,7 @@ ghost use Rattle.jc_stripe.specs.OrderOfUse.{by_use};
 ghost use Rattle.jc_stripe.specs.Generations.{after_renewal};
 ghost use Rattle.jc_stripe.specs.Renewal.{can_renew};
 ghost use Rattle.jc_c.specs.declared.codes.TheConstants.{JC_OK, JC_WRONG_HANDLE, JC_NO_MEMORY, JC_NONE, JC_IN_USE};
-ghost use Rattle.jc_c.specs.Layouts.{inline_value, is_inline_value};
+ghost use Rattle.jc_c.specs.Layouts.{inline_value, is_inline_value, StaysBehindValue};
 ghost use Rattle.jc_c.specs.Requests.{key_fits};
 ghost use Rattle.jc_c.specs.Exports.{export_code, counts_written, ListsEntries};
 
@@ -27,6 +27,7 @@ pub extern "C" fn jc_peek(h: &mut Handle, alloc: Global, key: &[u8], out: &mut I
     ensures code { result ≡ export_code h.old.is_open (key_fits key.now) (is_some (entry_at h.old.desk.stripe.cache key.now)) JC_NONE }
     ensures peeked { result ≡ JC_OK → (entry_at h.old.desk.stripe.cache key.now ≡ Some (inline_value out.new)) × (is_inline_value out.new ≡ true) }
     ensures none { (result ≡ JC_OK) ⊎ (out.new ≡ out.old) }
+    ensures behind { result ≡ JC_OK → StaysBehindValue out.old out.new }
     ensures same { (h.new.is_open ≡ h.old.is_open) × (h.new.desk ≡ h.old.desk) }
 {
     if !h.is_open() {

@@ -30,7 +30,7 @@ pub extern "C" fn jc_begin(
 ) -> u32
     ensures code { result ≡ export_code h.old.is_open (key_fits key.now && op_fits op value.now other.now)
         (may_call_next h.old.desk session key.now) JC_MISUSE }
-    ensures begins { result ≡ JC_OK → BeginsForC h.old.desk session op key.now value.now other.now out.new h.new.desk }
+    ensures begins { result ≡ JC_OK → BeginsForC h.old.desk session op key.now value.now other.now out.old out.new h.new.desk }
     ensures refused { (result ≡ JC_OK) ⊎ (h.new.desk ≡ h.old.desk) }
     ensures untouched { (result ≡ JC_OK) ⊎ (result ≡ JC_MISUSE) ⊎ (out.new ≡ out.old) }
     ensures is_open { h.new.is_open ≡ h.old.is_open }
@@ -59,7 +59,7 @@ pub extern "C" fn jc_hit(
     out: &mut InlineValue,
 ) -> u32
     ensures code { result ≡ export_code h.old.is_open (key_fits key.now) (hits_next h.old.desk session key.now) JC_NONE }
-    ensures hit { result ≡ JC_OK → HitsForC h.old.desk session key.now out.new h.new.desk }
+    ensures hit { result ≡ JC_OK → HitsForC h.old.desk session key.now out.old out.new h.new.desk }
     ensures none { (result ≡ JC_OK) ⊎ ((out.new ≡ out.old)
         × (h.new.desk ≡ (if h.old.is_open && key_fits key.now then without_hit h.old.desk session key.now else h.old.desk))) }
     ensures is_open { h.new.is_open ≡ h.old.is_open }
@@ -90,7 +90,7 @@ pub extern "C" fn jc_commit_load(
 ) -> u32
     ensures code { result ≡ export_code h.old.is_open (value_fits value.now && load_number_fits answer)
         (takes_load h.old.desk.stripe number (load_of_number answer code value.now)) JC_MISUSE }
-    ensures commits { result ≡ JC_OK → CommitsForC h.old.desk number (load_only (load_of_number answer code value.now)) out.new h.new.desk }
+    ensures commits { result ≡ JC_OK → CommitsForC h.old.desk number (load_only (load_of_number answer code value.now)) out.old out.new h.new.desk }
     ensures refused { (result ≡ JC_OK) ⊎ ((h.new.desk ≡ h.old.desk) × (out.new ≡ out.old)) }
     ensures is_open { h.new.is_open ≡ h.old.is_open }
 {
@@ -122,7 +122,7 @@ pub extern "C" fn jc_commit_write(
 ) -> u32
     ensures code { result ≡ export_code h.old.is_open (write_number_fits answer)
         (takes_write h.old.desk.stripe number (write_of_number answer code)) JC_MISUSE }
-    ensures commits { result ≡ JC_OK → CommitsForC h.old.desk number (write_only (write_of_number answer code)) out.new h.new.desk }
+    ensures commits { result ≡ JC_OK → CommitsForC h.old.desk number (write_only (write_of_number answer code)) out.old out.new h.new.desk }
     ensures refused { (result ≡ JC_OK) ⊎ ((h.new.desk ≡ h.old.desk) × (out.new ≡ out.old)) }
     ensures is_open { h.new.is_open ≡ h.old.is_open }
 {
@@ -151,7 +151,7 @@ pub extern "C" fn jc_commit_process(
 ) -> u32
     ensures code { result ≡ export_code h.old.is_open (processed_fits processed.now)
         (takes_process h.old.desk.stripe number (processor_out processed.now)) JC_MISUSE }
-    ensures commits { result ≡ JC_OK → CommitsForC h.old.desk number (processor_out processed.now) out.new h.new.desk }
+    ensures commits { result ≡ JC_OK → CommitsForC h.old.desk number (processor_out processed.now) out.old out.new h.new.desk }
     ensures refused { (result ≡ JC_OK) ⊎ ((h.new.desk ≡ h.old.desk) × (out.new ≡ out.old)) }
     ensures is_open { h.new.is_open ≡ h.old.is_open }
 {
@@ -197,7 +197,7 @@ pub extern "C" fn jc_pick_up(
 ) -> u32
     ensures code { result ≡ export_code h.old.is_open (key_fits key.now)
         (is_join_out h.old.desk.stripe (join_named session call key.now load)) JC_MISUSE }
-    ensures picks_up { result ≡ JC_OK → PicksUpForC h.old.desk (join_named session call key.now load) out.new h.new.desk }
+    ensures picks_up { result ≡ JC_OK → PicksUpForC h.old.desk (join_named session call key.now load) out.old out.new h.new.desk }
     ensures refused { (result ≡ JC_OK) ⊎ (h.new.desk ≡ h.old.desk) }
     ensures untouched { (result ≡ JC_OK) ⊎ (result ≡ JC_MISUSE) ⊎ (out.new ≡ out.old) }
     ensures is_open { h.new.is_open ≡ h.old.is_open }

@@ -3,8 +3,9 @@ ghost use Rattle.std.specs.Prelude.{◌≡◌, ◌≤◌, true, if◌then◌else
 ghost use Rattle.std.specs.Option.{option_copied};
 ghost use Rattle.jc_stripe.specs.DeskPhases.{is_first_misuse, is_pick_up_misuse};
 ghost use Rattle.jc_c.specs.declared.codes.TheConstants.{JC_OK, JC_MISUSE, JC_OWN_EVICTED_MEMORY};
-ghost use Rattle.jc_c.specs.Layouts.{inline_value, is_inline_value};
+ghost use Rattle.jc_c.specs.Layouts.{inline_value, is_inline_value, StaysBehindValue};
 ghost use Rattle.jc_c.specs.Replies.{ShowsFault, ShowsReply, ShowsMoves, own_number, ShowsDone, ShowsFirst, refusal_number, ShowsFirstAnswer, ShowsPickUp};
+ghost use Rattle.jc_c.specs.Replies.{KeepsBesideValue, KeepsBesideVictim, KeepsBesideReply, KeepsBesideDone, KeepsBesideFirst, KeepsBesideAnswer, KeepsBesidePickUp};
 
 use crate::codes::{
     JC_AGAIN, JC_ASK_LOADER, JC_BUSY, JC_DONE, JC_EVICTED, JC_FULL, JC_HAVE_DELETED,
@@ -22,6 +23,7 @@ use jc_types::{Refusal, Value};
 pub(crate) fn show_value(value: &Value, out: &mut InlineValue)
     ensures value { inline_value out.new ≡ value.now }
     ensures fits { is_inline_value out.new ≡ true }
+    ensures behind { StaysBehindValue out.old out.new }
 {
     let bytes = value.bytes();
     out.bytes[..bytes.len()].copy_from_slice(bytes);
@@ -64,6 +66,7 @@ fn show_fault(fault: &Refusal, number: &mut u32, code: &mut u32)
 pub(crate) fn show_reply(reply: &Reply, number: &mut u32, code: &mut u32, out: &mut InlineValue)
     ensures reply { ShowsReply reply.now number.new code.new out.new }
     ensures fits { is_inline_value out.old ≡ true → is_inline_value out.new ≡ true }
+    ensures others { KeepsBesideReply reply.now code.old code.new out.old out.new }
 {
     match reply {
         Reply::Unit => *number = JC_UNIT,
@@ -98,7 +101,9 @@ fn show_moves(
     victim: &mut InlineKey,
     evicted: &mut InlineValue,
 )
-    ensures { ShowsMoves moves.now flags.new left.new victim.new evicted.new }
+    ensures shown { ShowsMoves moves.now flags.new left.new victim.new evicted.new }
+    ensures left { KeepsBesideValue moves.now.left left.old left.new }
+    ensures victim { KeepsBesideVictim moves.now.victim victim.old victim.new evicted.old evicted.new }
 {
     let mut sum = 0;
     if moves.is_kept() {
@@ -125,6 +130,7 @@ pub(crate) fn show_done(
     out: &mut PhaseOut,
 )
     ensures shown { ShowsDone place shared reply.now moves.now out.new }
+    ensures others { KeepsBesideDone reply.now moves.now out.old out.new }
     ensures call { out.new.call ≡ out.old.call }
 {
     out.next = JC_DONE;
@@ -148,7 +154,8 @@ fn show_first(
     code: &mut u32,
     out: &mut InlineValue,
 )
-    ensures { ShowsFirst first.now next.new number.new code.new out.new }
+    ensures shown { ShowsFirst first.now next.new number.new code.new out.new }
+    ensures others { KeepsBesideFirst first.now number.old number.new code.old code.new out.old out.new }
 {
     match first {
         First::Nobody => *next = JC_DONE,
@@ -204,6 +211,7 @@ pub(crate) fn show_asked(
     out: &mut PhaseOut,
 ) -> u32
     ensures shown { result ≡ JC_OK → ShowsFirstAnswer asked.now (option_copied newest.entry) reply.now moves.now out.new }
+    ensures others { result ≡ JC_OK → KeepsBesideAnswer asked.now (option_copied newest.entry) reply.now moves.now out.old out.new }
     ensures call { out.new.call ≡ out.old.call }
     ensures code { result ≡ (if is_first_misuse asked.now then JC_MISUSE else JC_OK) }
 {
@@ -239,6 +247,7 @@ pub(crate) fn show_asked(
 /// Writes the answer to a joiner.
 pub(crate) fn show_picked(picked: &PickUpAnswer, reply: &Reply, out: &mut PhaseOut) -> u32
     ensures shown { result ≡ JC_OK → ShowsPickUp picked.now reply.now out.new }
+    ensures others { result ≡ JC_OK → KeepsBesidePickUp picked.now reply.now out.old out.new }
     ensures code { result ≡ (if is_pick_up_misuse picked.now then JC_MISUSE else JC_OK) }
 {
     out.moves = 0;

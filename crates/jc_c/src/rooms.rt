@@ -65,7 +65,7 @@ impl DeskRooms {
         out: &mut PhaseOut,
     ) -> u32
         ensures code { result ≡ export_code true (op_fits op value.now other.now) (may_call_next self.old session key.now) JC_MISUSE }
-        ensures begins { result ≡ JC_OK → BeginsForC self.old session op key.now value.now other.now out.new self.new }
+        ensures begins { result ≡ JC_OK → BeginsForC self.old session op key.now value.now other.now out.old out.new self.new }
         ensures refused { (result ≡ JC_OK) ⊎ (self.new ≡ self.old) }
         ensures untouched { (result ≡ JC_OK) ⊎ (result ≡ JC_MISUSE) ⊎ (out.new ≡ out.old) }
     {
@@ -83,7 +83,7 @@ impl DeskRooms {
     #[inline(always)]
     pub(crate) fn hit(&mut self, session: u32, key: &Key, out: &mut InlineValue) -> u32
         ensures code { result ≡ (if hits_next self.old session key.now then JC_OK else JC_NONE) }
-        ensures hit { result ≡ JC_OK → HitsForC self.old session key.now out.new self.new }
+        ensures hit { result ≡ JC_OK → HitsForC self.old session key.now out.old out.new self.new }
         ensures none { (result ≡ JC_OK) ⊎ ((out.new ≡ out.old) × (self.new ≡ without_hit self.old session key.now)) }
     {
         let Some(_call) = self.desk.hit(session, key, &mut self.value) else {
@@ -97,7 +97,7 @@ impl DeskRooms {
     #[inline(always)]
     pub(crate) fn commit_load(&mut self, number: u64, answer: LoadAnswer, out: &mut PhaseOut) -> u32
         ensures code { result ≡ (if takes_load self.old.stripe number answer then JC_OK else JC_MISUSE) }
-        ensures commits { result ≡ JC_OK → CommitsForC self.old number (load_only answer) out.new self.new }
+        ensures commits { result ≡ JC_OK → CommitsForC self.old number (load_only answer) out.old out.new self.new }
         ensures refused { (result ≡ JC_OK) ⊎ ((self.new ≡ self.old) × (out.new ≡ out.old)) }
     {
         let done = self
@@ -119,7 +119,7 @@ impl DeskRooms {
         out: &mut PhaseOut,
     ) -> u32
         ensures code { result ≡ (if takes_write self.old.stripe number answer then JC_OK else JC_MISUSE) }
-        ensures commits { result ≡ JC_OK → CommitsForC self.old number (write_only answer) out.new self.new }
+        ensures commits { result ≡ JC_OK → CommitsForC self.old number (write_only answer) out.old out.new self.new }
         ensures refused { (result ≡ JC_OK) ⊎ ((self.new ≡ self.old) × (out.new ≡ out.old)) }
     {
         let done = self
@@ -136,7 +136,7 @@ impl DeskRooms {
     #[inline(always)]
     pub(crate) fn commit_process(&mut self, number: u64, said: Out, out: &mut PhaseOut) -> u32
         ensures code { result ≡ (if takes_process self.old.stripe number said then JC_OK else JC_MISUSE) }
-        ensures commits { result ≡ JC_OK → CommitsForC self.old number said out.new self.new }
+        ensures commits { result ≡ JC_OK → CommitsForC self.old number said out.old out.new self.new }
         ensures refused { (result ≡ JC_OK) ⊎ ((self.new ≡ self.old) × (out.new ≡ out.old)) }
     {
         let done = self.desk.commit_process(
@@ -164,7 +164,7 @@ impl DeskRooms {
         out: &mut PhaseOut,
     ) -> u32
         ensures code { result ≡ (if is_join_out self.old.stripe (record { caller = caller; key = key.now; load = load }) then JC_OK else JC_MISUSE) }
-        ensures picks_up { result ≡ JC_OK → PicksUpForC self.old (record { caller = caller; key = key.now; load = load }) out.new self.new }
+        ensures picks_up { result ≡ JC_OK → PicksUpForC self.old (record { caller = caller; key = key.now; load = load }) out.old out.new self.new }
         ensures refused { (result ≡ JC_OK) ⊎ (self.new ≡ self.old) }
     {
         let picked = self.desk.pick_up(caller, key, load, &mut self.reply);

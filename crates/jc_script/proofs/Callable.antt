@@ -5,7 +5,6 @@ use Rattle.jc_text.proofs.CallerLemmas.{line_spelled}
 
 -- each operation that has a name is a call by itself
 operation_single : (o : Op) → IsOperation o → is_single o ≡ true
-operation_single op.Clear known = absurd known
 operation_single (op.LoadAll replace) known = absurd known
 operation_single single known = refl
 

@@ -31,7 +31,7 @@ pub use Rattle.jc_text.specs.declared.read.line.ScriptAct.{ScriptAct}
 pub use Rattle.jc_text.specs.declared.read.line.ScriptAct.TheVariants.{Apply, ApplyFail, ApplyLie, Drop, End, More, Process, Read, ReadFail, Say, Take}
 pub use Rattle.jc_text.specs.declared.read.line.BulkLine.{BulkLine}
 pub use Rattle.jc_text.specs.declared.read.line.Line.{Line}
-pub use Rattle.jc_text.specs.declared.read.line.Line.TheVariants.{Audit, Begin, BeginBulk, Foreign, OfCall, Open, Reopen, Set}
+pub use Rattle.jc_text.specs.declared.read.line.Line.TheVariants.{Audit, Begin, BeginBulk, Foreign, OfCall, Open, Reopen, Set, Untold}
 pub use Rattle.jc_types.specs.Limits.{check, is_between, is_session}
 pub use Rattle.jc_types.specs.declared.config.Config.{Config}
 pub use Rattle.jc_types.specs.declared.limits.TheConstants.{CAPACITY_MAX, HISTORY_MAX, HISTORY_MIN, STRIPES_MAX}

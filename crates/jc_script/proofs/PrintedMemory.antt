@@ -2,7 +2,7 @@
 --     before_it, behind_it    a text with such a line before or behind another has it
 --     event_tells             an event that shows such an eviction prints it
 --     transcript_tells        and so does a transcript
-use Rattle.jc_script.proofs.Common.{◌≡◌, ◌∙◌, ◌+◌, ◌++◌, ◌&&◌, ℕ, Bool, true, false, cond, List, [], ◌∷◌, Option, None, Some, Result, Ok, Err, refl, sym, ap, subst, inl, inr, append_assoc, append-nil, true≢false, ◌⊎◌, codes, list_all-append, Bytes, CallState, has_too_many_keys, new_call, over_of, TooManyKeys, Command, Outcome, Shown, WorldEvent, LoadSource, is_full_cause, eviction_has_memory, has_memory, have_memory, Happens, Run, Step, not_over, shown_begun, opening_events, WorldState, open_call, Fault, ScriptAct, Line, Open, Set, Begin, BeginBulk, OfCall, Foreign, Reopen, Audit, RunEnd, TellsOfMemory, shown_at_begin, shown_by_act, shown_by_one, shown_by_line, shown_by_read, shown_in, events_of_act, keys_of_act, load_code, single, start_events, read_line, OpenedWorld, Plays, PlaysAct, PlaysBegin, PlaysOne, PlaysRead, Transcript}
+use Rattle.jc_script.proofs.Common.{◌≡◌, ◌∙◌, ◌+◌, ◌++◌, ◌&&◌, ℕ, Bool, true, false, cond, List, [], ◌∷◌, Option, None, Some, Result, Ok, Err, refl, sym, ap, subst, inl, inr, append_assoc, append-nil, true≢false, ◌⊎◌, codes, list_all-append, Bytes, CallState, has_too_many_keys, new_call, over_of, TooManyKeys, Command, Outcome, Shown, WorldEvent, LoadSource, is_full_cause, eviction_has_memory, has_memory, have_memory, Happens, Run, Step, not_over, shown_begun, opening_events, WorldState, open_call, Fault, ScriptAct, Line, Open, Set, Begin, BeginBulk, OfCall, Foreign, Reopen, Audit, Untold, RunEnd, TellsOfMemory, shown_at_begin, shown_by_act, shown_by_one, shown_by_line, shown_by_read, shown_in, events_of_act, keys_of_act, load_code, single, start_events, read_line, OpenedWorld, Plays, PlaysAct, PlaysBegin, PlaysOne, PlaysRead, Transcript}
 use Rattle.jc_model.specs.declared.event.Cause.{Cause}
 use Rattle.jc_model.specs.declared.event.Cause.TheVariants.{Full, Memory}
 use Rattle.jc_stripe.specs.declared.begun.Eviction.{Eviction}
@@ -141,6 +141,7 @@ line_tells (Some w) (OfCall number act) x n a h = act_tells w number act (open_c
 line_tells (Some w) (Foreign key value) x n a h = one_tells w (event.Foreign key value) x n a h
 line_tells (Some w) (Reopen config) x n a h = one_tells w (event.Reopen config) x n a h
 line_tells (Some w) Audit x n a h = absurd (true≢false h)
+line_tells (Some w) Untold x n a h = absurd (true≢false h)
 
 read_tells : (old : OpenedWorld) (read : Result (Option Line) Fault) (x : List ℕ) (n : OpenedWorld) (a : PlaysRead old read x n)
     → have_memory (shown_by_read old read x n a) ≡ false → TellsOfMemory x

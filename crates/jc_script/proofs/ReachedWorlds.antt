@@ -10,7 +10,7 @@
 --     no_event, some_events     a line that makes no event leads on, and so does one that makes some
 --     piece_stays     each line without a fault leads on, by its bytes
 --     script_stays    and so do the lines of a script, one after another
-use Rattle.jc_script.proofs.Common.{arith, ◌+◌, ◌≡◌, ◌∙◌, option_map, ◌++◌, ◌&&◌, ℕ, Bool, true, false, cond, List, [], ◌∷◌, Option, None, Some, Result, Ok, Err, is_some, find, refl, sym, ap, subst, subst₂, inl, inr, append_assoc, append-nil, true≢false, and_from, list_all-append, empty, get, get-empty, Config, BadConfig, WriterFailed, check, is_between, STRIPES_MAX, CAPACITY_MAX, HISTORY_MIN, HISTORY_MAX, Op, Bytes, key_cmp, is_load_given, Outcome, Part, Shown, WorldEvent, CallState, has_number, after_report, after_reports, keys_reported, reported_now, with_met_by, reported_at, all_fit, is_fit, Ends, Happens, Picks, Run, StartsAs, fits, may_change, may_leave, may_look, may_report, may_start, opening_events, WorldState, join_cmp, start, has_progress, of_call, open_call, part_of, waits_for_load, waits_for_process, waits_for_report, is_all_answered, is_untouched, with_stored, Command, Fault, SetTooLate, ScriptAct, events_of_act, keys_of_act, load_code, single, start_events, Line, Open, Set, Begin, BeginBulk, OfCall, Foreign, Reopen, Audit, read_line, event_text, fails_text, texts, RunEnd, OpenedWorld, Plays, PlaysAct, PlaysBegin, PlaysOne, PlaysRead, Prints, Transcript}
+use Rattle.jc_script.proofs.Common.{arith, ◌+◌, ◌≡◌, ◌∙◌, option_map, ◌++◌, ◌&&◌, ℕ, Bool, true, false, cond, List, [], ◌∷◌, Option, None, Some, Result, Ok, Err, is_some, find, refl, sym, ap, subst, subst₂, inl, inr, append_assoc, append-nil, true≢false, and_from, list_all-append, empty, get, get-empty, Config, BadConfig, WriterFailed, check, is_between, STRIPES_MAX, CAPACITY_MAX, HISTORY_MIN, HISTORY_MAX, Op, Bytes, key_cmp, is_load_given, Outcome, Part, Shown, WorldEvent, CallState, has_number, after_report, after_reports, keys_reported, reported_now, with_met_by, reported_at, all_fit, is_fit, Ends, Happens, Picks, Run, StartsAs, fits, may_change, may_leave, may_look, may_report, may_start, opening_events, WorldState, join_cmp, start, has_progress, of_call, open_call, part_of, waits_for_load, waits_for_process, waits_for_report, is_all_answered, is_untouched, with_stored, Command, Fault, SetTooLate, ScriptAct, events_of_act, keys_of_act, load_code, single, start_events, Line, Open, Set, Begin, BeginBulk, OfCall, Foreign, Reopen, Audit, Untold, read_line, event_text, fails_text, texts, RunEnd, OpenedWorld, Plays, PlaysAct, PlaysBegin, PlaysOne, PlaysRead, Prints, Transcript}
 use Rattle.std.proofs.Math.Bool.{and-false}
 use Rattle.jc_types.specs.declared.caller.Caller.{Caller}
 use Rattle.jc_types.specs.declared.config.Field.TheVariants.{Stripes, Capacity, History}
@@ -211,7 +211,7 @@ nothing_beside new = inl refl
 -- the code of a load that failed, if it did
 fault_beside : (new : OpenedWorld) (call : ℕ) (fault : Option ℕ) → IsBeside new (fails_text call fault)
 fault_beside new call None = inl refl
-fault_beside new call (Some code) = inr (inr (inr (call, code, refl)))
+fault_beside new call (Some code) = inr (inr (inr (inr (call, code, refl))))
 
 -- one that makes some
 some_events : (es : List WorldEvent) (ss : List Shown) (w after : WorldState) (text : List ℕ) (new : OpenedWorld) (more : List WorldEvent) (shown : List Shown) (beside : List ℕ) → IsReachedBy es ss (Some w)
@@ -268,6 +268,7 @@ line_stays starts es ss (Some w) (OfCall number act) text new reached none h = a
 line_stays starts es ss (Some w) (Foreign key value) text new reached none h = one_stays es ss w (event.Foreign key value) text new reached h
 line_stays starts es ss (Some w) (Reopen config) text new reached none h = one_stays es ss w (event.Reopen config) text new reached h
 line_stays starts es ss (Some w) Audit text new reached none (audited, is) = no_event es ss text new (subst (IsReachedBy es ss) (sym is) reached) (inr (inr (inl (w, is, audited))))
+line_stays starts es ss (Some w) Untold text new reached none (told, is) = no_event es ss text new (subst (IsReachedBy es ss) (sym is) reached) (inr (inr (inr (inl (w, is, told)))))
 line_stays starts es ss old line text new reached none h = absurd h
 
 read_stays : StartsOpen → (es : List WorldEvent) (ss : List Shown) (old : OpenedWorld) (read : Result (Option Line) Fault) (text : List ℕ) (new : OpenedWorld) → IsReachedBy es ss old → PlaysRead old read text new → LeadsOn es ss text new

@@ -27,7 +27,7 @@ use Rattle.jc_world.specs.World.{WorldState, open_call}
 use Rattle.jc_text.specs.declared.fault.Fault.{Fault}
 use Rattle.jc_text.specs.declared.read.line.ScriptAct.{ScriptAct}
 use Rattle.jc_text.specs.declared.read.line.Line.{Line}
-use Rattle.jc_text.specs.declared.read.line.Line.TheVariants.{Open, Set, Begin, BeginBulk, OfCall, Foreign, Reopen, Audit}
+use Rattle.jc_text.specs.declared.read.line.Line.TheVariants.{Open, Set, Begin, BeginBulk, OfCall, Foreign, Reopen, Audit, Untold}
 use Rattle.jc_text.specs.Lines.{read_line}
 use Rattle.jc_text.specs.Printing.{evict_line}
 use Rattle.jc_text.specs.Pieces.{pieces_of}
@@ -68,6 +68,7 @@ shown_by_line (Some w) (Foreign key value) text new h =
 shown_by_line (Some w) (Reopen config) text new h =
     shown_by_one w (event.Reopen config) text new h
 shown_by_line (Some w) Audit text new h = []
+shown_by_line (Some w) Untold text new h = []
 
 abbrev pub shown_by_read : (old : OpenedWorld) (read : Result (Option Line) Fault) (text : List ℕ)
     (new : OpenedWorld) → PlaysRead old read text new → List Shown

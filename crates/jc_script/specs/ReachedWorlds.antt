@@ -2,7 +2,7 @@
 --     IsReachedBy          a world is open, and these events, which showed this, have led to it from a start with nothing cached; or
 --                          it isn't open yet, and there are none
 --     IsBeside             what a line prints that is no event's: nothing, that a world is open, an audit of the world that it leaves,
---                          or that a load failed
+--                          its untold keys, or that a load failed
 --     LeadsOn              more events, each of which fits, lead on to this world; they and what they show are appended. What is
 --                          printed is what is printed of them, and what is beside them
 --     LinesStayReached     a line without a fault leads on so from each world that is reached
@@ -24,7 +24,7 @@ use Rattle.jc_text.specs.Printing.{texts, fails_line, fault_line}
 use Rattle.jc_text.specs.Pieces.{pieces_of}
 use Rattle.jc_script.specs.declared.run.RunEnd.{RunEnd}
 use Rattle.jc_script.specs.declared.run.RunEnd.TheVariants.{LineFault}
-use Rattle.jc_script.specs.Transcript.{Audited, OpenedWorld, Prints, fault_of, EndsScript, IsTranscript}
+use Rattle.jc_script.specs.Transcript.{Audited, untold_text, OpenedWorld, Prints, fault_of, EndsScript, IsTranscript}
 
 -- 1. Lines.
 
@@ -40,7 +40,8 @@ IsBeside new text =
     (text ≡ [])
     ⊎ (((config : Config) × (new ≡ Some (start config)) × (text ≡ codes "open\n"))
     ⊎ (((w : WorldState) × (new ≡ Some w) × Audited w text)
-    ⊎ ((call : ℕ) × (code : ℕ) × (text ≡ fails_line call code))))
+    ⊎ (((w : WorldState) × (new ≡ Some w) × (text ≡ untold_text w))
+    ⊎ ((call : ℕ) × (code : ℕ) × (text ≡ fails_line call code)))))
 
 pub record LeadsOn (events : List WorldEvent) (seen : List Shown) (text : List ℕ) (new : OpenedWorld) : Type 0 where
   pub more : List WorldEvent

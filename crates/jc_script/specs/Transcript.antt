@@ -8,6 +8,7 @@
 --     PlaysAct                 the same of the events of an act, if its call is under way
 --     PlaysOne                 the same of one event, as a foreign write or a reopening
 --     Audited                  what is printed of an audit
+--     untold_text              what is printed of the keys that are untold
 --     Plays                    a line with no fault: what it prints and leaves. ⊥ if no such line is played
 --     PlaysLine                a line that was read is played, or its fault is printed: what is printed, then, and what is left
 --     PlaysRead, Prints        the same from what was read of a line, and from its bytes; a comment prints nothing and changes
@@ -17,27 +18,28 @@
 --     Transcript               from a state and a line on, the pieces print this and end so
 --     IsTranscript             the same of a whole script
 use Rattle.std.specs.Prelude.{◌≡◌, ◌⊎◌, ℕ, ◌+◌, List, [], ◌∷◌, ◌++◌, Bool, true, IsTrue, Option, None, Some, Result, Ok, Err, codes}
+use Rattle.std.specs.List.{list_all}
 use Rattle.jc_model.specs.Cache.{Bytes}
 use Rattle.jc_world.specs.Calls.{CallState}
 use Rattle.jc_world.specs.declared.command.Command.{Command}
 use Rattle.jc_world.specs.declared.event.Shown.{Shown}
 use Rattle.jc_world.specs.declared.event.WorldEvent.{WorldEvent}
 use Rattle.jc_world.specs.declared.event.WorldEvent.TheVariants as event
-use Rattle.jc_world.specs.World.{WorldState, start, open_call, with_stored}
+use Rattle.jc_world.specs.World.{WorldState, start, open_call, with_stored, is_untold}
 use Rattle.jc_world.specs.PlayedWorld.{PlayedWorld}
 use Rattle.jc_world.specs.Events.{Run, all_fit}
 use Rattle.jc_world.specs.Together.{opening_events}
-use Rattle.jc_world.specs.Audit.{IsAudit}
+use Rattle.jc_world.specs.Audit.{IsAudit, untold_keys}
 use Rattle.jc_world.specs.Coherent.{all_hold}
 use Rattle.jc_text.specs.declared.fault.Fault.{Fault}
 use Rattle.jc_text.specs.declared.fault.Fault.TheVariants.{CutLine}
 use Rattle.jc_text.specs.declared.read.line.Line.{Line}
-use Rattle.jc_text.specs.declared.read.line.Line.TheVariants.{Open, Set, Begin, BeginBulk, OfCall, Foreign, Reopen, Audit}
+use Rattle.jc_text.specs.declared.read.line.Line.TheVariants.{Open, Set, Begin, BeginBulk, OfCall, Foreign, Reopen, Audit, Untold}
 use Rattle.jc_text.specs.declared.read.line.BulkLine.{BulkLine}
 use Rattle.jc_text.specs.declared.read.line.ScriptAct.{ScriptAct}
 use Rattle.jc_text.specs.Lines.{read_line}
 use Rattle.jc_text.specs.Pieces.{pieces_of}
-use Rattle.jc_text.specs.Printing.{texts, fails_text, audit_text, fault_line}
+use Rattle.jc_text.specs.Printing.{texts, fails_text, keys_line, audit_text, fault_line}
 use Rattle.jc_script.specs.declared.run.RunEnd.{RunEnd}
 use Rattle.jc_script.specs.declared.run.RunEnd.TheVariants.{Clean, LineFault}
 use Rattle.jc_script.specs.Faults.{state_fault}
@@ -93,7 +95,7 @@ abbrev pub PlaysOne : WorldState → WorldEvent → List ℕ → OpenedWorld →
 PlaysOne w e text None = ⊥
 PlaysOne w e text (Some after) = PlaysEvents w (e ∷ []) text after
 
--- an audit always says legal, and never names a key while write-through is on and the premises have held
+-- an audit always says legal, and names only untold keys while write-through is on and the premises have held
 pub record Audited (w : WorldState) (text : List ℕ) : Type 0 where
   pub cached : List (Bytes × Bytes)
   pub stored : List (Bytes × Bytes)
@@ -102,8 +104,11 @@ pub record Audited (w : WorldState) (text : List ℕ) : Type 0 where
   pub legal : Bool
   pub says : IsAudit w cached stored keys events legal
   pub is_legal : IsTrue legal
-  pub is_coherent : all_hold w ≡ true → keys ≡ []
+  pub is_coherent : all_hold w ≡ true → list_all (is_untold w) keys ≡ true
   pub text_is : text ≡ audit_text cached stored keys events legal
+
+abbrev pub untold_text : WorldState → List ℕ
+untold_text w = keys_line (codes "untold") (untold_keys w)
 
 abbrev pub Plays : OpenedWorld → Line → List ℕ → OpenedWorld → Type 0
 Plays None (Open config) text new = (text ≡ codes "open\n") × (new ≡ Some (start config))
@@ -114,6 +119,7 @@ Plays (Some w) (OfCall number act) text new = PlaysAct w number act (open_call w
 Plays (Some w) (Foreign key value) text new = PlaysOne w (event.Foreign key value) text new
 Plays (Some w) (Reopen config) text new = PlaysOne w (event.Reopen config) text new
 Plays (Some w) Audit text new = Audited w text × (new ≡ Some w)
+Plays (Some w) Untold text new = (text ≡ untold_text w) × (new ≡ Some w)
 Plays old line text new = ⊥
 
 -- printed at the end of what is there already; a line with a fault does nothing

@@ -6,7 +6,7 @@ ghost use Rattle.jc_world.specs.Events.{AllFit};
 ghost use Rattle.jc_text.specs.declared.read.line.Line.TheVariants as lines;
 ghost use Rattle.jc_script.specs.LineEvents.{is_callable};
 ghost use Rattle.jc_script.specs.Faults.{config_fault};
-ghost use Rattle.jc_script.specs.Transcript.{opened_world, PlaysEvents, PlaysCall, PlaysOne, Audited, PlaysLine, Prints, fault_of};
+ghost use Rattle.jc_script.specs.Transcript.{opened_world, PlaysEvents, PlaysCall, PlaysOne, Audited, untold_text, PlaysLine, Prints, fault_of};
 
 mod acting;
 mod beginning;
@@ -15,7 +15,7 @@ use self::acting::act_on;
 use self::beginning::{play_begin, play_bulk};
 use jc_model::{LoadAnswer, Op};
 use jc_text::print::audit::put_audit;
-use jc_text::print::lines::put_fault_code;
+use jc_text::print::lines::{put_fault_code, put_keys_line};
 use jc_text::print::put;
 use jc_text::print::shown::put_texts;
 use jc_text::read::grammar::read;
@@ -150,6 +150,10 @@ fn play_line_on(
         Line::Reopen(config) => reopen(world, config, buffers, out),
         Line::Audit => {
             audit(alloc, world, out)?;
+            Ok(None)
+        }
+        Line::Untold => {
+            untold(alloc, world, out)?;
             Ok(None)
         }
     }
@@ -294,5 +298,15 @@ fn audit(alloc: Global, world: &World, out: &mut Vec<u8>) -> Result<(), AllocErr
 {
     let audit = world.audit(alloc)?;
     put_audit(out, &audit)?;
+    Ok(())
+}
+
+/// The keys that are untold, in one line.
+#[inline(never)]
+fn untold(alloc: Global, world: &World, out: &mut Vec<u8>) -> Result<(), AllocError>
+    ensures { OnOk result (out.new.items ≡ out.old.items ++ untold_text world.now.world) }
+{
+    let keys = world.untold_keys(alloc)?;
+    put_keys_line(out, "untold", &keys)?;
     Ok(())
 }

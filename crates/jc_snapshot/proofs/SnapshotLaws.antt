@@ -16,6 +16,7 @@ own_stays s t w n g h = record {
   store_is = numbers_stay _ _ _ _ g.entries h.store_is;
   parts_are = numbers_stay _ _ _ _ g.parts h.parts_are;
   joins_are = numbers_stay _ _ _ _ g.joins h.joins_are;
+  foreign_are = numbers_stay _ _ _ _ g.entries h.foreign_are;
 }
 
 pub stay : SnapshotsStay
@@ -49,6 +50,7 @@ tell s e f words h k =
     let store : n.own.store ≡ m.own.store = cc in
     let parts : n.own.parts ≡ m.own.parts = cc in
     let joins : n.own.joins ≡ m.own.joins = cc in
+    let foreign : n.own.foreign ≡ m.own.foreign = cc in
     let stripes : flat n.stripes ≡ flat m.stripes = cc in
     let calls : flat n.calls ≡ flat m.calls = cc in
     let a = h.1 in
@@ -60,6 +62,7 @@ tell s e f words h k =
     let st = same_entries_map e.rest.store f.rest.store (list_equal s.entries (map.entries e.rest.store) (map.entries f.rest.store) n.own.store m.own.store store a.own.store_is b.own.store_is) in
     let pa = same_entries_map e.rest.parts f.rest.parts (list_equal s.parts (map.entries e.rest.parts) (map.entries f.rest.parts) n.own.parts m.own.parts parts a.own.parts_are b.own.parts_are) in
     let jo = same_entries_map e.rest.joins f.rest.joins (list_equal s.joins (map.entries e.rest.joins) (map.entries f.rest.joins) n.own.joins m.own.joins joins a.own.joins_are b.own.joins_are) in
+    let fo = same_entries_map e.rest.foreign f.rest.foreign (list_equal s.entries (map.entries e.rest.foreign) (map.entries f.rest.foreign) n.own.foreign m.own.foreign foreign a.own.foreign_are b.own.foreign_are) in
     let ss = things_of_rows (IsStripeRow s) (stripe_told s) e.stripes f.stripes n.stripes a.stripes_are (subst (λ rs. AreRows (IsStripeRow s) f.stripes rs) (sym (flat_equal n.stripes m.stripes stripes)) b.stripes_are) in
     let cs = things_of_rows (IsOpenCallRow s) (call_told s) e.rest.calls f.rest.calls n.calls a.calls_are (subst (λ rs. AreRows (IsOpenCallRow s) f.rest.calls rs) (sym (flat_equal n.calls m.calls calls)) b.calls_are) in
     let rest : e.rest ≡ f.rest =
@@ -69,6 +72,7 @@ tell s e f words h k =
       stripes = [];
       order = [];
       store = st i;
+      foreign = fo i;
       last = la i;
       calls = cs i;
       parts = pa i;
@@ -91,6 +95,7 @@ only s d e words others h k =
     let st = numbers_equal s.entries (map.entries e.rest.store) n.own.store m.own.store d.entries a.own.store_is b.own.store_is in
     let pa = numbers_equal s.parts (map.entries e.rest.parts) n.own.parts m.own.parts d.parts a.own.parts_are b.own.parts_are in
     let jo = numbers_equal s.joins (map.entries e.rest.joins) n.own.joins m.own.joins d.joins a.own.joins_are b.own.joins_are in
+    let fo = numbers_equal s.entries (map.entries e.rest.foreign) n.own.foreign m.own.foreign d.entries a.own.foreign_are b.own.foreign_are in
     let ss = rows_equal (IsStripeRow s) (stripe_row_is s d) e.stripes n.stripes m.stripes a.stripes_are b.stripes_are in
     let cs = rows_equal (IsOpenCallRow s) (call_row_is s d) e.rest.calls n.calls m.calls a.calls_are b.calls_are in
-    h.2 ∙ (λ i. flat ((c i ∷ p i ∷ bit e.rest.is_fresh ∷ []) ∷ last_row e.rest.last ∷ st i ∷ pa i ∷ jo i ∷ flat (ss i) ∷ flat (cs i) ∷ [])) ∙ sym k.2
+    h.2 ∙ (λ i. flat ((c i ∷ p i ∷ bit e.rest.is_fresh ∷ []) ∷ last_row e.rest.last ∷ st i ∷ pa i ∷ jo i ∷ fo i ∷ flat (ss i) ∷ flat (cs i) ∷ [])) ∙ sym k.2

@@ -80,10 +80,11 @@ pub record OwnRows : Type 0 where
   pub store : List ℕ
   pub parts : List ℕ
   pub joins : List ℕ
+  pub foreign : List ℕ
 
 abbrev pub own_rows : OwnRows → WorldState → List (List ℕ)
 own_rows n w =
-    (n.config ∷ n.premises ∷ bit w.is_fresh ∷ []) ∷ last_row w.last ∷ n.store ∷ n.parts ∷ n.joins ∷ []
+    (n.config ∷ n.premises ∷ bit w.is_fresh ∷ []) ∷ last_row w.last ∷ n.store ∷ n.parts ∷ n.joins ∷ n.foreign ∷ []
 
 pub record HasOwnRows (seen : Seen) (w : WorldState) (n : OwnRows) : Type 0 where
   pub config_is : IsNumberOf seen.configs w.config n.config
@@ -91,6 +92,7 @@ pub record HasOwnRows (seen : Seen) (w : WorldState) (n : OwnRows) : Type 0 wher
   pub store_is : AreNumbers seen.entries (map.entries w.store) n.store
   pub parts_are : AreNumbers seen.parts (map.entries w.parts) n.parts
   pub joins_are : AreNumbers seen.joins (map.entries w.joins) n.joins
+  pub foreign_are : AreNumbers seen.entries (map.entries w.foreign) n.foreign
 
 pub record WorldRows : Type 0 where
   pub own : OwnRows

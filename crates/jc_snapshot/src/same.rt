@@ -103,6 +103,7 @@ fn is_same_progress(first: &PartProgress, second: &PartProgress) -> bool
     ensures { IsTrue result ↔ (first.now ≡ second.now) }
 {
     first.is_changed == second.is_changed
+        && first.is_misled == second.is_misled
         && first.change == second.change
         && is_same_out(&first.out, &second.out)
 }

@@ -102,12 +102,14 @@ fn own_words(alloc: Global, world: &World, seen: &mut Seen) -> Result<Vec<u64>, 
 {
     let config = seen.configs.number_of(world.config())?;
     let premises = seen.premises.number_of(&world.premises())?;
+    let foreign = foreign_numbers(alloc, world, &mut seen.entries)?;
     let store = store_numbers(alloc, world, &mut seen.entries)?;
     let parts = part_numbers(alloc, world, &mut seen.parts)?;
     let joins = join_numbers(alloc, world, &mut seen.joins)?;
     let last = last_row(alloc, world.last())?;
     let scalars = [config, premises, bit(world.is_fresh())];
-    let words = five_rows(alloc, &scalars, &last, &store, &parts, &joins)?;
+    let mut words = five_rows(alloc, &scalars, &last, &store, &parts, &joins)?;
+    push_row(&mut words, &foreign)?;
     Ok(words)
 }
 
@@ -122,6 +124,21 @@ fn store_numbers(
     ensures grows { Continues table.old table.new }
 {
     let entries = world.stored_entries(alloc)?;
+    let numbers = numbers_of(alloc, table, &entries)?;
+    Ok(numbers)
+}
+
+/// The numbers of the keys that somebody else has written.
+fn foreign_numbers(
+    alloc: Global,
+    world: &World,
+    table: &mut Table<(Key, Value)>,
+) -> Result<Vec<u64>, AllocError>
+    ensures numbers { IfOk result (λ numbers.
+        AreNumbers table.new (map.entries world.now.world.foreign) numbers.items) }
+    ensures grows { Continues table.old table.new }
+{
+    let entries = world.foreign_keys(alloc)?;
     let numbers = numbers_of(alloc, table, &entries)?;
     Ok(numbers)
 }

@@ -1,3 +1,4 @@
+mod Answering
 mod Batches
 pub mod CallerLemmas
 mod Statements

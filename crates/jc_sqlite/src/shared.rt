@@ -1,7 +1,11 @@
 //! The state that all loaders and writers of a database share, behind a lock.
-ghost use Rattle.std.specs.Prelude.{◌≡◌, ◌≢◌, ◌<◌, [], IsErr, Some, None, IsSome, IsSomeAnd, IfErr, OnOk, OnErr};
+ghost use Rattle.std.specs.Prelude.{◌≡◌, ◌<◌, map, Some, None, IsSomeAnd, IfErr, OnOk, OnErr};
+ghost use Rattle.sqlite.specs.Files.{over_files};
 ghost use Rattle.jc_sqlite.specs.Opening.{HasOwnTable};
-ghost use Rattle.jc_sqlite.specs.Leaving.{LeavesAllOrNone, failure_to_keep, KeepsFailure, NeedsOpen};
+ghost use Rattle.jc_sqlite.specs.Batch.{RunsAsOne};
+ghost use Rattle.jc_sqlite.specs.Statements.{write_sql, delete_sql, entry_row, key_row, ExecutesOnce, Counts, Loads};
+ghost use Rattle.jc_sqlite.specs.Leaving.{LeavesAllOrNone, failure_to_keep, IsShut, IsShutAtFirst, KeepsAnswer, AnswersOver, IsAt};
+ghost use Rattle.jc_sqlite.specs.Leaving.{IsAtOneOf, OnCleanDisk, LoadsFromFile};
 
 use crate::code::code_of;
 use crate::failure::{Failure, OpenCause};
@@ -58,8 +62,8 @@ impl Shared {
 
     pub(crate) fn entry_count(&mut self) -> Result<u64, u32>
         ensures code { IfErr result (λ code. 0 < code) }
-        ensures open { NeedsOpen self.old.connection result self.new.connection }
-        ensures kept { KeepsFailure (λ failure. failure.key ≡ None) self.old.last_error result self.new.last_error }
+        ensures answers { AnswersOver (IsShut None) (IsAt None (OnCleanDisk Counts))
+            self.old.connection self.old.last_error result self.new.connection self.new.last_error }
     {
         let Some(connection) = &mut self.connection else {
             return Err(self.shut(None));
@@ -72,8 +76,8 @@ impl Shared {
 
     pub(crate) fn load(&mut self, key: &Key) -> Result<Option<Value>, u32>
         ensures code { IfErr result (λ code. 0 < code) }
-        ensures open { NeedsOpen self.old.connection result self.new.connection }
-        ensures kept { KeepsFailure (λ failure. failure.key ≡ Some key.now) self.old.last_error result self.new.last_error }
+        ensures answers { AnswersOver (IsShut (Some key.now)) (IsAt (Some key.now) (OnCleanDisk (Loads key.now)))
+            self.old.connection self.old.last_error result self.new.connection self.new.last_error }
     {
         let Some(connection) = &mut self.connection else {
             return Err(self.shut(Some(*key)));
@@ -89,8 +93,9 @@ impl Shared {
 
     pub(crate) fn load_all(&mut self, keys: &[Key], answers: &mut Answers) -> Result<(), u32>
         ensures code { IfErr result (λ code. 0 < code) }
-        ensures open { keys.now ≢ [] → NeedsOpen self.old.connection result self.new.connection }
-        ensures kept { KeepsFailure (λ failure. IsSome failure.key) self.old.last_error result self.new.last_error }
+        ensures answers { AnswersOver (IsShutAtFirst keys.now)
+            (IsAtOneOf keys.now (LoadsFromFile keys.now answers.old.by_key answers.new.by_key))
+            self.old.connection self.old.last_error result self.new.connection self.new.last_error }
         ensures room { answers.new.room ≡ answers.old.room }
     {
         let Some(connection) = &mut self.connection else {
@@ -104,8 +109,9 @@ impl Shared {
 
     pub(crate) fn write(&mut self, key: &Key, value: &Value) -> Result<(), u32>
         ensures code { IfErr result (λ code. 0 < code) }
-        ensures open { NeedsOpen self.old.connection result self.new.connection }
-        ensures kept { KeepsFailure (λ failure. failure.key ≡ Some key.now) self.old.last_error result self.new.last_error }
+        ensures answers { AnswersOver (IsShut (Some key.now))
+            (IsAt (Some key.now) (OnCleanDisk (ExecutesOnce write_sql (entry_row (key.now, value.now)))))
+            self.old.connection self.old.last_error result self.new.connection self.new.last_error }
     {
         let Some(connection) = &mut self.connection else {
             return Err(self.shut(Some(*key)));
@@ -121,8 +127,9 @@ impl Shared {
 
     pub(crate) fn delete(&mut self, key: &Key) -> Result<(), u32>
         ensures code { IfErr result (λ code. 0 < code) }
-        ensures open { NeedsOpen self.old.connection result self.new.connection }
-        ensures kept { KeepsFailure (λ failure. failure.key ≡ Some key.now) self.old.last_error result self.new.last_error }
+        ensures answers { AnswersOver (IsShut (Some key.now))
+            (IsAt (Some key.now) (OnCleanDisk (ExecutesOnce delete_sql (key_row key.now))))
+            self.old.connection self.old.last_error result self.new.connection self.new.last_error }
     {
         let Some(connection) = &mut self.connection else {
             return Err(self.shut(Some(*key)));
@@ -138,8 +145,8 @@ impl Shared {
 
     pub(crate) fn write_all(&mut self, entries: &mut IndexMap<Key, Value>) -> Result<(), u32>
         ensures left { LeavesAllOrNone entries.old.entries result entries.new.entries }
-        ensures open { NeedsOpen self.old.connection result self.new.connection }
-        ensures kept { KeepsFailure (λ failure. failure.key ≡ None) self.old.last_error result self.new.last_error }
+        ensures answers { AnswersOver (IsShut None) (IsAt None (RunsAsOne over_files write_sql (map entry_row entries.old.entries)))
+            self.old.connection self.old.last_error result self.new.connection self.new.last_error }
     {
         let Some(connection) = &mut self.connection else {
             return Err(self.shut(None));
@@ -152,8 +159,8 @@ impl Shared {
 
     pub(crate) fn delete_all(&mut self, keys: &mut IndexSet<Key>) -> Result<(), u32>
         ensures left { LeavesAllOrNone keys.old.keys result keys.new.keys }
-        ensures open { NeedsOpen self.old.connection result self.new.connection }
-        ensures kept { KeepsFailure (λ failure. failure.key ≡ None) self.old.last_error result self.new.last_error }
+        ensures answers { AnswersOver (IsShut None) (IsAt None (RunsAsOne over_files delete_sql (map key_row keys.old.keys)))
+            self.old.connection self.old.last_error result self.new.connection self.new.last_error }
     {
         let Some(connection) = &mut self.connection else {
             return Err(self.shut(None));
@@ -166,9 +173,8 @@ impl Shared {
 
     /// Without a connection the load of the first key fails.
     fn shut_at_first(&mut self, keys: &[Key]) -> Result<(), u32>
-        ensures fails { keys.now ≢ [] → IsErr result }
         ensures code { IfErr result (λ code. 0 < code) }
-        ensures kept { KeepsFailure (λ failure. IsSome failure.key) self.old.last_error result self.new.last_error }
+        ensures kept { KeepsAnswer (IsShutAtFirst keys.now) self.old.last_error result self.new.last_error }
         ensures same { self.new.connection ≡ self.old.connection }
     {
         match keys.first() {

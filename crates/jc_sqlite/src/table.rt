@@ -10,7 +10,7 @@
 //! content hold under `HasCleanDisk`: as long as the disk has returned what was written to it. An `Err` is SQLite's error, which
 //! [`code_of`](crate::code::code_of) maps to the code that a loader or a writer returns. Whatever the outcome, the connection's
 //! limit on steps is as it was.
-ghost use Rattle.std.specs.Prelude.{◌≡◌, ◌≢◌, ℕ, false, IsTrue, List, [], map, IsSome, IfOk, IfErr, OnOk, OnErr};
+ghost use Rattle.std.specs.Prelude.{◌≡◌, ◌≢◌, ℕ, false, IsTrue, List, [], map, Contains, Some, IsSomeAnd, IfOk, IfErr, OnOk, OnErr};
 ghost use Rattle.sqlite.specs.declared.types.Value.TheVariants.{Blob};
 ghost use Rattle.sqlite.specs.Order.{column};
 ghost use Rattle.sqlite.specs.Values.{bound};
@@ -174,7 +174,7 @@ pub fn load_all<S: Alter>(
     ensures loads { HasCleanDisk (state S.Store conn.new)
         → LoadsAll S.Store keys.now conn.old conn.new answers.old.by_key answers.new.by_key result }
     ensures room { answers.new.room ≡ answers.old.room }
-    ensures named { IfErr result (λ failure. IsSome failure.key) }
+    ensures named { IfErr result (λ failure. IsSomeAnd failure.key (Contains keys.now)) }
     ensures survives { Survives (state S.Store conn.old) (state S.Store conn.new)
         (CommitsLoading S.Store keys.now) }
 {
@@ -193,7 +193,7 @@ fn load_into<S: Alter>(
     ensures loads { HasCleanDisk (state S.Store conn.new)
         → LoadsInto key.now (state S.Store conn.old) (state S.Store conn.new) answers.old.by_key answers.new.by_key result }
     ensures room { answers.new.room ≡ answers.old.room }
-    ensures named { IfErr result (λ failure. IsSome failure.key) }
+    ensures named { IfErr result (λ failure. failure.key ≡ Some key.now) }
     ensures survives { Survives (state S.Store conn.old) (state S.Store conn.new)
         (CommitsShowing load_sql (key_row key.now) (state S.Store conn.old)) }
 {

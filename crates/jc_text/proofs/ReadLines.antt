@@ -9,7 +9,7 @@ use Rattle.jc_text.specs.declared.read.commands.BulkName.{BulkName}
 use Rattle.jc_text.specs.declared.read.commands.BulkName.TheVariants as name
 use Rattle.jc_text.specs.declared.read.commands.Form.TheVariants as form
 use Rattle.jc_text.specs.declared.read.line.BulkLine.TheVariants as bulk
-use Rattle.jc_text.specs.Lines.{form_named, flags_of, takes_words, bare_op, valued_op, bare_of, valued_of, value_alone, replace_if_of, begin_with, is_load_mode, has_load_shape, bulk_takes, keys_of, load_all_of, bulk_of, has_but_shape, left_of, apply_of, apply_fail_of, command_of, shape_of, open_of, reopen_of, set_of, begin_of, number_alone, lone_of, coded_of, process_of, say_of, foreign_of, audit_of, line_of, are_words, parsed, is_plain, is_comment, some_line, read_line}
+use Rattle.jc_text.specs.Lines.{form_named, flags_of, takes_words, bare_op, valued_op, bare_of, valued_of, value_alone, replace_if_of, begin_with, is_load_mode, has_load_shape, bulk_takes, keys_of, load_all_of, bulk_of, has_but_shape, left_of, apply_of, apply_fail_of, command_of, shape_of, open_of, reopen_of, set_of, begin_of, number_alone, lone_of, coded_of, process_of, say_of, foreign_of, audit_of, untold_of, line_of, are_words, parsed, is_plain, is_comment, some_line, read_line}
 use Rattle.jc_text.proofs.ReadProcess.{SaysSource, source_read, SaysCalls, calls_read}
 use Rattle.jc_text.proofs.Given.{ok_bind, ok_then, ok_if, ok_unless, ok_since, ok_word, ok_weaker}
 use Rattle.jc_text.proofs.AreKeyWords.{SaysKeys, keys_read}
@@ -138,6 +138,7 @@ form_read w =
     (ok_word w (codes "replace") _ _ SaysForm (valued_said valued.Replace _ (λ value known. known) (λ key value. refl))
     (ok_word w (codes "replaceif") _ _ SaysForm replace_if_said
     (ok_word w (codes "getreplace") _ _ SaysForm (valued_said valued.GetReplace _ (λ value known. known) (λ key value. refl))
+    (ok_word w (codes "forget") _ _ SaysForm (bare_said bare.Forget _ tt (λ key. refl))
     (ok_word w (codes "invoke") _ _ SaysForm (bare_said bare.Invoke _ tt (λ key. refl))
     (ok_word w (codes "getall") _ _ SaysForm (bulk_said name.GetAll _ (keys_said bulk.GetAll _ (λ keys known. (known, refl))))
     (ok_word w (codes "putall") _ _ SaysForm (bulk_said name.PutAll _ pairs_said)
@@ -145,7 +146,7 @@ form_read w =
     (ok_word w (codes "removeevery") _ _ SaysForm (bulk_said name.RemoveEvery _ (λ words shaped. (tt, ap (λ behind. codes "removeevery" ∷ behind) (no_words words shaped))))
     (ok_word w (codes "clear") _ _ SaysForm (bulk_said name.Clear _ (λ words shaped. (tt, ap (λ behind. codes "clear" ∷ behind) (no_words words shaped))))
     (ok_word w (codes "loadall") _ _ SaysForm (bulk_said name.LoadAll _ load_said)
-    (ok_word w (codes "invokeall") _ (Err BadLine) SaysForm (bulk_said name.InvokeAll _ (keys_said bulk.InvokeAll _ (λ keys known. (known, refl)))) tt))))))))))))))))))
+    (ok_word w (codes "invokeall") _ (Err BadLine) SaysForm (bulk_said name.InvokeAll _ (keys_said bulk.InvokeAll _ (λ keys known. (known, refl)))) tt)))))))))))))))))))
 
 -- 2. Lines.
 
@@ -281,6 +282,10 @@ audit_read : (words : List (List ℕ)) → IfOk (audit_of words) (SaysLine (code
 audit_read [] = (tt, refl)
 audit_read (x ∷ more) = tt
 
+untold_read : (words : List (List ℕ)) → IfOk (untold_of words) (SaysLine (codes "untold" ∷ words))
+untold_read [] = (tt, refl)
+untold_read (x ∷ more) = tt
+
 line_read : (w : List ℕ) (words : List (List ℕ)) → IfOk (line_of w words) (SaysLine (w ∷ words))
 line_read w words =
     let P : List ℕ → Line → Type 0 = λ first. SaysLine (first ∷ words) in
@@ -291,7 +296,8 @@ line_read w words =
     (ok_word w (codes "more") _ _ P (lone_read More _ words tt (λ call. refl)) (ok_word w (codes "take") _ _ P (lone_read Take _ words tt (λ call. refl))
     (ok_word w (codes "say") _ _ P (say_read words) (ok_word w (codes "readfail") _ _ P (coded_read ReadFail _ words (λ code known. known) (λ call code. refl))
     (ok_word w (codes "applyfail") _ _ P (apply_fail_read words) (ok_word w (codes "applylie") _ _ P (coded_read ApplyLie _ words (λ code known. known) (λ call code. refl))
-    (ok_word w (codes "process") _ _ P (process_read words) (ok_word w (codes "reopen") _ (Err BadLine) P (reopen_read words) tt))))))))))))))))
+    (ok_word w (codes "process") _ _ P (process_read words) (ok_word w (codes "reopen") _ _ P (reopen_read words)
+    (ok_word w (codes "untold") _ (Err BadLine) P (untold_read words) tt)))))))))))))))))
 
 parsed_read : (words : List (List ℕ)) → IfOk (parsed words) (SaysLine words)
 unfolding parsed

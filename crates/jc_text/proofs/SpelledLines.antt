@@ -1,5 +1,5 @@
 -- Lines that are spelled are read as what they say.
-use Rattle.jc_text.proofs.Common.{◌≡◌, ℕ, ◌≤◌, Bool, true, false, List, [], ◌∷◌, ◌++◌, length, map, Option, None, Some, Ok, refl, sym, ap, subst, decimal, codes, All, and_from, lt-ltb, le-leb, length-map, Bytes, Config, Form, Op, Line, Open, Set, Begin, BeginBulk, OfCall, Foreign, Reopen, Audit, BulkLine, ScriptAct, Read, ReadFail, Say, Apply, ApplyFail, ApplyLie, End, Drop, More, Take, Process, source_words, call_text, fail_words, ◌>>=◌, Pairs, value_text, value_or_none_text, IsNumber, IsShape, IsSession, IsKey, IsValue, IsValueOrNone, IsPair, AreKeyWords, AreLeftKeys, HasKeys, IsOperation, IsAct, LinesReadBack, spelling, session_text, pair_text, flag_words, shape_words, operation_words, load_word, bulk_words, left_words}
+use Rattle.jc_text.proofs.Common.{◌≡◌, ℕ, ◌≤◌, Bool, true, false, List, [], ◌∷◌, ◌++◌, length, map, Option, None, Some, Ok, refl, sym, ap, subst, decimal, codes, All, and_from, lt-ltb, le-leb, length-map, Bytes, Config, Form, Op, Line, Open, Set, Begin, BeginBulk, OfCall, Foreign, Reopen, Audit, Untold, BulkLine, ScriptAct, Read, ReadFail, Say, Apply, ApplyFail, ApplyLie, End, Drop, More, Take, Process, source_words, call_text, fail_words, ◌>>=◌, Pairs, value_text, value_or_none_text, IsNumber, IsShape, IsSession, IsKey, IsValue, IsValueOrNone, IsPair, AreKeyWords, AreLeftKeys, HasKeys, IsOperation, IsAct, LinesReadBack, spelling, session_text, pair_text, flag_words, shape_words, operation_words, load_word, bulk_words, left_words}
 use Rattle.jc_text.specs.declared.read.commands.BulkName.TheVariants as name
 use Rattle.jc_text.specs.declared.read.commands.Form.TheVariants as form
 use Rattle.jc_model.specs.declared.event.Op.TheVariants as op
@@ -67,7 +67,7 @@ operation_word op.GetAndRemove key o k = and_from _ _ (text_word _ key k) refl
 operation_word (op.Replace value) key o k = and_from _ _ (text_word _ key k) (and_from _ _ (value_word value o) refl)
 operation_word (op.ReplaceIf old value) key o k = and_from _ _ (text_word _ key k) (and_from _ _ (value_word old o.0) (and_from _ _ (value_word value o.1) refl))
 operation_word (op.GetAndReplace value) key o k = and_from _ _ (text_word _ key k) (and_from _ _ (value_word value o) refl)
-operation_word op.Clear key o k = absurd o
+operation_word op.Clear key o k = and_from _ _ (text_word _ key k) refl
 operation_word (op.LoadAll replace) key o k = absurd o
 operation_word op.Invoke key o k = and_from _ _ (text_word _ key k) refl
 
@@ -92,7 +92,7 @@ begin_back call session (op.Replace value) key n s o k = begin_asks call session
 begin_back call session (op.ReplaceIf old value) key n s o k =
     begin_asks call session (codes "replaceif") (key ∷ value_text old ∷ value_text value ∷ []) _ _ n s refl refl (ap (begin_with call session) (replace_if_back key old value k o.0 o.1))
 begin_back call session (op.GetAndReplace value) key n s o k = begin_asks call session (codes "getreplace") (key ∷ value_text value ∷ []) _ _ n s refl refl (ap (begin_with call session) (valued_back op.GetAndReplace key value k o))
-begin_back call session op.Clear key n s o k = absurd o
+begin_back call session op.Clear key n s o k = begin_asks call session (codes "forget") (key ∷ []) _ _ n s refl refl (ap (begin_with call session) (bare_back op.Clear key k))
 begin_back call session (op.LoadAll replace) key n s o k = absurd o
 begin_back call session op.Invoke key n s o k = begin_asks call session (codes "invoke") (key ∷ []) _ _ n s refl refl (ap (begin_with call session) (bare_back op.Invoke key k))
 
@@ -218,3 +218,4 @@ line_back (Foreign key value) known =
 line_back (Reopen config) known =
     line_of_words (codes "reopen") (shape_words config) _ refl (shape_are_words config known.0) known.1 (ap (λ r. r >>= λ config. Ok (Reopen config)) (shape_back config known.0))
 line_back Audit known = line_of_words (codes "audit") [] Audit refl refl known.1 refl
+line_back Untold known = line_of_words (codes "untold") [] Untold refl refl known.1 refl

@@ -26,7 +26,8 @@
 --     left_of                       the keys that the writer leaves, if `but` is there
 --     apply_of, apply_fail_of       what the words after `apply` and `applyfail` ask for
 --     process_of                    what the words after `process` ask for
---     say_of, foreign_of, audit_of      what the words after `say`, `foreign` and `audit` ask for
+--     say_of, foreign_of            what the words after `say` and `foreign` ask for
+--     audit_of, untold_of           what the words after `audit` and `untold` ask for: there are none
 --     line_of                       what a first word and the words after it ask for
 --     are_words                     no two spaces are next to each other, and none at either end: no word is empty
 --     parsed                        what the words of a line ask for
@@ -48,7 +49,7 @@ use Rattle.jc_text.specs.declared.fault.Fault.TheVariants.{LineTooLong, BadByte,
 use Rattle.jc_text.specs.declared.fault.ReadError.{ReadError}
 use Rattle.jc_text.specs.declared.fault.ReadError.TheVariants as errors
 use Rattle.jc_text.specs.declared.read.line.Line.{Line}
-use Rattle.jc_text.specs.declared.read.line.Line.TheVariants.{Open, Set, Begin, BeginBulk, OfCall, Foreign, Reopen, Audit}
+use Rattle.jc_text.specs.declared.read.line.Line.TheVariants.{Open, Set, Begin, BeginBulk, OfCall, Foreign, Reopen, Audit, Untold}
 use Rattle.jc_text.specs.declared.read.line.BulkLine.{BulkLine}
 use Rattle.jc_text.specs.declared.read.line.BulkLine.TheVariants as bulk
 use Rattle.jc_text.specs.declared.read.line.ScriptAct.{ScriptAct}
@@ -100,6 +101,7 @@ form_named word =
     if bytes_eq word (codes "replace") then Ok (form.Valued valued.Replace) else
     if bytes_eq word (codes "replaceif") then Ok form.ReplaceIf else
     if bytes_eq word (codes "getreplace") then Ok (form.Valued valued.GetReplace) else
+    if bytes_eq word (codes "forget") then Ok (form.Bare bare.Forget) else
     if bytes_eq word (codes "invoke") then Ok (form.Bare bare.Invoke) else
     if bytes_eq word (codes "getall") then Ok (form.Bulk name.GetAll) else
     if bytes_eq word (codes "putall") then Ok (form.Bulk name.PutAll) else
@@ -145,7 +147,7 @@ takes_words (form.Valued v) words = length words == 2
 takes_words form.ReplaceIf words = length words == 3
 takes_words (form.Bulk n) words = bulk_takes n words
 
--- the keys of a call of many keys have none of their own
+-- the keys of a `loadall` have none of their own
 abbrev pub op_name : Op → Option Bytes
 op_name op.Get = Some (codes "get")
 op_name op.ContainsKey = Some (codes "contains")
@@ -158,7 +160,7 @@ op_name op.GetAndRemove = Some (codes "getremove")
 op_name (op.Replace value) = Some (codes "replace")
 op_name (op.ReplaceIf old value) = Some (codes "replaceif")
 op_name (op.GetAndReplace value) = Some (codes "getreplace")
-op_name op.Clear = None
+op_name op.Clear = Some (codes "forget")
 op_name (op.LoadAll replace) = None
 op_name op.Invoke = Some (codes "invoke")
 
@@ -167,6 +169,7 @@ bare_op bare.Get = op.Get
 bare_op bare.Contains = op.ContainsKey
 bare_op bare.Remove = op.Remove
 bare_op bare.GetRemove = op.GetAndRemove
+bare_op bare.Forget = op.Clear
 bare_op bare.Invoke = op.Invoke
 
 abbrev pub valued_op : Valued → Bytes → Op
@@ -353,6 +356,10 @@ abbrev pub audit_of : List (List ℕ) → Result Line Fault
 audit_of [] = Ok Audit
 audit_of (x ∷ more) = Err BadLine
 
+abbrev pub untold_of : List (List ℕ) → Result Line Fault
+untold_of [] = Ok Untold
+untold_of (x ∷ more) = Err BadLine
+
 abbrev pub line_of : List ℕ → List (List ℕ) → Result Line Fault
 line_of first words =
     if bytes_eq first (codes "begin") then begin_of words else
@@ -372,6 +379,7 @@ line_of first words =
     if bytes_eq first (codes "applylie") then coded_of ApplyLie words else
     if bytes_eq first (codes "process") then process_of words else
     if bytes_eq first (codes "reopen") then reopen_of words else
+    if bytes_eq first (codes "untold") then untold_of words else
     Err BadLine
 
 -- no two spaces together, and none at either end

@@ -118,7 +118,7 @@ bad_in_line search first words =
     bad_among search (kind.First ∷ kind.Number ∷ kind.Number ∷ kind.Number ∷ kind.Flag ∷ kind.Flag ∷ []) kind.Nothing words else
     if bytes_eq first (codes "set") then bad_among search (kind.First ∷ kind.Key ∷ kind.Value ∷ []) kind.Nothing words else
     if bytes_eq first (codes "foreign") then bad_among search (kind.First ∷ kind.Key ∷ kind.ValueOrNone ∷ []) kind.Nothing words else
-    if bytes_eq first (codes "audit") then bad_among search (kind.First ∷ []) kind.Nothing words else
+    if bytes_eq first (codes "audit") || bytes_eq first (codes "untold") then bad_among search (kind.First ∷ []) kind.Nothing words else
     if bytes_eq first (codes "say") then bad_among search (kind.First ∷ kind.Number ∷ []) kind.Pair words else
     if bytes_eq first (codes "apply") then bad_among search (kind.First ∷ kind.Number ∷ kind.But ∷ []) kind.Key words else
     if bytes_eq first (codes "applyfail") then bad_among search (kind.First ∷ kind.Number ∷ kind.Number ∷ kind.But ∷ []) kind.Key words else

@@ -37,7 +37,7 @@ use Rattle.jc_model.specs.Cache.{Bytes}
 use Rattle.jc_model.specs.declared.event.Op.{Op}
 use Rattle.jc_model.specs.Table.{op_values}
 use Rattle.jc_text.specs.declared.read.line.Line.{Line}
-use Rattle.jc_text.specs.declared.read.line.Line.TheVariants.{Open, Set, Begin, BeginBulk, OfCall, Foreign, Reopen, Audit}
+use Rattle.jc_text.specs.declared.read.line.Line.TheVariants.{Open, Set, Begin, BeginBulk, OfCall, Foreign, Reopen, Audit, Untold}
 use Rattle.jc_text.specs.declared.read.line.BulkLine.{BulkLine}
 use Rattle.jc_text.specs.declared.read.line.BulkLine.TheVariants as bulk
 use Rattle.jc_text.specs.declared.read.line.ScriptAct.{ScriptAct}
@@ -147,6 +147,7 @@ line_words (OfCall call act) = act_words call act
 line_words (Foreign key value) = codes "foreign" ∷ key ∷ value_or_none_text value ∷ []
 line_words (Reopen config) = codes "reopen" ∷ shape_words config
 line_words Audit = codes "audit" ∷ []
+line_words Untold = codes "untold" ∷ []
 
 -- the words, separated by single spaces
 abbrev pub spelling : Line → Bytes
@@ -225,6 +226,7 @@ SaysWords (OfCall call act) = IsNumber call × IsAct act
 SaysWords (Foreign key value) = IsKey key × IsValueOrNone value
 SaysWords (Reopen config) = IsShape config
 SaysWords Audit = Unit {0}
+SaysWords Untold = Unit {0}
 
 -- that, in a line that isn't too long
 abbrev pub IsSpellable : Line → Type 0

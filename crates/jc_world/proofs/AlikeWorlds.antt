@@ -1,6 +1,6 @@
 -- Worlds that are alike show the same of an event, and are alike behind it.
-use Rattle.std.proofs.Common.{◌≡◌, ℕ, zero, suc, List, [], ◌∷◌, ◌++◌, map, Bool, true, false, Option, None, Some, option_map, slice_get, slice_set, if◌then◌else◌, sym, refl, ap, ◌∙◌, subst, inl, inr}
-use Rattle.jc_world.proofs.Common.{keys_of, Caller, Config, WriterFailed, Op, Event, WriteAnswer, Bytes, entry_at, with_entry, by_use, AreKeys, State, JoinClaim, Played, WorldEvent, Outcome, Shown, Part, new_call, WorldState, start, home, part_of, out_of_part, waits_for_report, read_answer, report_for, load_from, opens_coherent, with_foreign_write, fits}
+use Rattle.std.proofs.Common.{◌≡◌, ℕ, zero, suc, List, [], ◌∷◌, ◌++◌, map, Bool, true, false, Option, None, Some, is_none, option_map, slice_get, slice_set, if◌then◌else◌, sym, refl, ap, ◌∙◌, subst, inl, inr}
+use Rattle.jc_world.proofs.Common.{Again, Change, Joins, Stepped, entries, keys_of, Caller, Config, WriterFailed, Op, Event, WriteAnswer, Bytes, entry_at, with_entry, by_use, AreKeys, State, JoinClaim, Played, WorldEvent, Outcome, Shown, Part, new_call, WorldState, start, home, part_of, out_of_part, waits_for_report, read_answer, report_for, load_from, opens_coherent, opens_as_told, with_foreign, without_foreign, with_doubt, is_misled, is_agreed, Refusal, entry_in, PartProgress, Reservation, fits}
 use Rattle.std.specs.List.Sorted.{IsPermutation}
 use Rattle.jc_stripe.specs.Reopening.{all_entries}
 use Rattle.jc_stripe.specs.Outcomes as begun
@@ -8,7 +8,7 @@ use Rattle.jc_stripe.specs.Polled as polled
 use Rattle.jc_stripe.specs.Reopening.{dropped, opened_stripes}
 use Rattle.jc_world.specs.declared.event.WorldEvent.TheVariants as event
 use Rattle.jc_world.specs.declared.event.Outcome.TheVariants as outcome
-use Rattle.jc_world.specs.Events.{Happens, Step, Run, StartsAs, Ends, Picks, with_call, with_look, after_answer, after_change, after_process, run_result, after_report, after_reports, reported_at, with_met_by, keys_reported, reported_now, with_stripe, with_phase, with_settled, fault_in, new_progress, with_new_part, with_join, without_part, without_join, without_call, over_by, step_of, after_reopening, not_over}
+use Rattle.jc_world.specs.Events.{Happens, Step, Run, StartsAs, Ends, Picks, with_call, with_look, after_answer, after_change, after_process, run_result, after_report, after_reports, reported_at, with_met_by, keys_reported, reported_now, with_stripe, with_phase, with_settled, fault_in, new_progress, with_new_part, with_join, without_part, with_commit, without_join, without_call, over_by, step_of, foreign_reopened, after_reopening, not_over}
 use Rattle.jc_world.specs.Alike.{IsLike, AreLike, WorldsAlike}
 use Rattle.jc_world.proofs.Facts.{none_some, some_back}
 use Rattle.jc_world.proofs.AlikeStripes.{begins-like, commits-like, withdraws-like, picks-like, like-refl}
@@ -52,7 +52,22 @@ worlds-refl w = record { is = refl; alike = are_like-refl w.stripes }
 alike-as : (n x m : WorldState) → n ≡ x → m ≡ with_past x m.stripes m.order → AreLike x.stripes m.stripes → WorldsAlike n m
 alike-as n x m is past like = subst (λ (y : WorldState). WorldsAlike y m) (sym is) (record { is = past; alike = like })
 
+-- what is cached in alike stripes is the same
+like-entry : (ss ts : List State) (i : ℕ) (key : Bytes) → AreLike ss ts → entry_in (slice_get ts i) key ≡ entry_in (slice_get ss i) key
+like-entry [] [] i key h = refl
+like-entry [] (t ∷ ts) i key h = absurd h
+like-entry (s ∷ ss) [] i key h = absurd h
+like-entry (s ∷ ss) (t ∷ ts) zero key h = ap (λ (x : State). entry_at x.cache key) h.0.is
+like-entry (s ∷ ss) (t ∷ ts) (suc i) key h = like-entry ss ts i key h.1
+
 -- 3. First phases, last phases and pick-ups.
+
+-- so a reserved key is forgotten in both or in none
+part-past : (w : WorldState) (ss : List State) (o : List Event) (key : Bytes) (to new : State) (p : PartProgress) (r : Reservation) → AreLike w.stripes ss
+    → with_new_part (with_past w ss o) key new p r ≡ with_past (with_new_part w key to p r) (with_new_part (with_past w ss o) key new p r).stripes (with_new_part (with_past w ss o) key new p r).order
+part-past w ss o key to new p r alike =
+    let m : WorldState = with_new_part (with_past w ss o) key new p r in
+    ap (λ (e : Option Bytes). record m { foreign = without_foreign w.foreign key (is_none e) }) (like-entry w.stripes ss (home w key) key alike)
 
 starts-past : (w n : WorldState) (ss : List State) (o : List Event) (caller : Caller) (key : Bytes) (op : Op) (from to b : State) (x : Outcome)
     → AreLike w.stripes ss → IsLike from b → StartsAs w caller key op from to x n
@@ -71,28 +86,35 @@ starts-past w n ss o caller key op from to b (outcome.Stepped seen) alike like o
 starts-past w n ss o caller key op from to b outcome.Loads alike like one =
     let made = begins-like from b to caller key op (begun.Asks one.0) like one.1 in
     let m : WorldState = with_new_part (with_past w ss o) key made.0 (new_progress one.0.reservation.first) one.0.reservation in
-    (m, made.0, (one.0, made.1, one.2, refl), alike-as n (with_new_part w key to (new_progress one.0.reservation.first) one.0.reservation) m one.3 refl (like-set w.stripes ss (home w key) to made.0 alike made.2))
+    (m, made.0, (one.0, made.1, one.2, refl), alike-as n (with_new_part w key to (new_progress one.0.reservation.first) one.0.reservation) m one.3 (part-past w ss o key to made.0 (new_progress one.0.reservation.first) one.0.reservation alike) (like-set w.stripes ss (home w key) to made.0 alike made.2))
 starts-past w n ss o caller key op from to b (outcome.Asks change) alike like one =
     let made = begins-like from b to caller key op (begun.Asks one.0) like one.1 in
     let m : WorldState = with_new_part (with_past w ss o) key made.0 (new_progress one.0.reservation.first) one.0.reservation in
-    (m, made.0, (one.0, made.1, one.2, refl), alike-as n (with_new_part w key to (new_progress one.0.reservation.first) one.0.reservation) m one.3 refl (like-set w.stripes ss (home w key) to made.0 alike made.2))
+    (m, made.0, (one.0, made.1, one.2, refl), alike-as n (with_new_part w key to (new_progress one.0.reservation.first) one.0.reservation) m one.3 (part-past w ss o key to made.0 (new_progress one.0.reservation.first) one.0.reservation alike) (like-set w.stripes ss (home w key) to made.0 alike made.2))
 starts-past w n ss o caller key op from to b (outcome.Processes entry) alike like one =
     let made = begins-like from b to caller key op (begun.Asks one.0) like one.1 in
     let m : WorldState = with_new_part (with_past w ss o) key made.0 (new_progress one.0.reservation.first) one.0.reservation in
-    (m, made.0, (one.0, made.1, one.2, refl), alike-as n (with_new_part w key to (new_progress one.0.reservation.first) one.0.reservation) m one.3 refl (like-set w.stripes ss (home w key) to made.0 alike made.2))
+    (m, made.0, (one.0, made.1, one.2, refl), alike-as n (with_new_part w key to (new_progress one.0.reservation.first) one.0.reservation) m one.3 (part-past w ss o key to made.0 (new_progress one.0.reservation.first) one.0.reservation alike) (like-set w.stripes ss (home w key) to made.0 alike made.2))
 starts-past w n ss o caller key op from to b outcome.Joins alike like one =
     let made = begins-like from b to caller key op (begun.Joined one.0) like one.1 in
     let m : WorldState = with_join (with_stripe (with_past w ss o) key made.0) one.0 in
     (m, made.0, (one.0, made.1, refl), alike-as n (with_join (with_stripe w key to) one.0) m one.2 refl (like-set w.stripes ss (home w key) to made.0 alike made.2))
 starts-past w n ss o caller key op from to b x alike like one = absurd one
 
+-- of stripes that are alike, what a commit leaves is the store's in both or in none
+commit-past : (w : WorldState) (ss : List State) (o : List Event) (key : Bytes) (part : Part) (from to b new : State) (call : ℕ) (met : Option Refusal) → IsLike to new
+    → with_commit (with_past w ss o) key part b new call met ≡ with_past (with_commit w key part from to call met) (with_commit (with_past w ss o) key part b new call met).stripes (with_commit (with_past w ss o) key part b new call met).order
+commit-past w ss o key part from to b new call met like =
+    let m : WorldState = with_commit (with_past w ss o) key part b new call met in
+    ap (λ (e : Option Bytes). record m { foreign = without_foreign (with_doubt w.foreign key (is_misled part)) key (is_agreed e (entry_at w.store key)) }) (ap (λ (x : State). entry_at x.cache key) like.is)
+
 ends-past : (w n : WorldState) (ss : List State) (o : List Event) (call : ℕ) (key : Bytes) (part : Part) (from to b : State) (x : Outcome)
     → AreLike w.stripes ss → IsLike from b → Ends w call key part from to x n
     → (m : WorldState) × (new : State) × Ends (with_past w ss o) call key part b new x m × WorldsAlike n m
 ends-past w n ss o call key part from to b (outcome.Stepped seen) alike like one =
     let made = commits-like from b to part.reservation (out_of_part part) (step_of seen) like one.0 in
-    let m : WorldState = without_part (with_settled (with_phase (with_past w ss o) key b made.0) call key (fault_in seen.reply)) key in
-    (m, made.0, (made.1, one.1, refl), alike-as n (without_part (with_settled (with_phase w key from to) call key (fault_in seen.reply)) key) m one.2 refl (like-set w.stripes ss (home w key) to made.0 alike made.2))
+    let m : WorldState = with_commit (with_past w ss o) key part b made.0 call (fault_in seen.reply) in
+    (m, made.0, (made.1, one.1, refl), alike-as n (with_commit w key part from to call (fault_in seen.reply)) m one.2 (commit-past w ss o key part from to b made.0 call (fault_in seen.reply) made.2) (like-set w.stripes ss (home w key) to made.0 alike made.2))
 ends-past w n ss o call key part from to b x alike like one = absurd one
 
 picks-world : (w n : WorldState) (ss : List State) (o : List Event) (call : ℕ) (key : Bytes) (join : JoinClaim) (from to b : State) (x : Outcome)
@@ -144,7 +166,7 @@ fits-same w ss o (event.Call call session command) = refl
 fits-same w ss o e = refl
 
 abbrev after_foreign : WorldState → Bytes → Option Bytes → WorldState
-after_foreign w key value = record w { store = with_entry w.store key value; premises = with_foreign_write w.premises; is_fresh = false }
+after_foreign w key value = record w { store = with_entry w.store key value; foreign = with_foreign w.foreign key; is_fresh = false }
 
 abbrev map_keys : List (Bytes × Bytes) → List Bytes
 map_keys entries = map (λ entry. entry.0) entries
@@ -154,8 +176,9 @@ reopened_from config w es =
     record (start config) {
       stripes = opened_stripes config Played es 0 config.stripes;
       store = w.store;
+      foreign = foreign_reopened w.foreign (opens_coherent w.store (opened_stripes config Played es 0 config.stripes));
       last = w.last;
-      premises = record { writers = true; loaders = true; quiet = true; opening = opens_coherent w.store (opened_stripes config Played es 0 config.stripes) };
+      premises = record { writers = true; loaders = true; opening = opens_as_told w.foreign w.store (opened_stripes config Played es 0 config.stripes) };
       is_fresh = false;
     }
 

@@ -57,10 +57,10 @@ calls_same w n calls last order served fit =
     calls_all w n calls (λ u h. fits_same w n u last order (λ q op is. served u.caller q) h) fit
 
 -- the stripes, the order and the last number are the same: the calls fit, and each reservation is owned as before
-pub order_beside : (w : WorldState) (calls : List CallState) (parts : Parts) (store : Cache) (premises : Premises) (fresh : Bool) → CallsFit (record w { calls = calls; parts = parts; store = store; premises = premises; is_fresh = fresh }) calls
-    → ((r : Reservation) → IsOwned w r → IsOwned (record w { calls = calls; parts = parts; store = store; premises = premises; is_fresh = fresh }) r) → IsSoundWorld w → HasOrder (record w { calls = calls; parts = parts; store = store; premises = premises; is_fresh = fresh })
-order_beside w calls parts store premises fresh fit owned old =
-    let new : WorldState = record w { calls = calls; parts = parts; store = store; premises = premises; is_fresh = fresh } in
+pub order_beside : (w : WorldState) (calls : List CallState) (parts : Parts) (store foreign : Cache) (premises : Premises) (fresh : Bool) → CallsFit (record w { calls = calls; parts = parts; store = store; foreign = foreign; premises = premises; is_fresh = fresh }) calls
+    → ((r : Reservation) → IsOwned w r → IsOwned (record w { calls = calls; parts = parts; store = store; foreign = foreign; premises = premises; is_fresh = fresh }) r) → IsSoundWorld w → HasOrder (record w { calls = calls; parts = parts; store = store; foreign = foreign; premises = premises; is_fresh = fresh })
+order_beside w calls parts store foreign premises fresh fit owned old =
+    let new : WorldState = record w { calls = calls; parts = parts; store = store; foreign = foreign; premises = premises; is_fresh = fresh } in
     record {
       shape = shape_same w new refl refl refl old.shape;
       order = old.order;
@@ -70,8 +70,8 @@ order_beside w calls parts store premises fresh fit owned old =
     }
 
 -- the store changes
-pub order_stored : (w : WorldState) (store : Cache) (premises : Premises) (fresh : Bool) → IsSoundWorld w → HasOrder (record w { store = store; premises = premises; is_fresh = fresh })
-order_stored w store premises fresh old = order_beside w w.calls w.parts store premises fresh (calls_same w (record w { store = store; premises = premises; is_fresh = fresh }) w.calls refl refl (λ c q h. h) old.calls) (λ r h. record { part = h.part; call = h.call }) old
+pub order_stored : (w : WorldState) (store foreign : Cache) (premises : Premises) (fresh : Bool) → IsSoundWorld w → HasOrder (record w { store = store; foreign = foreign; premises = premises; is_fresh = fresh })
+order_stored w store foreign premises fresh old = order_beside w w.calls w.parts store foreign premises fresh (calls_same w (record w { store = store; foreign = foreign; premises = premises; is_fresh = fresh }) w.calls refl refl (λ c q h. h) old.calls) (λ r h. record { part = h.part; call = h.call }) old
 
 -- a key's part stays, of the same call
 pub owned_part : (parts : Parts) (key q : Bytes) (part : Part) (call : ℕ) → IsSomeAnd (get parts q) (λ p. p.reservation.caller.call ≡ call) → (q ≡ key → part.reservation.caller.call ≡ call) → IsSomeAnd (get (insert parts key part) q) (λ p. p.reservation.caller.call ≡ call)
@@ -80,12 +80,28 @@ owned_part parts key q part call h here =
     subst P (sym (get-insert nat_list_cmp_total parts key part q))
     (split q key (λ b. P (cond b (Some part) (get parts q))) here (λ apart. h))
 
+-- which keys are in doubt says nothing of it
+pub order_foreign : (v : WorldState) (foreign : Cache) → HasOrder v → HasOrder (record v { foreign = foreign })
+order_foreign v foreign h =
+    let new : WorldState = record v { foreign = foreign } in
+    record {
+      shape = record {
+        config_fits = h.shape.config_fits;
+        count = h.shape.count;
+        each = λ n s at. let x = h.shape.each n s at in record { config_is = x.config_is; number_is = x.number_is; origin_is = x.origin_is; ended_is = x.ended_is; reached = x.reached; share = x.share };
+      };
+      order = h.order;
+      numbers = h.numbers;
+      calls = calls_same v new v.calls refl refl (λ c q h. h) h.calls;
+      owned = λ n s at. each_map (IsOwned v) (IsOwned new) s.reservations (λ r o. record { part = o.part; call = o.call }) (h.owned n s at);
+    }
+
 -- a key's part stays
-pub order_parted : (w : WorldState) (key : Bytes) (old part : Part) (premises : Premises) (store : Cache) → get w.parts key ≡ Some old → part.reservation.caller.call ≡ old.reservation.caller.call → IsSoundWorld w
-    → HasOrder (record w { parts = insert w.parts key part; premises = premises; store = store })
-order_parted w key old part premises store there same was =
-    let new : WorldState = record w { parts = insert w.parts key part; premises = premises; store = store } in
-    order_beside w w.calls (insert w.parts key part) store premises w.is_fresh (calls_same w new w.calls refl refl (λ c q h. h) was.calls)
+pub order_parted : (w : WorldState) (key : Bytes) (old part : Part) (premises : Premises) (store foreign : Cache) → get w.parts key ≡ Some old → part.reservation.caller.call ≡ old.reservation.caller.call → IsSoundWorld w
+    → HasOrder (record w { parts = insert w.parts key part; premises = premises; store = store; foreign = foreign })
+order_parted w key old part premises store foreign there same was =
+    let new : WorldState = record w { parts = insert w.parts key part; premises = premises; store = store; foreign = foreign } in
+    order_beside w w.calls (insert w.parts key part) store foreign premises w.is_fresh (calls_same w new w.calls refl refl (λ c q h. h) was.calls)
     (λ r h. record {
       part = owned_part w.parts key r.key part r.caller.call h.part (λ e.
           let found = some_of (get w.parts r.key) (λ p. p.reservation.caller.call ≡ r.caller.call) h.part in

@@ -2,7 +2,7 @@
 --     order_key                       after each kind of change at a key
 --     order_happens, order_opened     after any event that fits, and after an entry of the store's opening
 --     order_is, has_shares            the order is one legal history over all stripes, and each stripe's history is its part of it
-use Rattle.jc_world.proofs.Common.{◌≡◌, ℕ, zero, suc, ◌+◌, ◌%◌, ◌<◌, Bool, true, false, cond, not, ◌&&◌, ◌||◌, ◌⊎◌, List, [], ◌∷◌, ◌++◌, length, is_none, IsSomeAnd, nat_lt, ◌==◌, slice_get, slice_set, Some, None, sum, Option, option_map, find, sym, refl, ap, ◌∙◌, subst, inl, inr, arith, not-true, eqb-true, and_parts, false_from_ne_true, nat_list_cmp_total, nat_list_eq_equiv, eq_by_cmp_equiv, pointwise, texts_ties, get, insert, remove, get-insert, get-remove, list_all, eq_by_cmp, all_imply, Caller, Config, Refusal, Bytes, Cache, key_cmp, nothing_said, events_of, of_stripe, IsHistory, IsOpening, Op, Get, Out, belongs_to, is_waiting, waits_for, callers_of, after_resolve, JoinState, Again, Answered, Waiting, Joiner, StaysReached, IsSameStripe, Extends, may_come_all, new_group, Steps, with_joiner, Begins, after_commit, Commits, Withdraws, without_joiner, PicksUp, JoinFits, IsReached, State, is_of, is_key, is_reserved, with_reservation, without_key, IsOut, JoinClaim, Begun, Polled, StepDone, Reservation, Part, Premises, PartProgress, Shown, WorldEvent, cache_at, opening_at, IsOrder, HasShares, SweepState, CallState, has_number, op_at, op_for, open_keys, going_on, with_met, replaced, settle, drop_call, with_swept_keys, with_stripe, with_phase, step_of, fault_in, with_settled, with_met_by, without_call, with_look, new_part, with_part, without_part, with_join, without_join, Happens, is_free, may_leave, fits, IsWorldStripe, is_up_to, is_answered, has_parked_answer, is_served_in, is_served, FitsCall, CallsFit, Each, IsHeld, IsCallOf, IsOwned, AllOwned, IsCalled, IsSoundWorld, Parts, Joins, WorldState, home, stripe_for, open_call, part_of, out_of_part, join_of, is_joined, with_stored}
+use Rattle.jc_world.proofs.Common.{◌≡◌, ℕ, zero, suc, ◌+◌, ◌%◌, ◌<◌, Bool, true, false, cond, not, ◌&&◌, ◌||◌, ◌⊎◌, List, [], ◌∷◌, ◌++◌, length, is_none, IsSomeAnd, nat_lt, ◌==◌, slice_get, slice_set, Some, None, sum, Option, option_map, find, sym, refl, ap, ◌∙◌, subst, inl, inr, arith, not-true, eqb-true, and_parts, false_from_ne_true, nat_list_cmp_total, nat_list_eq_equiv, eq_by_cmp_equiv, pointwise, texts_ties, get, insert, remove, get-insert, get-remove, list_all, eq_by_cmp, all_imply, Caller, Config, Refusal, Bytes, Cache, key_cmp, nothing_said, events_of, of_stripe, IsHistory, IsOpening, Op, Get, Out, belongs_to, is_waiting, waits_for, callers_of, after_resolve, JoinState, Again, Answered, Waiting, Joiner, StaysReached, IsSameStripe, Extends, may_come_all, new_group, Steps, with_joiner, Begins, after_commit, Commits, Withdraws, without_joiner, PicksUp, JoinFits, IsReached, State, is_of, is_key, is_reserved, with_reservation, without_key, IsOut, JoinClaim, Begun, Polled, StepDone, Reservation, Part, Premises, PartProgress, Shown, WorldEvent, cache_at, opening_at, IsOrder, HasShares, SweepState, CallState, has_number, op_at, op_for, open_keys, going_on, with_met, replaced, settle, drop_call, with_swept_keys, with_stripe, with_phase, step_of, fault_in, with_settled, with_met_by, without_call, with_look, new_part, without_part, foreign_committed, with_join, without_join, Happens, is_free, may_leave, fits, IsWorldStripe, is_up_to, is_answered, has_parked_answer, is_served_in, is_served, FitsCall, CallsFit, Each, IsHeld, IsCallOf, IsOwned, AllOwned, IsCalled, IsSoundWorld, Parts, Joins, WorldState, home, stripe_for, open_call, part_of, out_of_part, join_of, is_joined, with_stored, with_new_part}
 use Rattle.jc_world.proofs.Numbered.{some_of}
 use Rattle.jc_inflight.specs.Taking.{joiners_without as without}
 use Rattle.jc_world.proofs.Halves.{HasOrder, order_half}
@@ -15,7 +15,7 @@ use Rattle.jc_world.proofs.Looked.{Taken, taken_of, taken_met, taken_on, calls_t
 use Rattle.jc_world.proofs.Settling.{open_now, Left, done_for, still_called, calls_settled}
 use Rattle.jc_world.proofs.LoadKeys.{key_of_load, each_fits}
 use Rattle.jc_world.proofs.Joiners.{joiner_of, unanswered, told_resolved, told_waiting, told_dissolved, told_pushed, find_kept, each_own, each_caller, each_both, join_at, joined_no_part}
-use Rattle.jc_world.proofs.Beginning.{unless, fits_left, fits_same, fits_taken, calls_same, order_stored, owned_part, order_parted, order_called, MayStart, not_own, apart_or, unserved, begins_with, order_beside}
+use Rattle.jc_world.proofs.Beginning.{unless, fits_left, fits_same, fits_taken, calls_same, order_stored, owned_part, order_foreign, order_parted, order_called, MayStart, not_own, apart_or, unserved, begins_with, order_beside}
 use Rattle.jc_world.proofs.Facts.{same_found, some_back}
 use Rattle.jc_world.proofs.Entries.{tied}
 use Rattle.jc_world.proofs.KeyChanges.{KeyChange, by_answer, by_commit, by_join, by_nothing, by_refusal, by_reservation, by_retry, by_step, by_withdrawal, key_change, may_of}
@@ -39,7 +39,7 @@ order_refused : (w : WorldState) (u : CallState) (key : Bytes) (op : Op) (met : 
 order_refused w u key op met may old =
     let call = u.caller.call in
     let new : WorldState = with_settled w call key met in
-    order_beside w (settle call key met w.calls) w.parts w.store w.premises w.is_fresh
+    order_beside w (settle call key met w.calls) w.parts w.store w.foreign w.premises w.is_fresh
     (calls_settled w new call key met (IsFound w) w.calls (λ x v left found h. fits_left w new call key x v left refl refl (λ q o is k. k) h) (each_found w w.calls old.calls) old.calls)
     (λ r h. record { part = h.part; call = call_kept w call key met r (not_own w call key r may.none h) h }) old
 
@@ -47,7 +47,7 @@ order_refused w u key op met may old =
 order_over : (w : WorldState) (call : ℕ) (u : CallState) → list_all (is_free w call) (open_keys u) ≡ true → open_call w call ≡ Some u → IsSoundWorld w → HasOrder (without_call w call)
 order_over w call u free is old =
     let new : WorldState = without_call w call in
-    order_beside w (drop_call call w.calls) w.parts w.store w.premises w.is_fresh
+    order_beside w (drop_call call w.calls) w.parts w.store w.foreign w.premises w.is_fresh
     (calls_filter w new (is_other call) (IsFound w) w.calls (λ v other found h. fits_same w new v refl refl (λ q o is k. k) h) (each_found w w.calls old.calls) old.calls)
     (λ r h.
     let v = some_of (open_call w r.caller.call) (IsCallOf r.caller.session r.key r.op) h.call in
@@ -208,9 +208,9 @@ free_part w key from part old there free is =
 -- the key is reserved, and has a part
 order_reserved : (w : WorldState) (u : CallState) (key : Bytes) (op : Op) (from to : State) (p : PartProgress) (r : Reservation) → stripe_for w key ≡ Some from → is_reserved from key ≡ false
     → r.caller ≡ u.caller → r.key ≡ key → r.op ≡ op → to ≡ with_reservation from r → IsReached to
-    → MayStart w u key op → IsSoundWorld w → HasOrder (with_part (with_stripe w key to) key (new_part p r))
+    → MayStart w u key op → IsSoundWorld w → HasOrder (with_new_part w key to p r)
 order_reserved w u key op from to p r there free caller_is key_is op_is is reached may old =
-    let new : WorldState = with_part (with_stripe w key to) key (new_part p r) in
+    let new : WorldState = with_new_part w key to p r in
     let at = old.shape.each (home w key) from there in
     let kept : (rs : List Reservation) → AllOwned w rs → AllOwned new rs = λ rs. each_map (IsOwned w) (IsOwned new) rs (λ x h. record {
       part = owned_part w.parts key x.key (new_part p r) x.caller.call h.part (λ e.
@@ -516,7 +516,7 @@ order_taken : (w : WorldState) (call : ℕ) (left : CallState → Option CallSta
     → IsSoundWorld w → HasOrder (record w { calls = replaced call left w.calls })
 order_taken w call left u here taken called old =
     let new : WorldState = record w { calls = replaced call left w.calls } in
-    order_beside w (replaced call left w.calls) w.parts w.store w.premises w.is_fresh
+    order_beside w (replaced call left w.calls) w.parts w.store w.foreign w.premises w.is_fresh
     (calls_taken w new call left u here taken
     (λ x h. fits_same w new x refl refl (λ q op is k. k) h)
     (λ v goes h. fits_taken w new u v (taken v goes) refl refl (λ q op is k. k) h) old.calls)
@@ -538,9 +538,9 @@ order_met w call met u here old = order_taken w call (λ x. Some (with_met met x
 -- 7. An event that fits.
 
 -- a call's part stays
-pub order_part : (w : WorldState) (call : ℕ) (key : Bytes) (old part : Part) (premises : Premises) (store : Cache) → part_of w call key ≡ Some old → part.reservation.caller.call ≡ old.reservation.caller.call → IsSoundWorld w
-    → HasOrder (record w { parts = insert w.parts key part; premises = premises; store = store })
-order_part w call key old part premises store is same was = order_parted w key old part premises store (of_call-at call (get w.parts key) old is).0 same was
+pub order_part : (w : WorldState) (call : ℕ) (key : Bytes) (old part : Part) (premises : Premises) (store foreign : Cache) → part_of w call key ≡ Some old → part.reservation.caller.call ≡ old.reservation.caller.call → IsSoundWorld w
+    → HasOrder (record w { parts = insert w.parts key part; premises = premises; store = store; foreign = foreign })
+order_part w call key old part premises store foreign is same was = order_parted w key old part premises store foreign (of_call-at call (get w.parts key) old is).0 same was
 
 -- the reservation of a part is of its key
 pub part_key : (w : WorldState) (call : ℕ) (key : Bytes) (part : Part) → part_of w call key ≡ Some part → IsSoundWorld w → part.reservation.key ≡ key
@@ -564,7 +564,7 @@ order_key stays w new e key seen (by_join u op from to join start there h is non
 order_key stays w new e key seen (by_commit call part from to x e_is part_is there h home_is is shows) fit old =
     let end = ending_at w call key (fault_in x.reply) part from to (step_of x) part_is there h old in
     let reached = stays.commits from to part.reservation (out_of_part part) (step_of x) (old.shape.each (home w key) from there).reached h in
-    subst HasOrder (sym is) (order_commit w call key (fault_in x.reply) from to old there end reached)
+    subst HasOrder (sym is) (order_foreign (ended_world w key from to call (fault_in x.reply)) (foreign_committed w key part to) (order_commit w call key (fault_in x.reply) from to old there end reached))
 order_key stays w new e key seen (by_withdrawal call part from to e_is part_is there h is shows) fit old = subst HasOrder (sym is) (order_withdrawn stays w key part.reservation from to (part_key w call key part part_is old) there h old)
 order_key stays w new e key seen (by_answer call join from to x e_is join_is there h home_is is shows ends) fit old =
     subst HasOrder (sym is) (order_picked stays w call key (fault_in x.reply) join from to (Polled.Answer x.reply x.place x.shared) join_is there h h.3 old)
@@ -574,19 +574,19 @@ order_key stays w new e key seen (by_retry call join from to e_is join_is there 
 pub order_happens : StaysReached → (w new : WorldState) (e : WorldEvent) (seen : Shown) → fits w e ≡ true → Happens w e seen new → (IsWhole e → IsSoundWorld new) → IsSoundWorld w → HasOrder new
 order_happens stays w new (WorldEvent.Call call session command) seen fit h back old = subst HasOrder (sym h.1) (order_called w call session command fit old)
 order_happens stays w new (WorldEvent.Look call stripe) seen fit h back old = subst HasOrder (sym h.9) (order_looked w call stripe h.6 h.1 h.0 h.2 h.3 old)
-order_happens stays w new (WorldEvent.Read call key) seen fit h back old = subst HasOrder (sym h.3) (order_part w call key h.0 _ _ w.store h.1 refl old)
-order_happens stays w new (WorldEvent.Say call key answer) seen fit h back old = subst HasOrder (sym h.3) (order_part w call key h.0 _ _ w.store h.1 refl old)
-order_happens stays w new (WorldEvent.Process call key source calls fail) seen fit h back old = subst HasOrder (sym h.3) (order_part w call key h.0 _ _ w.store h.1 refl old)
-order_happens stays w new (WorldEvent.Change call key) seen fit h back old = subst HasOrder (sym h.5) (order_part w call key h.0 _ w.premises _ h.2 refl old)
+order_happens stays w new (WorldEvent.Read call key) seen fit h back old = subst HasOrder (sym h.3) (order_part w call key h.0 _ _ w.store w.foreign h.1 refl old)
+order_happens stays w new (WorldEvent.Say call key answer) seen fit h back old = subst HasOrder (sym h.3) (order_part w call key h.0 _ _ w.store w.foreign h.1 refl old)
+order_happens stays w new (WorldEvent.Process call key source calls fail) seen fit h back old = subst HasOrder (sym h.3) (order_part w call key h.0 _ _ w.store w.foreign h.1 refl old)
+order_happens stays w new (WorldEvent.Change call key) seen fit h back old = subst HasOrder (sym h.5) (order_part w call key h.0 _ w.premises _ _ h.2 refl old)
 order_happens stays w new (WorldEvent.Report call left fault) seen fit h back old = order_half new (back tt)
 order_happens stays w new (WorldEvent.Leave call) seen fit h back old = subst HasOrder (sym h.1) (order_left w call fit old)
-order_happens stays w new (WorldEvent.Foreign key value) seen fit h back old = subst HasOrder (sym h.1) (order_stored w _ _ false old)
+order_happens stays w new (WorldEvent.Foreign key value) seen fit h back old = subst HasOrder (sym h.1) (order_stored w _ _ w.premises false old)
 order_happens stays w new (WorldEvent.Reopen config) seen fit h back old = order_half new (back tt)
 order_happens stays w new e seen fit h back old = let k = key_change w new e seen refl h in order_key stays w new e k.0 seen k.1 fit old
 
 -- an entry that the store has from the start
 pub order_opened : (w : WorldState) (key value : Bytes) → IsSoundWorld w → HasOrder (with_stored w key value)
-order_opened w key value old = order_stored w (with_stored w key value).store w.premises w.is_fresh old
+order_opened w key value old = order_stored w (with_stored w key value).store w.foreign w.premises w.is_fresh old
 
 -- 8. The whole history.
 

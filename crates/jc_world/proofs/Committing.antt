@@ -8,7 +8,7 @@
 --     given_if, has_report, no_report
 --                                the writer's report is there if it was asked
 --     answered_failed, due_told  a writer that fails leaves a key of which all is answered, and what was due
-use Rattle.jc_world.proofs.Common.{◌≡◌, Bool, true, false, cond, not, ◌&&◌, is_some, ◌⊎◌, inl, inr, Option, Some, None, sym, refl, ap, ◌∙◌, subst, Config, Bytes, Change, WriteAnswer, Out, is_load_given, is_write_given, is_process_given, effect_change, change_due, ProcessResult, TicketClaim, Claim, Reservation, First, Loader, Nobody, Processor, Writer, asks_loader, asks_processor, load_only, write_only, Part, PartProgress, FitsAsked, change_in, IsDueIn, is_unanswered, is_all_answered, waits_for_report, with_report}
+use Rattle.jc_world.proofs.Common.{with_heard, ◌≡◌, Bool, true, false, cond, not, ◌&&◌, is_some, ◌⊎◌, inl, inr, Option, Some, None, sym, refl, ap, ◌∙◌, subst, Config, Bytes, Change, WriteAnswer, Out, is_load_given, is_write_given, is_process_given, effect_change, change_due, ProcessResult, TicketClaim, Claim, Reservation, First, Loader, Nobody, Processor, Writer, asks_loader, asks_processor, load_only, write_only, Part, PartProgress, FitsAsked, change_in, IsDueIn, is_unanswered, is_all_answered, waits_for_report, with_report}
 use Rattle.jc_model.specs.declared.event.WriteAnswer.TheVariants as write
 use Rattle.jc_outside.specs.Done.{WriteResult}
 use Rattle.jc_outside.specs.declared.done.Origin.{Origin}
@@ -131,3 +131,8 @@ answered_failed part code =
 pub due_told : (config : Config) (first : First) (p : PartProgress) (report : WriteAnswer) → IsDueIn config first p → IsDueIn config first (with_report p report)
 due_told config Nobody p report due = due
 due_told config first p report due = due
+
+-- whether it was honest doesn't count
+pub due_heard : (config : Config) (first : First) (p : PartProgress) (was honest : Bool) → IsDueIn config first p → IsDueIn config first (with_heard p was honest)
+due_heard config (Processor entry may_load) p was honest h = h
+due_heard config first p was honest h = tt

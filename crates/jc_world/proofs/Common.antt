@@ -39,7 +39,7 @@ pub use Rattle.jc_types.specs.declared.config.Config.{Config}
 pub use Rattle.jc_types.specs.declared.limits.TheConstants.{JOINERS_MAX, STEP_PLACES, STRIPES_MAX}
 pub use Rattle.jc_types.specs.declared.refusal.Refusal.{Refusal}
 pub use Rattle.jc_types.specs.declared.refusal.Refusal.TheVariants.{TooManyKeys, WriterFailed}
-pub use Rattle.jc_model.proofs.CallerLemmas.{none_is, same_key, get-with_entry}
+pub use Rattle.jc_model.proofs.CallerLemmas.{none_is, same_key, same_cache, get-with_entry}
 pub use Rattle.jc_model.specs.Batches.{is_among}
 pub use Rattle.jc_model.specs.Cache.{Bytes, Cache, entry_at, with_entry, key_cmp}
 pub use Rattle.jc_model.specs.Group.{Group, nothing_said, load_only, write_only, victim_events, evicted_events, step_event, shared_event, step_place, events_of, history_of, without_victim, cache_before_step, cache_after_step, without_own, cache_after_group, cache_after_groups}
@@ -102,9 +102,9 @@ pub use Rattle.jc_world.specs.declared.stripes.Stripes.TheInside.{Inside}
 pub use Rattle.jc_world.specs.declared.tasks.Tasks.{Tasks}
 pub use Rattle.jc_world.specs.Audit.{IsCache, differs, differing, cache_in, cache_at, opening_in, opening_at, IsOrder, HasShares}
 pub use Rattle.jc_world.specs.Calls.{Task, at_each, put_each_of, SweepState, sweep_of, keeps_open, CallState, new_call, has_number, is_of_session, op_in, op_at, op_found, op_or_found, op_for, is_open, open_in, open_keys, is_going, has_too_many_keys, opened, going_on, over_of, with_met, settled, replaced, settle, over_settled, drop_call, has_looked, has_looked_at_each, next_sweep, with_swept_keys, look}
-pub use Rattle.jc_world.specs.Coherent.{Coherent, all_hold}
+pub use Rattle.jc_world.specs.Coherent.{IsCoherentAt, Coherent, CoherentAsTold, all_hold}
 pub use Rattle.jc_world.specs.Ending.{IsLeftStripe, AreLeft, out_at, IsPartOut, HasHeld, IsJoinOut, HasJoins, NoneReserved}
-pub use Rattle.jc_world.specs.Events.{with_stripe, with_phase, step_of, not_over, shown_begun, fault_in, with_settled, over_by, with_met_by, without_call, with_look, asks_as, new_progress, new_part, with_part, with_new_part, without_part, with_join, without_join, BeginsAs, ReservesAs, StartsAs, RefusesAs, Ends, Picks, with_loaded, after_answer, with_change, after_change, with_report, after_report, reported_part, reported_in, reported_key, reported_keys, reported_now, keys_reported, reported_at, after_reports, run_result, progress_after, after_process, keys_dropped, stripes_reopened, after_reopening, Happens, Step, Run, RunAppending, is_fit, AllFit}
+pub use Rattle.jc_world.specs.Events.{with_stripe, with_phase, step_of, not_over, shown_begun, fault_in, with_settled, over_by, with_met_by, without_call, with_look, asks_as, new_progress, new_part, with_part, with_new_part, without_part, with_join, without_join, BeginsAs, ReservesAs, StartsAs, RefusesAs, Ends, Picks, with_heard, foreign_committed, with_commit, with_loaded, after_answer, with_change, after_change, with_report, after_report, reported_part, reported_in, reported_key, reported_keys, reported_now, keys_reported, reported_at, after_reports, run_result, progress_after, after_process, keys_dropped, stripes_reopened, after_reopening, Happens, Step, Run, RunAppending, is_fit, AllFit}
 pub use Rattle.jc_world.specs.Fits.{is_playable, is_new, is_free, may_start, may_leave, passes_in, waits_at, is_in_batch, batch_of, writer_batch, is_asked_in, may_change, is_being_written, may_report, is_to_look, may_look, fits}
 pub use Rattle.jc_world.specs.Gathered.{or_else, found_after}
 pub use Rattle.jc_world.specs.Headline.{IsOpeningStripe, IsOpeningWorld, start_with, ReachesSince, is_reopening, reopens, with_all_premises, is_answer, is_load, is_loaded}
@@ -114,10 +114,10 @@ pub use Rattle.jc_world.specs.OpenCalls.{tasks_of, IsCountKept, are_new, TakesKe
 pub use Rattle.jc_world.specs.Openings.{EndsInReopening, LastOpening, is_dropped, IsReopenedWorld}
 pub use Rattle.jc_world.specs.PickUps.{ends_join, is_last_pick_up, ends_load, IsLoadEnd, Resolves}
 pub use Rattle.jc_world.specs.PlayedWorld.{PlayedWorld}
-pub use Rattle.jc_world.specs.Premises.{is_stored, opens_coherent, read_answer, load_from, changed_to, report_for, is_true_load, is_done, is_true_report, with_foreign_write, premises_hold}
+pub use Rattle.jc_world.specs.Premises.{is_stored, opens_coherent, read_answer, load_from, changed_to, report_for, is_true_load, is_done, is_true_report, is_as_told, opens, opens_as_told, is_agreed, are_honest}
 pub use Rattle.jc_world.specs.Replies.{IsReplyOfStep, Stands, is_answer_at, joiners_in, joiners_at, times_shown}
 pub use Rattle.jc_world.specs.Reserved.{changes_cache}
-pub use Rattle.jc_world.specs.Sound.{IsWorldStripe, IsWorldShaped, is_up_to, number_up_to, has_parked_answer, is_served_in, is_served, is_apart, FitsKey, FitsCall, CallsFit, Each, FitsAsked, change_in, IsDueIn, IsDue, AllDue, IsHeld, IsCallOf, IsOwned, AllOwned, IsWaitedFor, AllWaitedFor, IsCalled, AllCalled, Agrees, LoadAgrees, WriteAgrees, ChangeAgrees, ProgressAgrees, KeyAgrees, Sweeps, IsSoundWorld}
+pub use Rattle.jc_world.specs.Sound.{IsWorldStripe, IsWorldShaped, is_up_to, number_up_to, has_parked_answer, is_served_in, is_served, is_apart, FitsKey, FitsCall, CallsFit, Each, FitsAsked, change_in, IsDueIn, IsDue, AllDue, IsHeld, IsCallOf, IsOwned, AllOwned, IsWaitedFor, AllWaitedFor, IsCalled, AllCalled, Agrees, LoadAgrees, WriteAgrees, ChangeAgrees, ProgressAgrees, PartAgrees, KeyAgrees, Sweeps, IsSoundWorld}
 pub use Rattle.jc_world.specs.Together.{looks, opening_events, BeginFits, at_call, key_at, FitTogether}
 pub use Rattle.jc_world.specs.Turns.{history_in, history_at, turns_of, after_turn, merge, OrderedStripes, IsPhase, IsQuietPhase, ordered_stripes, AreTurns, IsMergeable}
-pub use Rattle.jc_world.specs.World.{Parts, JoinKey, join_cmp, join_key, Joins, WorldState, home, stripe_for, entry_in, cached_entry, fresh_stripe, fresh_stripes, start, is_busy, is_idle, open_call, of_call, part_of, has_progress, is_unanswered, waits_for_load, waits_for_process, waits_for_report, is_write, waits_for_write, is_all_answered, is_untouched, has_changed, writer_change, out_of_part, join_of, has_join, is_joined, is_free_of, with_stored}
+pub use Rattle.jc_world.specs.World.{Parts, JoinKey, join_cmp, join_key, Joins, WorldState, home, stripe_for, entry_in, cached_entry, fresh_stripe, fresh_stripes, start, is_busy, is_idle, open_call, of_call, part_of, has_progress, is_unanswered, waits_for_load, waits_for_process, waits_for_report, is_write, waits_for_write, is_all_answered, is_untouched, has_changed, is_misled, writer_change, out_of_part, join_of, has_join, is_joined, is_free_of, with_stored, is_foreign, has_any, is_untold, with_foreign, without_foreign, with_doubt}

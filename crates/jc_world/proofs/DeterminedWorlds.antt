@@ -8,7 +8,7 @@ use Rattle.jc_world.specs.declared.command.CallKind.{CallKind}
 use Rattle.jc_world.specs.declared.event.WorldEvent.TheVariants as event
 use Rattle.jc_world.specs.declared.event.Outcome.TheVariants as outcome
 use Rattle.jc_world.proofs.SortedKeys.{sorted-once}
-use Rattle.jc_world.specs.Events.{Happens, Step, Run, after_answer, after_change, after_process, run_result, shown_process, after_reports, with_met_by, keys_reported, reported_now, StartsAs, RefusesAs, Ends, Picks, with_stripe, with_phase, step_of, with_settled, fault_in, asks_as, new_progress, with_new_part, with_join, without_part, without_join, not_over, over_by, with_look}
+use Rattle.jc_world.specs.Events.{Happens, Step, Run, after_answer, after_change, after_process, run_result, shown_process, after_reports, with_met_by, keys_reported, reported_now, StartsAs, RefusesAs, Ends, Picks, with_stripe, with_phase, step_of, with_settled, fault_in, asks_as, new_progress, with_new_part, with_join, with_commit, without_part, without_join, not_over, over_by, with_look}
 use Rattle.jc_world.specs.Determinism.{has_memory, have_memory}
 use Rattle.jc_world.proofs.DeterminedStripes.{begun_amply, begins-determined, commits-determined}
 use Rattle.jc_world.proofs.Facts.{some_back}
@@ -70,8 +70,8 @@ ends-determined : (w : WorldState) (call : ℕ) (key : Bytes) (part : Part) (fro
 ends-determined w call key part from to too (outcome.Stepped a) (outcome.Stepped b) n m one ample other ample_too =
     let same = commits-determined from to too part.reservation (out_of_part part) (step_of a) (step_of b) one.0 ample other.0 ample_too in (
       ap (λ (h : ℕ). outcome.Stepped (record a { stripe = h })) one.1 ∙ ap (λ (d : StepDone). outcome.Stepped (stepped_of (home w key) d)) same.0 ∙ sym (ap (λ (h : ℕ). outcome.Stepped (record b { stripe = h })) other.1),
-      one.2 ∙ ap (λ (d : StepDone). without_part (with_settled (with_phase w key from to) call key (fault_in d.reply)) key) same.0
-          ∙ ap (λ (s : State). without_part (with_settled (with_phase w key from s) call key (fault_in b.reply)) key) same.1 ∙ sym other.2,
+      one.2 ∙ ap (λ (d : StepDone). with_commit w key part from to call (fault_in d.reply)) same.0
+          ∙ ap (λ (s : State). with_commit w key part from s call (fault_in b.reply)) same.1 ∙ sym other.2,
     )
 ends-determined w call key part from to too (outcome.Stepped a) p n m one ample other ample_too = absurd other
 ends-determined w call key part from to too o p n m one ample other ample_too = absurd one

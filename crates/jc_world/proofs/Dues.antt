@@ -3,8 +3,8 @@
 --     due_run                    the progress of a key once its processor has run
 --     dues_reported              the writer has returned for a key
 --     dues_happens               any event that fits
-use Rattle.jc_world.proofs.Common.{and_parts, fits, asks_loader, is_unanswered, has_progress, waits_for_load, is_load_given, LoadAnswer, First, Loader, Processor, with_loaded, IsDue, IsDueIn, ◌≡◌, ℕ, true, Some, None, option_map, sym, refl, ap, ◌∙◌, subst, get, get-empty, insert, remove, Config, WriterFailed, Bytes, key_cmp, entry_at, WriteAnswer, ProcessResult, Claim, change_due, Part, PartProgress, Shown, WorldEvent, with_met_by, new_part, with_change, after_report, keys_reported, run_result, progress_after, Happens, load_from, report_for, AllDue, Parts, WorldState, part_of, reported_now}
-use Rattle.jc_world.proofs.Committing.{due_told}
+use Rattle.jc_world.proofs.Common.{Change, and_parts, fits, asks_loader, is_unanswered, has_progress, waits_for_load, is_load_given, LoadAnswer, First, Loader, Processor, is_misled, has_changed, is_true_load, is_true_report, read_answer, with_loaded, with_report, IsDue, IsDueIn, ◌≡◌, ℕ, true, Some, None, option_map, sym, refl, ap, ◌∙◌, subst, get, get-empty, insert, remove, Config, WriterFailed, Bytes, key_cmp, entry_at, WriteAnswer, ProcessResult, Claim, change_due, Part, PartProgress, Shown, WorldEvent, with_met_by, new_part, with_change, after_answer, after_report, keys_reported, run_result, progress_after, Happens, load_from, report_for, AllDue, Parts, WorldState, part_of, reported_now}
+use Rattle.jc_world.proofs.Committing.{due_told, due_heard}
 use Rattle.jc_world.proofs.Holding.{is_part}
 use Rattle.jc_world.proofs.Maps.{keys_ordered, each_put, each_left}
 use Rattle.jc_world.proofs.Lemmas.{KeyChange, by_nothing, by_refusal, by_step, by_reservation, by_join, by_commit, by_withdrawal, by_answer, by_retry, key_change, each_report}
@@ -56,15 +56,29 @@ dues_key w new e key seen (by_retry call join from to e_is join_is there h is sh
 
 -- the writer has returned for a key
 pub dues_reported : (w : WorldState) (call : ℕ) (key : Bytes) (part : Part) (report : WriteAnswer) → part_of w call key ≡ Some part → AllDueAt w → AllDueAt (after_report w key part report)
-dues_reported w call key part report at old = dues_insert w.config w.parts key _ old (due_told w.config part.reservation.first part.progress report (due_of w call key part at old))
+dues_reported w call key part report at old =
+    dues_insert w.config w.parts key _ old
+    (due_heard w.config part.reservation.first (with_report part.progress report) (is_misled part) (is_true_report report (has_changed part))
+    (due_told w.config part.reservation.first part.progress report (due_of w call key part at old)))
+
+-- the loader has answered
+dues_answered : (w : WorldState) (key : Bytes) (part : Part) (answer : LoadAnswer) → asks_loader part.reservation.first ≡ true → AllDueAt w → AllDueAt (after_answer w key part answer)
+dues_answered w key part answer asks old =
+    dues_insert w.config w.parts key _ old
+    (due_heard w.config part.reservation.first (with_loaded part.progress answer) (is_misled part) (is_true_load answer (entry_at w.store key)) (due_answer w.config part.reservation.first part.progress answer asks))
 
 pub dues_happens : (w new : WorldState) (e : WorldEvent) (seen : Shown) → fits w e ≡ true → Happens w e seen new → AllDueAt w → AllDueAt new
 dues_happens w new (WorldEvent.Look call stripe) seen fit h old = subst AllDueAt (sym h.9) old
-dues_happens w new (WorldEvent.Read call key) seen fit h old = subst AllDueAt (sym h.3) (dues_insert w.config w.parts key _ old (due_answer w.config h.0.reservation.first h.0.progress _ (loader_asked h.0 (sym (ap (has_progress waits_for_load) h.1) ∙ fit))))
-dues_happens w new (WorldEvent.Say call key answer) seen fit h old = subst AllDueAt (sym h.3) (dues_insert w.config w.parts key _ old (due_answer w.config h.0.reservation.first h.0.progress _ (loader_asked h.0 (sym (ap (has_progress waits_for_load) h.1) ∙ (and_parts (is_load_given answer) _ fit).1))))
+dues_happens w new (WorldEvent.Read call key) seen fit h old =
+    subst AllDueAt (sym h.3) (dues_answered w key h.0 (read_answer (entry_at w.store key)) (loader_asked h.0 (sym (ap (has_progress waits_for_load) h.1) ∙ fit)) old)
+dues_happens w new (WorldEvent.Say call key answer) seen fit h old =
+    subst AllDueAt (sym h.3) (dues_answered w key h.0 answer (loader_asked h.0 (sym (ap (has_progress waits_for_load) h.1) ∙ (and_parts (is_load_given answer) _ fit).1)) old)
 dues_happens w new (WorldEvent.Process call key source calls fail) seen fit h old =
     let r = h.0.reservation in
-    subst AllDueAt (sym h.3) (dues_insert w.config w.parts key _ old (due_run w.config r.first (run_result r (load_from source (entry_at w.store key)) calls fail)))
+    let done = run_result r (load_from source (entry_at w.store key)) calls fail in
+    subst AllDueAt (sym h.3)
+    (dues_insert w.config w.parts key _ old
+    (due_heard w.config r.first (progress_after (change_due w.config done) done) (is_misled h.0) (is_true_load done.load (entry_at w.store key)) (due_run w.config r.first done)))
 dues_happens w new (WorldEvent.Change call key) seen fit h old =
     subst AllDueAt (sym h.5) (dues_insert w.config w.parts key _ old (due_change w.config h.0.reservation.first h.0.progress (due_of w call key h.0 h.2 old)))
 dues_happens w new (WorldEvent.Report call left fault) seen fit h old =

@@ -1,5 +1,5 @@
 -- What is true of a world, in three parts: what its order and its calls say, what its parts and its store say, and what its joins say.
-use Rattle.jc_world.proofs.Common.{◌≡◌, ℕ, true, [], IsSomeAnd, slice_get, Some, None, get, list_all, Bytes, entry_at, in_order, State, Part, all_hold, IsWorldShaped, number_up_to, CallsFit, Each, AllDue, IsHeld, AllOwned, AllWaitedFor, AllCalled, KeyAgrees, Sweeps, IsSoundWorld, WorldState, stripe_for, cached_entry}
+use Rattle.jc_world.proofs.Common.{◌≡◌, ℕ, true, false, [], IsSomeAnd, slice_get, Some, None, get, list_all, Bytes, entry_at, in_order, State, Part, all_hold, IsWorldShaped, number_up_to, CallsFit, Each, AllDue, IsHeld, AllOwned, AllWaitedFor, AllCalled, KeyAgrees, Sweeps, IsSoundWorld, WorldState, stripe_for, cached_entry, is_foreign}
 
 pub record HasOrder (w : WorldState) : Type 0 where
   pub shape : IsWorldShaped w
@@ -10,7 +10,7 @@ pub record HasOrder (w : WorldState) : Type 0 where
 
 pub record HasParts (w : WorldState) : Type 0 where
   pub held : (key : Bytes) (part : Part) → get w.parts key ≡ Some part → IsSomeAnd (stripe_for w key) (λ s. IsHeld s key part)
-  pub told : all_hold w ≡ true → (key : Bytes) → KeyAgrees (get w.parts key) (entry_at w.store key) (cached_entry w key)
+  pub told : all_hold w ≡ true → (key : Bytes) → is_foreign w key ≡ false → KeyAgrees (get w.parts key) (entry_at w.store key) (cached_entry w key)
   pub cold : w.is_fresh ≡ true → (key : Bytes) → cached_entry w key ≡ None
   pub idle : w.is_fresh ≡ true → w.calls ≡ []
 

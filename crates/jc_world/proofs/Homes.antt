@@ -2,9 +2,9 @@
 --     homes          a stripe that is reached caches no key of another
 --     gathered       the stripes together cache what the world does
 --     found_next     the stripes that are left, once one was gone through
---     agrees         an entry of a coherent world doesn't differ
---     none_differ    so none does
-use Rattle.jc_world.proofs.Common.{◌≡◌, ℕ, zero, suc, ◌+◌, ◌<◌, Bool, true, false, cond, not, ◌&&◌, List, [], ◌∷◌, map, length, get_or, drop, ◌==◌, slice_get, Some, None, filter, Option, sym, refl, ap, ◌∙◌, add-one, arith, drop-cons, ne_eqb, and_parts, and_right, nat_list_cmp_total, eq_by_cmp_equiv, texts_ties, is_sorted, entries, entries_sorted, get, from_entries, get-from_entries, below_all, list_all, is_eq, is_lt, eq_by_cmp, T, Ordering, Less, stripe_of, Config, same_key, Bytes, Cache, entry_at, key_cmp, holds, IsReached, by_use, State, is_of, IsCache, differs, differing, Coherent, or_else, found_after, IsSoundWorld, WorldState, home, entry_in, cached_entry, has_progress, has_changed}
+--     untold         an entry that differs in a world that is coherent as told is of an untold key
+--     all_untold     so are all that differ
+use Rattle.jc_world.proofs.Common.{◌≡◌, ℕ, zero, suc, ◌+◌, ◌<◌, Bool, true, false, cond, not, ◌&&◌, List, [], ◌∷◌, map, length, get_or, drop, ◌==◌, slice_get, Some, None, filter, Option, sym, refl, ap, ◌∙◌, add-one, arith, drop-cons, ne_eqb, and_parts, and_from, and_right, nat_list_cmp_total, eq_by_cmp_equiv, texts_ties, is_sorted, entries, entries_sorted, get, from_entries, get-from_entries, below_all, list_all, is_eq, is_lt, eq_by_cmp, T, Ordering, Less, stripe_of, Config, same_key, Bytes, Cache, entry_at, key_cmp, holds, IsReached, by_use, State, is_of, IsCache, differs, differing, CoherentAsTold, or_else, found_after, IsSoundWorld, WorldState, home, entry_in, cached_entry, has_progress, has_changed, is_untold}
 use Rattle.std.specs.FinMap.{find, get-entries}
 
 -- 1. What a stripe caches.
@@ -94,14 +94,18 @@ found_behind e es key value low h =
       | false ↦ λ t. h
     ] refl
 
--- if a test fails at each key with its value, it takes nothing of a sorted list
-takes_none : (p : Bytes × Bytes → Bool) (es : List (Bytes × Bytes)) → is_sorted key_cmp es ≡ true → ((key value : Bytes) → find key_cmp key es ≡ Some value → p (key, value) ≡ false) → filter p es ≡ []
-takes_none p [] sorted h = refl
-takes_none p (e ∷ es) sorted h =
+-- what a test takes of a sorted list has this key, if each key has it whose value passes the test
+all_taken : (p : Bytes × Bytes → Bool) (q : Bytes → Bool) (es : List (Bytes × Bytes)) → is_sorted key_cmp es ≡ true → ((key value : Bytes) → find key_cmp key es ≡ Some value → p (key, value) ≡ true → q key ≡ true)
+    → list_all q (map (λ (e : Bytes × Bytes). e.0) (filter p es)) ≡ true
+all_taken p q [] sorted h = refl
+all_taken p q (e ∷ es) sorted h =
     let parts = and_parts (below_all key_cmp e.0 es) (is_sorted key_cmp es) sorted in
     let here : find key_cmp e.0 (e ∷ es) ≡ Some e.1 = ap (λ b. cond b (Some e.1) (find key_cmp e.0 es)) ((eq_by_cmp_equiv nat_list_cmp_total).refl e.0) in
-    ap (λ b. cond b (e ∷ filter p es) (filter p es)) (h e.0 e.1 here)
-    ∙ takes_none p es parts.1 (λ key value found. h key value (found_behind e es key value parts.0 found))
+    let rest = all_taken p q es parts.1 (λ key value found. h key value (found_behind e es key value parts.0 found)) in
+    elim (p e) as (λ b. p e ≡ b → list_all q (map (λ (e : Bytes × Bytes). e.0) (cond b (e ∷ filter p es) (filter p es))) ≡ true) [
+      | true ↦ λ is. and_from (q e.0) (list_all q (map (λ (e : Bytes × Bytes). e.0) (filter p es))) (h e.0 e.1 here is) rest
+      | false ↦ λ is. rest
+    ] refl
 
 -- a value that is stored is held
 held_true : (stored : Option Bytes) (value : Bytes) → stored ≡ Some value → holds stored value ≡ true
@@ -112,13 +116,16 @@ held_apart : (stored : Option Bytes) (value : Bytes) (changed : Bool) → (chang
 held_apart stored value true h = and_right (not (holds stored value)) false refl
 held_apart stored value false h = ap (λ b. not b && true) (held_true stored value (h refl))
 
--- an entry that a coherent world caches doesn't differ
-pub agrees : (w : WorldState) (key value : Bytes) → Coherent w → cached_entry w key ≡ Some value → differs w (key, value) ≡ false
-agrees w key value coherent is =
-    held_apart (entry_at w.store key) value (has_progress has_changed (get w.parts key)) (λ unchanged. rw is at (coherent key unchanged))
+-- an entry that differs in a world that is coherent as told is of an untold key
+pub untold : (w : WorldState) (key value : Bytes) → CoherentAsTold w → cached_entry w key ≡ Some value → differs w (key, value) ≡ true → is_untold w key ≡ true
+untold w key value coherent is differing =
+    elim (is_untold w key) as (λ b. is_untold w key ≡ b → b ≡ true) [
+      | true ↦ λ told. refl
+      | false ↦ λ told. let t : false ≡ true = sym (held_apart (entry_at w.store key) value (has_progress has_changed (get w.parts key)) (λ unchanged. rw is at (coherent key told unchanged))) ∙ differing in cc
+    ] refl
 
--- so none of them does
-pub none_differ : (w : WorldState) (cache : Cache) → IsCache w cache → Coherent w → differing w (entries cache) ≡ []
-none_differ w cache is coherent =
-    ap (map (λ (e : Bytes × Bytes). e.0)) (takes_none (differs w) (entries cache) (is_true (is_sorted key_cmp (entries cache)) (entries_sorted cache))
-    (λ key value found. agrees w key value coherent (sym (is key) ∙ get-entries cache key ∙ found)))
+-- so are all that differ
+pub all_untold : (w : WorldState) (cache : Cache) → IsCache w cache → CoherentAsTold w → list_all (is_untold w) (differing w (entries cache)) ≡ true
+all_untold w cache is coherent =
+    all_taken (differs w) (is_untold w) (entries cache) (is_true (is_sorted key_cmp (entries cache)) (entries_sorted cache))
+    (λ key value found differing. untold w key value coherent (sym (is key) ∙ get-entries cache key ∙ found) differing)

@@ -2,7 +2,7 @@
 --     joins_called, joins_taken, joins_parted, joins_stored     what changes the calls, a part or the store alone
 --     joins_phase, joins_joined, joins_picked, joins_key        by the kind of the change at a key
 --     joins_happens                    after any event that fits
-use Rattle.jc_world.proofs.Common.{◌≡◌, ℕ, ◌+◌, Bool, true, false, not, ◌&&◌, List, [], ◌∷◌, ◌++◌, is_some, is_none, IsSomeAnd, ◌==◌, slice_get, slice_set, Some, None, Option, find, sym, refl, ap, ◌∙◌, subst, eqb-true, eq-eqb, and_parts, and_from, false_from_ne_true, nat_eq_equiv, nat_list_eq_equiv, pointwise, get, insert, remove, list_all, Caller, Refusal, none_is, Bytes, Cache, Event, Op, Get, belongs_to, after_resolve, Waiting, Joiner, with_joiner, without_joiner, State, IsJoined, JoinClaim, Reservation, Command, Part, Premises, Shown, WorldEvent, SweepState, CallState, new_call, has_number, op_at, open_keys, opened, settle, drop_call, with_stripe, with_phase, fault_in, with_settled, with_met_by, without_call, with_look, new_part, with_join, Happens, is_free, may_leave, fits, IsCallOf, IsWaitedFor, AllWaitedFor, IsCalled, AllCalled, IsSoundWorld, Parts, JoinKey, join_key, WorldState, home, stripe_for, start, open_call, of_call, part_of, join_of, is_joined}
+use Rattle.jc_world.proofs.Common.{foreign_committed, ◌≡◌, ℕ, ◌+◌, Bool, true, false, not, ◌&&◌, List, [], ◌∷◌, ◌++◌, is_some, is_none, IsSomeAnd, ◌==◌, slice_get, slice_set, Some, None, Option, find, sym, refl, ap, ◌∙◌, subst, eqb-true, eq-eqb, and_parts, and_from, false_from_ne_true, nat_eq_equiv, nat_list_eq_equiv, pointwise, get, insert, remove, list_all, Caller, Refusal, none_is, Bytes, Cache, Event, Op, Get, belongs_to, after_resolve, Waiting, Joiner, with_joiner, without_joiner, State, IsJoined, JoinClaim, Reservation, Command, Part, Premises, Shown, WorldEvent, SweepState, CallState, new_call, has_number, op_at, open_keys, opened, settle, drop_call, with_stripe, with_phase, fault_in, with_settled, with_met_by, without_call, with_look, new_part, with_join, Happens, is_free, may_leave, fits, IsCallOf, IsWaitedFor, AllWaitedFor, IsCalled, AllCalled, IsSoundWorld, Parts, JoinKey, join_key, WorldState, home, stripe_for, start, open_call, of_call, part_of, join_of, is_joined, with_new_part}
 use Rattle.jc_world.proofs.Lemmas.{denied, missing, joins_half, is_some_and, set_cases, found_test, each_map, fact_found, each_pushed, each_kept, find_over, find_pushed, same_bytes, of_call-at, open_now, still_called, joiner_of, find_kept, joined_resolved, joined_dissolved, joined_front, joined_last, called_resolved, called_dissolved, joined_no_part, other_key, none_inserted, none_removed, part_other, joins_get, MayStart, Picking, picking, looked_called, met_called, at_stripe, stripe_put, KeyChange, by_nothing, by_refusal, by_step, by_reservation, by_join, by_commit, by_withdrawal, by_answer, by_retry, key_change, may_of, some_of, IsWhole}
 use Rattle.jc_inflight.specs.Taking.{joiners_without as without}
 use Rattle.jc_world.proofs.Halves.{HasJoins}
@@ -38,39 +38,39 @@ called_set w n key from to there here rest old m s =
 -- 2. What leaves the stripes.
 
 -- the stripes and the joins are the same, and the calls that have joined continue without a part
-joins_beside : (w : WorldState) (last : Option ℕ) (calls : List CallState) (parts : Parts) (store : Cache) (premises : Premises) (fresh : Bool)
+joins_beside : (w : WorldState) (last : Option ℕ) (calls : List CallState) (parts : Parts) (store foreign : Cache) (premises : Premises) (fresh : Bool)
     → ((number session : ℕ) (q : Bytes) → is_joined w number q ≡ true → IsSomeAnd (open_call w number) (IsCallOf session q Get) → IsSomeAnd (find (has_number number) calls) (IsCallOf session q Get))
     → ((number : ℕ) (q : Bytes) → part_of w number q ≡ None → of_call number (get parts q) ≡ None) → IsSoundWorld w
-    → HasJoins (record w { last = last; calls = calls; parts = parts; store = store; premises = premises; is_fresh = fresh })
-joins_beside w last calls parts store premises fresh still none old =
-    let new : WorldState = record w { last = last; calls = calls; parts = parts; store = store; premises = premises; is_fresh = fresh } in
+    → HasJoins (record w { last = last; calls = calls; parts = parts; store = store; foreign = foreign; premises = premises; is_fresh = fresh })
+joins_beside w last calls parts store foreign premises fresh still none old =
+    let new : WorldState = record w { last = last; calls = calls; parts = parts; store = store; foreign = foreign; premises = premises; is_fresh = fresh } in
     record {
       joins = kept_joins w new (λ j t h. record { out = h.out; call = still j.caller.call j.caller.session j.key t h.call; no_part = none j.caller.call j.key h.no_part }) old;
       called = λ m s at. each_map (IsCalled w m) (IsCalled new m) s.joiners (λ j h. record { home_is = h.home_is; join = h.join; call = still j.caller.call j.caller.session j.key h.join h.call }) (old.called m s at);
     }
 
 -- the store changes
-pub joins_stored : (w : WorldState) (store : Cache) (premises : Premises) (fresh : Bool) → IsSoundWorld w → HasJoins (record w { store = store; premises = premises; is_fresh = fresh })
-joins_stored w store premises fresh old = joins_beside w w.last w.calls w.parts store premises fresh (λ number session q t h. h) (λ number q h. h) old
+pub joins_stored : (w : WorldState) (store foreign : Cache) (premises : Premises) (fresh : Bool) → IsSoundWorld w → HasJoins (record w { store = store; foreign = foreign; premises = premises; is_fresh = fresh })
+joins_stored w store foreign premises fresh old = joins_beside w w.last w.calls w.parts store foreign premises fresh (λ number session q t h. h) (λ number q h. h) old
 
 -- a key's part stays
-pub joins_parted : (w : WorldState) (call : ℕ) (key : Bytes) (was part : Part) (premises : Premises) (store : Cache) → part_of w call key ≡ Some was → part.reservation.caller.call ≡ was.reservation.caller.call → IsSoundWorld w
-    → HasJoins (record w { parts = insert w.parts key part; premises = premises; store = store })
-joins_parted w call key was part premises store is same old =
+pub joins_parted : (w : WorldState) (call : ℕ) (key : Bytes) (was part : Part) (premises : Premises) (store foreign : Cache) → part_of w call key ≡ Some was → part.reservation.caller.call ≡ was.reservation.caller.call → IsSoundWorld w
+    → HasJoins (record w { parts = insert w.parts key part; premises = premises; store = store; foreign = foreign })
+joins_parted w call key was part premises store foreign is same old =
     let there = (of_call-at call (get w.parts key) was is).0 in
-    joins_beside w w.last w.calls (insert w.parts key part) store premises w.is_fresh (λ number session q t h. h)
+    joins_beside w w.last w.calls (insert w.parts key part) store foreign premises w.is_fresh (λ number session q t h. h)
     (λ number q none. none_inserted w.parts key q part number none (λ e. ap (λ c. c == number) same ∙ part_other (get w.parts key) was number there (ap (λ k. of_call number (get w.parts k)) (sym e) ∙ none))) old
 
 -- a call begins
 joins_called : (w : WorldState) (call session : ℕ) (command : Command) → IsSoundWorld w → HasJoins (record w { last = Some call; calls = w.calls ++ opened (new_call call session command); is_fresh = false })
 joins_called w call session command old =
     let more : List CallState = opened (new_call call session command) in
-    joins_beside w (Some call) (w.calls ++ more) w.parts w.store w.premises false (λ number session q t h. find_pushed (has_number number) w.calls more (IsCallOf session q Get) h) (λ number q h. h) old
+    joins_beside w (Some call) (w.calls ++ more) w.parts w.store w.foreign w.premises false (λ number session q t h. find_pushed (has_number number) w.calls more (IsCallOf session q Get) h) (λ number q h. h) old
 
 -- a call has taken keys, or has met something, and each continues at each of its keys
 joins_taken : (w : WorldState) (calls : List CallState)
     → ((number session : ℕ) (q : Bytes) (op : Op) → IsSomeAnd (open_call w number) (IsCallOf session q op) → IsSomeAnd (find (has_number number) calls) (IsCallOf session q op)) → IsSoundWorld w → HasJoins (record w { calls = calls })
-joins_taken w calls still old = joins_beside w w.last calls w.parts w.store w.premises w.is_fresh (λ number session q t h. still number session q Get h) (λ number q h. h) old
+joins_taken w calls still old = joins_beside w w.last calls w.parts w.store w.foreign w.premises w.is_fresh (λ number session q t h. still number session q Get h) (λ number q h. h) old
 
 joins_looked : (w : WorldState) (call stripe : ℕ) (keys : List Bytes) (s : SweepState) (u : CallState) → open_call w call ≡ Some u → u.sweep ≡ Some s → IsSoundWorld w → HasJoins (with_look w call stripe keys s)
 joins_looked w call stripe keys s u here sweeps old = joins_taken w (with_look w call stripe keys s).calls (looked_called w call stripe keys s u here sweeps) old
@@ -86,7 +86,7 @@ still_under w call key met free number session q joined h = still_called call ke
 -- a first phase was refused, and the key has its last refusal
 joins_refused : (w : WorldState) (call : ℕ) (key : Bytes) (met : Option Refusal) → is_joined w call key ≡ false → IsSoundWorld w → HasJoins (with_settled w call key met)
 joins_refused w call key met free old =
-    joins_beside w w.last (settle call key met w.calls) w.parts w.store w.premises w.is_fresh (λ number session q t h. still_under w call key met free number session q t h) (λ number q h. h) old
+    joins_beside w w.last (settle call key met w.calls) w.parts w.store w.foreign w.premises w.is_fresh (λ number session q t h. still_under w call key met free number session q t h) (λ number q h. h) old
 
 -- a call without any join goes
 still_beside : (w : WorldState) (call : ℕ) (u : CallState) → open_call w call ≡ Some u → list_all (is_free w call) (open_keys u) ≡ true → (number session : ℕ) (q : Bytes) → is_joined w number q ≡ true
@@ -104,18 +104,18 @@ still_beside w call u is free number session q joined h =
 -- 3. A phase that changes no join.
 
 -- the world with a stripe, an order, calls and parts that are others
-abbrev phase_world : WorldState → Bytes → State → List Event → List CallState → Parts → WorldState
-phase_world w key to order calls parts = record w { stripes = slice_set w.stripes (home w key) to; order = order; calls = calls; parts = parts }
+abbrev phase_world : WorldState → Bytes → State → List Event → List CallState → Parts → Cache → WorldState
+phase_world w key to order calls parts foreign = record w { stripes = slice_set w.stripes (home w key) to; order = order; calls = calls; parts = parts; foreign = foreign }
 
 -- the stripe keeps its joiners, and the calls that have joined continue without a part
-joins_phase : (w : WorldState) (key : Bytes) (from to : State) (order : List Event) (calls : List CallState) (parts : Parts) → stripe_for w key ≡ Some from
+joins_phase : (w : WorldState) (key : Bytes) (from to : State) (order : List Event) (calls : List CallState) (parts : Parts) (foreign : Cache) → stripe_for w key ≡ Some from
     → ((j : JoinClaim) → IsJoined from j → IsJoined to j)
     → ((n : WorldState) → AllCalled n (home w key) from.joiners → AllCalled n (home w key) to.joiners)
     → ((number session : ℕ) (q : Bytes) → is_joined w number q ≡ true → IsSomeAnd (open_call w number) (IsCallOf session q Get) → IsSomeAnd (find (has_number number) calls) (IsCallOf session q Get))
     → ((number : ℕ) (q : Bytes) → is_joined w number q ≡ true → part_of w number q ≡ None → of_call number (get parts q) ≡ None)
-    → IsSoundWorld w → HasJoins (phase_world w key to order calls parts)
-joins_phase w key from to order calls parts there keeps here still none old =
-    let new = phase_world w key to order calls parts in
+    → IsSoundWorld w → HasJoins (phase_world w key to order calls parts foreign)
+joins_phase w key from to order calls parts foreign there keeps here still none old =
+    let new = phase_world w key to order calls parts foreign in
     let on : (m : ℕ) (j : Joiner) → IsCalled w m j → IsCalled new m j = λ m j h. record { home_is = h.home_is; join = h.join; call = still j.caller.call j.caller.session j.key h.join h.call } in
     record {
       joins = kept_joins w new
@@ -267,12 +267,12 @@ joins_key w new e key seen (by_step u op from to x start there h home_is is show
     let may = may_of w e key u op start fit old in
     let same : to.joiners ≡ from.joiners = ap (λ (s : State). s.joiners) h.2.after in
     subst HasJoins (sym is)
-    (joins_phase w key from to (with_phase w key from to).order (settle u.caller.call key (fault_in x.reply) w.calls) w.parts there (same_joiners from to same) (same_called (home w key) from to same)
+    (joins_phase w key from to (with_phase w key from to).order (settle u.caller.call key (fault_in x.reply) w.calls) w.parts w.foreign there (same_joiners from to same) (same_called (home w key) from to same)
     (λ number session q t k. still_under w u.caller.call key (fault_in x.reply) may.alone number session q t k) (λ number q t k. k) old)
 joins_key w new e key seen (by_reservation u op from to p r start there h is none ends) fit old =
     let same : to.joiners ≡ from.joiners = ap (λ (s : State). s.joiners) h.after in
     subst HasJoins (sym is)
-    (joins_phase w key from to w.order w.calls (insert w.parts key (new_part p r)) there (same_joiners from to same) (same_called (home w key) from to same) (λ number session q t k. k)
+    (joins_phase w key from to w.order w.calls (insert w.parts key (new_part p r)) (with_new_part w key to p r).foreign there (same_joiners from to same) (same_called (home w key) from to same) (λ number session q t k. k)
     (none_reserved w u.caller.call key (new_part p r) (ap (λ (x : Reservation). x.caller.call) h.is) (may_of w e key u op start fit old).alone) old)
 joins_key w new e key seen (by_join u op from to join start there h is none ends) fit old =
     subst HasJoins (sym is) (joins_joined w u key op from to join there h.2 h.3 (joins_get from key op join.load h.1) (may_of w e key u op start fit old) old)
@@ -281,7 +281,7 @@ joins_key w new e key seen (by_commit call part from to x e_is part_is there h h
     let free = unjoined_part w call key part part_is old in
     let J : JoinClaim → List Joiner → Type 0 = λ j js. IsSomeAnd (joiner_of j.caller j.key js) (λ x. x.load ≡ j.load) in
     subst HasJoins (sym is)
-    (joins_phase w key from to (with_phase w key from to).order (settle call key (fault_in x.reply) w.calls) (remove w.parts key) there
+    (joins_phase w key from to (with_phase w key from to).order (settle call key (fault_in x.reply) w.calls) (remove w.parts key) (foreign_committed w key part to) there
     (λ j t. subst (J j) (sym joiners) (joined_resolved (λ x. x.load ≡ j.load) part.reservation.number x.place (x.place + 1) j.caller j.key from.joiners (λ place x k. k) t))
     (λ n t. subst (AllCalled n (home w key)) (sym joiners) (called_resolved n (home w key) part.reservation.number x.place (x.place + 1) from.joiners t))
     (λ number session q t k. still_under w call key (fault_in x.reply) free number session q t k) (λ number q t k. none_removed w.parts key q number k) old)
@@ -289,7 +289,7 @@ joins_key w new e key seen (by_withdrawal call part from to e_is part_is there h
     let joiners = ap (λ (s : State). s.joiners) h.1 in
     let J : JoinClaim → List Joiner → Type 0 = λ j js. IsSomeAnd (joiner_of j.caller j.key js) (λ x. x.load ≡ j.load) in
     subst HasJoins (sym is)
-    (joins_phase w key from to w.order w.calls (remove w.parts key) there
+    (joins_phase w key from to w.order w.calls (remove w.parts key) w.foreign there
     (λ j t. subst (J j) (sym joiners) (joined_dissolved (λ x. x.load ≡ j.load) part.reservation.number j.caller j.key from.joiners (λ x k. k) t))
     (λ n t. subst (AllCalled n (home w key)) (sym joiners) (called_dissolved n (home w key) part.reservation.number from.joiners t))
     (λ number session q t k. k) (λ number q t k. none_removed w.parts key q number k) old)
@@ -307,19 +307,19 @@ joins_left w call fit old = go (open_call w call) refl
     go : (o : Option CallState) → open_call w call ≡ o → HasJoins (without_call w call)
     go None e = let t : false ≡ true = ap (may_leave w call) (sym e) ∙ fit in cc
     go (Some u) e =
-        joins_beside w w.last (drop_call call w.calls) w.parts w.store w.premises w.is_fresh
+        joins_beside w w.last (drop_call call w.calls) w.parts w.store w.foreign w.premises w.is_fresh
         (λ number session q t h. still_beside w call u e (sym (ap (may_leave w call) e) ∙ fit) number session q t h) (λ number q h. h) old
 
 -- by the kind of the event
 pub joins_happens : (w new : WorldState) (e : WorldEvent) (seen : Shown) → fits w e ≡ true → Happens w e seen new → (IsWhole e → IsSoundWorld new) → IsSoundWorld w → HasJoins new
 joins_happens w new (WorldEvent.Call call session command) seen fit h back old = subst HasJoins (sym h.1) (joins_called w call session command old)
 joins_happens w new (WorldEvent.Look call stripe) seen fit h back old = subst HasJoins (sym h.9) (joins_looked w call stripe h.6 h.1 h.0 h.2 h.3 old)
-joins_happens w new (WorldEvent.Read call key) seen fit h back old = subst HasJoins (sym h.3) (joins_parted w call key h.0 _ _ w.store h.1 refl old)
-joins_happens w new (WorldEvent.Say call key answer) seen fit h back old = subst HasJoins (sym h.3) (joins_parted w call key h.0 _ _ w.store h.1 refl old)
-joins_happens w new (WorldEvent.Process call key source calls fail) seen fit h back old = subst HasJoins (sym h.3) (joins_parted w call key h.0 _ _ w.store h.1 refl old)
-joins_happens w new (WorldEvent.Change call key) seen fit h back old = subst HasJoins (sym h.5) (joins_parted w call key h.0 _ w.premises _ h.2 refl old)
+joins_happens w new (WorldEvent.Read call key) seen fit h back old = subst HasJoins (sym h.3) (joins_parted w call key h.0 _ _ w.store w.foreign h.1 refl old)
+joins_happens w new (WorldEvent.Say call key answer) seen fit h back old = subst HasJoins (sym h.3) (joins_parted w call key h.0 _ _ w.store w.foreign h.1 refl old)
+joins_happens w new (WorldEvent.Process call key source calls fail) seen fit h back old = subst HasJoins (sym h.3) (joins_parted w call key h.0 _ _ w.store w.foreign h.1 refl old)
+joins_happens w new (WorldEvent.Change call key) seen fit h back old = subst HasJoins (sym h.5) (joins_parted w call key h.0 _ w.premises _ _ h.2 refl old)
 joins_happens w new (WorldEvent.Report call left fault) seen fit h back old = joins_half new (back tt)
 joins_happens w new (WorldEvent.Leave call) seen fit h back old = subst HasJoins (sym h.1) (joins_left w call fit old)
-joins_happens w new (WorldEvent.Foreign key value) seen fit h back old = subst HasJoins (sym h.1) (joins_stored w _ _ false old)
+joins_happens w new (WorldEvent.Foreign key value) seen fit h back old = subst HasJoins (sym h.1) (joins_stored w _ _ w.premises false old)
 joins_happens w new (WorldEvent.Reopen config) seen fit h back old = joins_half new (back tt)
 joins_happens w new e seen fit h back old = let k = key_change w new e seen refl h in joins_key w new e k.0 seen k.1 fit old

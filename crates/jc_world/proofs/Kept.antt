@@ -1,7 +1,8 @@
 -- Each event keeps what the parts and the store of a world say.
-use Rattle.jc_world.proofs.Asked.{asked_answer, asked_change, asked_report, asked_run, unwritten_load, unwritten_run}
+use Rattle.jc_world.proofs.Asked.{asked_heard, asked_answer, asked_change, asked_report, asked_run, unwritten_load, unwritten_run, unchanged_run}
 use Rattle.jc_world.proofs.Processors.{WrittenFor, run_given}
-use Rattle.jc_world.proofs.Common.{Invoke, not, not-true, effect_change, is_unanswered, with_loaded, FitsAsked, IsDueIn, ChangeAgrees, WriteAgrees, Nobody, Processor, ◌≡◌, ℕ, Bool, true, false, cond, ◌&&◌, List, [], ◌∷◌, ◌++◌, is_some, is_none, IsSomeAnd, slice_get, slice_set, Some, None, Option, find, sym, refl, ap, ◌∙◌, subst, and_parts, and_from, nat_list_cmp_total, beq, texts_ties, get, insert, remove, get-insert, get-remove, eq_by_cmp, Caller, Config, same_key, get-with_entry, Bytes, Cache, entry_at, with_entry, key_cmp, nothing_said, write_only, found_in, holds, write_ask, is_write_given, entry_after, Change, Event, LoadAnswer, Op, ProcessAnswer, WriteAnswer, EntryCall, callers_of, ProcessResult, Claim, asks_invoking, change_due, Steps, Begins, after_commit, Commits, Withdraws, AllAsk, first_asked, State, is_key, is_reserved, without_key, IsOut, asks_processor, Begun, StepDone, First, Loader, Writer, Reservation, Command, Part, Premises, PartProgress, Shown, WorldEvent, CallState, new_call, has_number, op_at, opened, settle, drop_call, Coherent, all_hold, with_stripe, with_phase, step_of, fault_in, without_call, new_part, with_part, without_part, after_answer, with_change, after_change, with_report, after_report, run_result, progress_after, after_process, may_leave, fits, changed_to, is_true_load, is_done, is_true_report, with_foreign_write, premises_hold, IsHeld, Agrees, LoadAgrees, ProgressAgrees, KeyAgrees, IsSoundWorld, Parts, join_key, Joins, WorldState, home, stripe_for, entry_in, cached_entry, open_call, part_of, has_progress, waits_for_load, waits_for_process, waits_for_report, is_all_answered, is_untouched, has_changed, writer_change, out_of_part, with_stored}
+use Rattle.std.proofs.lemmas.Bool.{not-false}
+use Rattle.jc_world.proofs.Common.{T, Invoke, not, not-true, or_parts, effect_change, is_unanswered, with_loaded, FitsAsked, IsDueIn, ChangeAgrees, WriteAgrees, Nobody, Processor, ◌≡◌, ℕ, Bool, true, false, cond, ◌&&◌, List, [], ◌∷◌, ◌++◌, is_some, is_none, IsSomeAnd, slice_get, slice_set, Some, None, Option, ◌||◌, find, sym, refl, ap, ◌∙◌, subst, and_parts, nat_list_cmp_total, beq, texts_ties, empty, get-empty, get, insert, remove, get-insert, get-remove, eq_by_cmp, Caller, Config, same_key, get-with_entry, Bytes, Cache, entry_at, with_entry, key_cmp, nothing_said, write_only, found_in, holds, write_ask, is_write_given, entry_after, Change, Event, LoadAnswer, Op, ProcessAnswer, WriteAnswer, EntryCall, callers_of, ProcessResult, Claim, asks_invoking, change_due, Steps, Begins, after_commit, Commits, Withdraws, AllAsk, first_asked, State, is_key, is_reserved, without_key, IsOut, asks_processor, Begun, StepDone, First, Loader, Writer, Reservation, Command, Part, Premises, PartProgress, Shown, WorldEvent, CallState, new_call, has_number, op_at, opened, settle, drop_call, Coherent, CoherentAsTold, all_hold, with_stripe, with_phase, step_of, fault_in, without_call, new_part, with_part, without_part, after_answer, with_heard, foreign_committed, with_change, after_change, with_report, after_report, run_result, progress_after, after_process, may_leave, fits, changed_to, is_true_load, is_done, is_true_report, is_agreed, IsHeld, Agrees, LoadAgrees, ProgressAgrees, PartAgrees, KeyAgrees, IsSoundWorld, Parts, join_key, Joins, WorldState, home, stripe_for, entry_in, cached_entry, open_call, part_of, has_progress, waits_for_load, waits_for_process, waits_for_report, is_all_answered, is_untouched, has_changed, is_misled, writer_change, out_of_part, with_stored, is_foreign, has_any, with_foreign, without_foreign, with_doubt}
 use Rattle.jc_world.proofs.Lemmas.{denied, missing, HasParts, is_some_and, picking, at_stripe, stripe_put, home_stripe, split, tied, agrees_stepped, writes, loads_asked, writes_asked, loads, asks_nobody, found_more, out_reserved, new_out, found_left, invoke_is, agrees_processed, agrees_effect, KeyChange, by_nothing, by_refusal, by_step, by_reservation, by_join, by_commit, by_withdrawal, by_answer, by_retry, some_of}
 use Rattle.jc_world.proofs.Holding.{call_on, is_part}
 use Rattle.jc_world.proofs.Maps.{keys_ordered, each_put}
@@ -16,37 +17,32 @@ HeldIn o key part = IsSomeAnd o (λ s. IsHeld s key part)
 abbrev AllHeld : WorldState → Parts → Type 0
 AllHeld w parts = (key : Bytes) (part : Part) → get parts key ≡ Some part → HeldIn (stripe_for w key) key part
 
--- and what is known of them, with this store
-abbrev AllTold : WorldState → Parts → Cache → Type 0
-AllTold w parts store = (key : Bytes) → KeyAgrees (get parts key) (entry_at store key) (cached_entry w key)
+-- and what is known of them, with this store, if nobody else has written them
+abbrev AllTold : WorldState → Parts → Cache → Cache → Type 0
+AllTold w parts store foreign = (key : Bytes) → is_some (entry_at foreign key) ≡ false → KeyAgrees (get parts key) (entry_at store key) (cached_entry w key)
 
--- two tests that both pass
--- a further premise held, and and_from the former ones
-hold_loader : (on w l h q o : Bool) → (on && (w && (l && h) && q && o)) ≡ true → ((on && (w && l && q && o)) ≡ true) × (h ≡ true)
-hold_loader on w l h q o e =
-    let a = and_parts on (w && (l && h) && q && o) e in
-    let x = and_parts (w && (l && h) && q) o a.1 in
-    let b = and_parts (w && (l && h)) q x.0 in
-    let c = and_parts w (l && h) b.0 in
-    let d = and_parts l h c.1 in
-    (and_from on (w && l && q && o) a.0 (and_from (w && l && q) o (and_from (w && l) q (and_from w l c.0 d.0) b.1) x.1), d.1)
+-- a key is none of those that others have written, if it is none of them without another one
+still_foreign : (m : Cache) (key q : Bytes) (over : Bool) → eq_by_cmp key_cmp q key ≡ false → is_some (entry_at (without_foreign m key over) q) ≡ false → is_some (entry_at m q) ≡ false
+still_foreign m key q false apart f = f
+still_foreign m key q true apart f = sym (ap is_some (get-with_entry m key None q ∙ ap (λ b. cond b None (entry_at m q)) apart)) ∙ f
 
--- the same, of the writers
-hold_writer : (on w h l q o : Bool) → (on && ((w && h) && l && q && o)) ≡ true → ((on && (w && l && q && o)) ≡ true) × (h ≡ true)
-hold_writer on w h l q o e =
-    let a = and_parts on ((w && h) && l && q && o) e in
-    let x = and_parts ((w && h) && l && q) o a.1 in
-    let b = and_parts ((w && h) && l) q x.0 in
-    let c = and_parts (w && h) l b.0 in
-    let d = and_parts w h c.0 in
-    (and_from on (w && l && q && o) a.0 (and_from (w && l && q) o (and_from (w && l) q (and_from w l d.0 c.1) b.1) x.1), d.1)
+-- and if it is none of them with another one, which is another key then
+less_foreign : (m : Cache) (key q : Bytes) → is_some (entry_at (with_foreign m key) q) ≡ false → (eq_by_cmp key_cmp q key ≡ false) × (is_some (entry_at m q) ≡ false)
+less_foreign m key q f =
+    elim (is_some (entry_at m key)) as (λ b. is_some (entry_at m key) ≡ b → is_some (entry_at (cond b m (with_entry m key (Some []))) q) ≡ false → (eq_by_cmp key_cmp q key ≡ false) × (is_some (entry_at m q) ≡ false)) [
+      | true ↦ λ is f. (split q key (λ b. b ≡ false) (λ same. let t : true ≡ false = sym is ∙ ap (λ k. is_some (entry_at m k)) (sym same) ∙ f in cc) (λ apart. refl), f)
+      | false ↦ λ is f. split q key (λ b. is_some (cond b (Some []) (entry_at m q)) ≡ false → (b ≡ false) × (is_some (entry_at m q) ≡ false)) (λ same f. absurd (let t : true ≡ false = f in cc)) (λ apart f. (refl, f)) (sym (ap is_some (get-with_entry m key (Some []) q)) ∙ f)
+    ] refl f
 
--- a store that was written by somebody else isn't quiet
-undisturbed : (on w l o : Bool) → (on && (w && l && false && o)) ≡ true → ⊥
-undisturbed on w l o h =
-    let a = and_parts on (w && l && false && o) h in
-    let x = and_parts (w && l && false) o a.1 in
-    let t = (and_parts (w && l) false x.0).1 in cc
+-- a doubt about a key is none about another
+other_doubted : (m : Cache) (key q : Bytes) (misled : Bool) → eq_by_cmp key_cmp q key ≡ false → is_some (entry_at (with_doubt m key misled) q) ≡ false → is_some (entry_at m q) ≡ false
+other_doubted m key q true apart f = (less_foreign m key q f).1
+other_doubted m key q false apart f = f
+
+-- without a doubt nobody has lied
+undoubted : (m : Cache) (key : Bytes) (misled : Bool) → is_some (entry_at (with_doubt m key misled) key) ≡ false → (misled ≡ false) × (is_some (entry_at m key) ≡ false)
+undoubted m key true f = absurd (let t : false ≡ true = sym (less_foreign m key key f).0 ∙ tied key in cc)
+undoubted m key false f = (refl, f)
 
 -- what holds of what is there holds of what follows from it
 pub some_map : {A : Type 0} (o : Option A) (P Q : A → Type 0) → ((x : A) → P x → Q x) → IsSomeAnd o P → IsSomeAnd o Q
@@ -81,7 +77,7 @@ same_test a b h = refl
 -- what a key's part, its entry and the store say, if the entry is changed
 told_on : (o : Option Part) (stored entry next : Option Bytes) → (Agrees entry stored → Agrees next stored) → KeyAgrees o stored entry → KeyAgrees o stored next
 told_on None stored entry next f h = f h
-told_on (Some part) stored entry next f h = go part.progress.change h
+told_on (Some part) stored entry next f h = record { kept = λ e. f (h.kept e); honest = λ m. go part.progress.change (h.honest m) }
   where
     go : (c : Option Change) → ChangeAgrees c part.progress stored entry → ChangeAgrees c part.progress stored next
     go None h = record { loaded = h.loaded; unwritten = f h.unwritten }
@@ -93,16 +89,16 @@ told_none None stored None h k = tt
 told_none o stored entry h k = cc
 
 -- what is known of a key with this part
-told_at : (o : Option Part) (part : Part) (stored entry : Option Bytes) → o ≡ Some part → KeyAgrees o stored entry → ProgressAgrees part.progress stored entry
+told_at : (o : Option Part) (part : Part) (stored entry : Option Bytes) → o ≡ Some part → KeyAgrees o stored entry → PartAgrees part.progress stored entry
 told_at o part stored entry e h = let P : Option Part → Type 0 = λ o. KeyAgrees o stored entry in subst P e h
 
--- as long as the writer hasn't changed the store, the entry agrees with it
-unwritten_in : (p : PartProgress) (stored entry : Option Bytes) → p.is_changed ≡ false → ProgressAgrees p stored entry → Agrees entry stored
-unwritten_in p stored entry e h = go p.change h
+-- whether it was honest doesn't count
+agrees_heard : (p : PartProgress) (was honest : Bool) (stored entry : Option Bytes) → ProgressAgrees p stored entry → ProgressAgrees (with_heard p was honest) stored entry
+agrees_heard p was honest stored entry h = go p.change h
   where
-    go : (c : Option Change) → ChangeAgrees c p stored entry → Agrees entry stored
-    go None h = h.unwritten
-    go (Some change) h = h.unwritten e
+    go : (c : Option Change) → ChangeAgrees c p stored entry → ChangeAgrees c (with_heard p was honest) stored entry
+    go None h = record { loaded = h.loaded; unwritten = h.unwritten }
+    go (Some change) h = record { written = h.written; unwritten = h.unwritten; honest = h.honest }
 
 -- 2. What is known of a sound world.
 
@@ -111,7 +107,7 @@ pub stripe_at : (w : WorldState) (key : Bytes) → IsSoundWorld w → (s : State
 stripe_at w key old = home_stripe w key old.shape
 
 -- a key's part is held by its stripe
-held_at : (w : WorldState) (key : Bytes) (part : Part) (s : State) → get w.parts key ≡ Some part → stripe_for w key ≡ Some s → IsSoundWorld w → IsHeld s key part
+pub held_at : (w : WorldState) (key : Bytes) (part : Part) (s : State) → get w.parts key ≡ Some part → stripe_for w key ≡ Some s → IsSoundWorld w → IsHeld s key part
 held_at w key part s there at old = of_some (stripe_for w key) (λ s. IsHeld s key part) s at (old.held key part there)
 
 -- the key of a part that is held is reserved
@@ -147,12 +143,14 @@ held_insert : (w : WorldState) (parts : Parts) (key : Bytes) (new : Part) → Al
 held_insert w parts key new all one = each_put keys_ordered (λ q part. HeldIn (stripe_for w q) q part) parts key new one all
 
 -- what is known of a further part, and of all the others
-told_insert : (w : WorldState) (parts : Parts) (store : Cache) (key : Bytes) (new : Part) → AllTold w parts store → ProgressAgrees new.progress (entry_at store key) (cached_entry w key) → AllTold w (insert parts key new) store
-told_insert w parts store key new all one q =
+told_insert : (w : WorldState) (parts : Parts) (store foreign : Cache) (key : Bytes) (new : Part)
+    → ((q : Bytes) → eq_by_cmp key_cmp q key ≡ false → is_some (entry_at foreign q) ≡ false → KeyAgrees (get parts q) (entry_at store q) (cached_entry w q))
+    → (is_some (entry_at foreign key) ≡ false → PartAgrees new.progress (entry_at store key) (cached_entry w key)) → AllTold w (insert parts key new) store foreign
+told_insert w parts store foreign key new all one q f =
     rw (get-insert nat_list_cmp_total parts key new q)
     (split q key (λ b. KeyAgrees (cond b (Some new) (get parts q)) (entry_at store q) (cached_entry w q))
-    (λ same. let Q : Bytes → Type 0 = λ k. ProgressAgrees new.progress (entry_at store k) (cached_entry w k) in subst Q (sym same) one)
-    (λ apart. all q))
+    (λ same. let Q : Bytes → Type 0 = λ k. is_some (entry_at foreign k) ≡ false → PartAgrees new.progress (entry_at store k) (cached_entry w k) in subst Q (sym same) one f)
+    (λ apart. all q apart f))
 
 -- 4. Answers, changes and reports.
 
@@ -196,11 +194,11 @@ asked_at : (w : WorldState) (key : Bytes) (part : Part) → get w.parts key ≡ 
 asked_at w key part there old = (some_of (stripe_for w key) (λ s. IsHeld s key part) (old.held key part there)).2.asked
 
 -- a held key stays held: whom it asked stays, and what is then known of all keys holds
-parts_progressed : (w : WorldState) (call : ℕ) (key : Bytes) (part : Part) (p : PartProgress) (store : Cache) (premises : Premises) → part_of w call key ≡ Some part
+parts_progressed : (w : WorldState) (call : ℕ) (key : Bytes) (part : Part) (p : PartProgress) (store foreign : Cache) (premises : Premises) → part_of w call key ≡ Some part
     → (FitsAsked part.reservation.first part.progress → FitsAsked part.reservation.first p)
-    → (all_hold (record w { premises = premises }) ≡ true → AllTold w (insert w.parts key (record part { progress = p })) store) → IsSoundWorld w
-    → HasParts (record w { store = store; parts = insert w.parts key (record part { progress = p }); premises = premises })
-parts_progressed w call key part p store premises is asks told old =
+    → (all_hold (record w { premises = premises }) ≡ true → AllTold w (insert w.parts key (record part { progress = p })) store foreign) → IsSoundWorld w
+    → HasParts (record w { store = store; foreign = foreign; parts = insert w.parts key (record part { progress = p }); premises = premises })
+parts_progressed w call key part p store foreign premises is asks told old =
     let new : Part = record part { progress = p } in
     let there = is_part (get w.parts key) call part is in
     record {
@@ -216,12 +214,21 @@ pub parts_answered : (w : WorldState) (call : ℕ) (key : Bytes) (part : Part) (
 parts_answered w call key part answer is waits old =
     let there = is_part (get w.parts key) call part is in
     let due : waits_for_load part ≡ true = sym (ap (has_progress waits_for_load) is) ∙ waits in
-    parts_progressed w call key part (with_loaded part.progress answer) w.store (after_answer w key part answer).premises is (asked_answer part.reservation.first part.progress answer (and_parts _ _ due).0)
-    (λ h.
-    let hold = hold_loader w.config.write_through w.premises.writers w.premises.loaders (is_true_load answer (entry_at w.store key)) w.premises.quiet w.premises.opening h in
-    let one = told_at (get w.parts key) part (entry_at w.store key) (cached_entry w key) there (old.told hold.0 key) in
-    told_insert w w.parts w.store key (record part { progress = with_loaded part.progress answer }) (old.told hold.0)
-    (told_load part.progress answer (entry_at w.store key) (cached_entry w key) (unwritten_load part.reservation.first part.progress (and_parts _ _ due).0 (asked_at w key part there old)) (true_found answer _ hold.1) one)) old
+    let stored = entry_at w.store key in
+    let honest = is_true_load answer stored in
+    let loaded = with_loaded part.progress answer in
+    parts_progressed w call key part (with_heard loaded (is_misled part) honest) w.store w.foreign (after_answer w key part answer).premises is
+    (λ h. asked_heard part.reservation.first loaded (is_misled part) honest (asked_answer part.reservation.first part.progress answer (and_parts _ _ due).0 h))
+    (λ hold.
+    let one : is_foreign w key ≡ false → PartAgrees part.progress stored (cached_entry w key) = λ f. told_at (get w.parts key) part stored (cached_entry w key) there (old.told hold key f) in
+    told_insert w w.parts w.store w.foreign key (record part { progress = with_heard loaded (is_misled part) honest }) (λ q apart. old.told hold q)
+    (λ f. record {
+      kept = (one f).kept;
+      honest = λ m.
+          let b = or_parts (is_misled part) (not honest) m in
+          agrees_heard loaded (is_misled part) honest stored (cached_entry w key)
+          (told_load part.progress answer stored (cached_entry w key) (unwritten_load part.reservation.first part.progress (and_parts _ _ due).0 (asked_at w key part there old)) (true_found answer _ (not-false honest b.1)) ((one f).honest b.0));
+    })) old
 
 -- the processor has run
 pub parts_processed : (w : WorldState) (key : Bytes) (call : ℕ) (part : Part) (answer : LoadAnswer) (calls : List EntryCall) (fail : Option ℕ) → part_of w call key ≡ Some part → has_progress waits_for_process (part_of w call key) ≡ true → IsSoundWorld w
@@ -231,12 +238,23 @@ parts_processed w key call part answer calls fail is waits old =
     let due : waits_for_process part ≡ true = sym (ap (has_progress waits_for_process) is) ∙ waits in
     let done = run_result part.reservation answer calls fail in
     let change = change_due w.config done in
-    parts_progressed w call key part (progress_after change done) w.store (after_process w key part done).premises is (λ h. asked_run part.reservation.first change done (and_parts (asks_processor part.reservation.first) _ due).0 (run_given _ _))
-    (λ h.
-    let hold = hold_loader w.config.write_through w.premises.writers w.premises.loaders (is_true_load done.load (entry_at w.store key)) w.premises.quiet w.premises.opening h in
-    let one = told_at (get w.parts key) part (entry_at w.store key) (cached_entry w key) there (old.told hold.0 key) in
-    told_insert w w.parts w.store key (record part { progress = progress_after change done }) (old.told hold.0)
-    (told_run part.progress change done (entry_at w.store key) (cached_entry w key) (unwritten_run part.reservation.first part.progress (and_parts _ _ due).0 (and_parts (asks_processor part.reservation.first) _ due).1 (asked_at w key part there old)) (true_found done.load _ hold.1) one)) old
+    let stored = entry_at w.store key in
+    let honest = is_true_load done.load stored in
+    let ran = progress_after change done in
+    parts_progressed w call key part (with_heard ran (is_misled part) honest) w.store w.foreign (after_process w key part done).premises is
+    (λ h. asked_heard part.reservation.first ran (is_misled part) honest (asked_run part.reservation.first change done (and_parts (asks_processor part.reservation.first) _ due).0 (run_given _ _)))
+    (λ hold.
+    let one : is_foreign w key ≡ false → PartAgrees part.progress stored (cached_entry w key) = λ f. told_at (get w.parts key) part stored (cached_entry w key) there (old.told hold key f) in
+    told_insert w w.parts w.store w.foreign key (record part { progress = with_heard ran (is_misled part) honest }) (λ q apart. old.told hold q)
+    (λ f.
+    let none = unwritten_run part.reservation.first part.progress (and_parts (asks_processor part.reservation.first) _ due).0 (and_parts (asks_processor part.reservation.first) _ due).1 (asked_at w key part there old) in
+    record {
+      kept = λ e. (one f).kept (unchanged_run part.reservation.first part.progress (and_parts (asks_processor part.reservation.first) _ due).0 (and_parts (asks_processor part.reservation.first) _ due).1 (asked_at w key part there old));
+      honest = λ m.
+          let b = or_parts (is_misled part) (not honest) m in
+          agrees_heard ran (is_misled part) honest stored (cached_entry w key)
+          (told_run part.progress change done stored (cached_entry w key) none (true_found done.load _ (not-false honest b.1)) ((one f).honest b.0));
+    })) old
 
 -- the writer has changed the store
 pub parts_changed : (w : WorldState) (call : ℕ) (key : Bytes) (part : Part) (change : Change) → part_of w call key ≡ Some part → writer_change part ≡ Some change → has_progress waits_for_report (part_of w call key) ≡ true → IsSoundWorld w → HasParts (after_change w key part change)
@@ -244,31 +262,43 @@ parts_changed w call key part change is asks waits old =
     let new : Part = record part { progress = with_change part.progress } in
     let store = (after_change w key part change).store in
     let due : waits_for_report part ≡ true = sym (ap (has_progress waits_for_report) is) ∙ waits in
-    parts_progressed w call key part new.progress store w.premises is (asked_change part.reservation.first part.progress)
-    (λ h q.
+    parts_progressed w call key part new.progress store (without_foreign w.foreign key true) w.premises is (asked_change part.reservation.first part.progress (ap is_some asks))
+    (λ h q f.
     rw (get-insert nat_list_cmp_total w.parts key new q)
     (rw (get-with_entry w.store key (changed_to change) q)
     (split q key (λ b. KeyAgrees (cond b (Some new) (get w.parts q)) (cond b (changed_to change) (entry_at w.store q)) (cached_entry w q))
-    (λ same. told_change part.progress change (cached_entry w q) (and_parts (is_some part.progress.change) _ due).1 asks)
-    (λ apart. old.told h q)))) old
+    (λ same. record { kept = λ e. absurd (let t : true ≡ false = e in cc); honest = λ m. told_change part.progress change (cached_entry w q) (and_parts (is_some part.progress.change) _ due).1 asks })
+    (λ apart. old.told h q (still_foreign w.foreign key q true apart f))))) old
 
 -- the writer has returned
 pub parts_reported : (w : WorldState) (call : ℕ) (key : Bytes) (part : Part) (report : WriteAnswer) → part_of w call key ≡ Some part → has_progress waits_for_report (part_of w call key) ≡ true → IsSoundWorld w → HasParts (after_report w key part report)
 parts_reported w call key part report is waits old =
     let there = is_part (get w.parts key) call part is in
     let due : waits_for_report part ≡ true = sym (ap (has_progress waits_for_report) is) ∙ waits in
-    parts_progressed w call key part (with_report part.progress report) w.store (after_report w key part report).premises is (asked_report part.reservation.first part.progress report (and_parts (is_some part.progress.change) _ due).0)
-    (λ h.
-    let hold = hold_writer w.config.write_through w.premises.writers (is_true_report report (has_changed part)) w.premises.loaders w.premises.quiet w.premises.opening h in
-    let one = told_at (get w.parts key) part (entry_at w.store key) (cached_entry w key) there (old.told hold.0 key) in
-    told_insert w w.parts w.store key (record part { progress = with_report part.progress report }) (old.told hold.0)
-    (told_report part.progress report (entry_at w.store key) (cached_entry w key) (and_parts (is_some part.progress.change) _ due).0 hold.1 one)) old
+    let stored = entry_at w.store key in
+    let honest = is_true_report report (has_changed part) in
+    let said = with_report part.progress report in
+    parts_progressed w call key part (with_heard said (is_misled part) honest) w.store w.foreign (after_report w key part report).premises is
+    (λ h. asked_heard part.reservation.first said (is_misled part) honest (asked_report part.reservation.first part.progress report (and_parts (is_some part.progress.change) _ due).0 h))
+    (λ hold.
+    let one : is_foreign w key ≡ false → PartAgrees part.progress stored (cached_entry w key) = λ f. told_at (get w.parts key) part stored (cached_entry w key) there (old.told hold key f) in
+    told_insert w w.parts w.store w.foreign key (record part { progress = with_heard said (is_misled part) honest }) (λ q apart. old.told hold q)
+    (λ f. record {
+      kept = (one f).kept;
+      honest = λ m.
+          let b = or_parts (is_misled part) (not honest) m in
+          agrees_heard said (is_misled part) honest stored (cached_entry w key)
+          (told_report part.progress report stored (cached_entry w key) (and_parts (is_some part.progress.change) _ due).0 (not-false honest b.1) ((one f).honest b.0));
+    })) old
 
 -- somebody else has written the store
-pub parts_disturbed : (w : WorldState) (store : Cache) → IsSoundWorld w → HasParts (record w { store = store; premises = with_foreign_write w.premises; is_fresh = false })
-parts_disturbed w store old = record {
+pub parts_disturbed : (w : WorldState) (key : Bytes) (value : Option Bytes) → IsSoundWorld w → HasParts (record w { store = with_entry w.store key value; foreign = with_foreign w.foreign key; is_fresh = false })
+parts_disturbed w key value old = record {
   held = old.held;
-  told = λ h. absurd (undisturbed w.config.write_through w.premises.writers w.premises.loaders w.premises.opening h);
+  told = λ h q f.
+      let other = less_foreign w.foreign key q f in
+      let P : Option Bytes → Type 0 = λ o. KeyAgrees (get w.parts q) o (cached_entry w q) in
+      subst P (sym (get-with_entry w.store key value q ∙ ap (λ b. cond b value (entry_at w.store q)) other.0)) (old.told h q other.1);
   cold = λ f. absurd (let t : false ≡ true = f in cc);
   idle = λ f. absurd (let t : false ≡ true = f in cc);
 }
@@ -277,7 +307,7 @@ parts_disturbed w store old = record {
 pub parts_stored : (w : WorldState) (key value : Bytes) → w.is_fresh ≡ true → IsSoundWorld w → HasParts (with_stored w key value)
 parts_stored w key value new old = record {
   held = old.held;
-  told = λ h q. told_none (get w.parts q) (entry_at (with_entry w.store key (Some value)) q) (cached_entry w q) (missing (get w.parts q) (λ p there. worn w q p there old new)) (old.cold new q);
+  told = λ h q f. told_none (get w.parts q) (entry_at (with_entry w.store key (Some value)) q) (cached_entry w q) (missing (get w.parts q) (λ p there. worn w q p there old new)) (old.cold new q);
   cold = old.cold;
   idle = old.idle;
 }
@@ -335,7 +365,7 @@ held_stepped caller key op from next done q p begins h =
     held_on from next q p (rw (ap (λ (s : State). s.reservations) begins.2.after) h.out) h
 
 -- and the entries that agreed with the store do so still
-agrees_begun : (caller : Caller) (key : Bytes) (op : Op) (from next : State) (done : StepDone) (q : Bytes) (stored : Option Bytes) → Begins from caller key op (Begun.Done done) next
+pub agrees_begun : (caller : Caller) (key : Bytes) (op : Op) (from next : State) (done : StepDone) (q : Bytes) (stored : Option Bytes) → Begins from caller key op (Begun.Done done) next
     → from.config.write_through ≡ true → Agrees (entry_at from.cache q) stored → Agrees (entry_at next.cache q) stored
 agrees_begun caller key op from next done q stored begins on agrees =
     agrees_stepped from next caller key op nothing_said [] done q stored begins.2
@@ -349,9 +379,9 @@ parts_stepped : (w : WorldState) (call : ℕ) (u : CallState) (key : Bytes) (op 
     → HasParts (record w { stripes = slice_set w.stripes (home w key) next; order = order; calls = calls })
 parts_stepped w call u key op from next order calls done is at begins old = record {
   held = held_set w key from next at (λ q p. held_stepped u.caller key op from next done q p begins) old;
-  told = λ hold q.
-      let on : from.config.write_through ≡ true = ap (λ (c : Config). c.write_through) (config_at w (home w key) from at old) ∙ (and_parts w.config.write_through (premises_hold w.premises) hold).0 in
-      told_set w key from next q at (told_on (get w.parts q) (entry_at w.store q) (entry_at from.cache q) (entry_at next.cache q) (agrees_begun u.caller key op from next done q (entry_at w.store q) begins on)) (old.told hold q);
+  told = λ hold q f.
+      let on : from.config.write_through ≡ true = ap (λ (c : Config). c.write_through) (config_at w (home w key) from at old) ∙ (and_parts w.config.write_through w.premises.opening hold).0 in
+      told_set w key from next q at (told_on (get w.parts q) (entry_at w.store q) (entry_at from.cache q) (entry_at next.cache q) (agrees_begun u.caller key op from next done q (entry_at w.store q) begins on)) (old.told hold q f);
   cold = λ f. absurd (begun_before w call u is old f);
   idle = λ f. absurd (begun_before w call u is old f);
 }
@@ -361,20 +391,29 @@ held_reserving : (from next : State) (r : Reservation) (q : Bytes) (p : Part) �
 held_reserving from next r q p reservations h =
     held_on from next q p (rw reservations (found_more (is_key p.reservation.key) from.reservations (r ∷ []) p.reservation h.out)) h
 
+-- with no entry nothing is from before
+newly_told : (m : Cache) (key : Bytes) (was entry stored : Option Bytes) → entry ≡ was → (is_some (entry_at m key) ≡ false → Agrees entry stored) → is_some (entry_at (without_foreign m key (is_none was)) key) ≡ false → Agrees entry stored
+newly_told m key None entry stored same told f = subst (λ o. Agrees o stored) (sym same) tt
+newly_told m key (Some value) entry stored same told f = told f
+
 -- so there is one part more
 parts_reserving : (w : WorldState) (key : Bytes) (from next : State) (r : Reservation) (part : Part) → stripe_for w key ≡ Some from → is_reserved from key ≡ false
     → next.reservations ≡ from.reservations ++ r ∷ [] → next.cache ≡ from.cache → IsHeld next key part
-    → ((stored entry : Option Bytes) → Agrees entry stored → ProgressAgrees part.progress stored entry) → (w.is_fresh ≡ true → ⊥) → IsSoundWorld w
-    → HasParts (with_part (with_stripe w key next) key part)
+    → ((stored entry : Option Bytes) → Agrees entry stored → PartAgrees part.progress stored entry) → (w.is_fresh ≡ true → ⊥) → IsSoundWorld w
+    → HasParts (record (with_part (with_stripe w key next) key part) { foreign = without_foreign w.foreign key (is_none (cached_entry w key)) })
 parts_reserving w key from next r part at free reservations cache one new used old =
-    let n = with_part (with_stripe w key next) key part in
+    let n : WorldState = record (with_part (with_stripe w key next) key part) { foreign = without_foreign w.foreign key (is_none (cached_entry w key)) } in
+    let stored = entry_at w.store key in
+    let same : cached_entry n key ≡ cached_entry w key = at_stripe w.stripes (home w key) (home w key) from next (λ o x. entry_in x key ≡ entry_in o key) at (ap (λ c. entry_at c key) cache) refl in
     let on : AllHeld n w.parts = held_set w key from next at (λ q p. held_reserving from next r q p reservations) old in
     record {
       held = held_insert n w.parts key part on (is_some_and (stripe_for n key) (λ s. IsHeld s key part) next (stripe_put w.stripes (home w key) from next at) one);
       told = λ hold.
-          let all : AllTold n w.parts w.store = λ q. told_same w key from next q at cache (old.told hold q) in
-          let N : Option Part → Type 0 = λ o. KeyAgrees o (entry_at w.store key) (cached_entry n key) in
-          told_insert n w.parts w.store key part all (new (entry_at w.store key) (cached_entry n key) (subst N (unheld w key from at free old) (all key)));
+          let all : AllTold n w.parts w.store w.foreign = λ q f. told_same w key from next q at cache (old.told hold q f) in
+          let N : Option Part → Type 0 = λ o. KeyAgrees o stored (cached_entry n key) in
+          told_insert n w.parts w.store n.foreign key part (λ q apart f. all q (still_foreign w.foreign key q (is_none (cached_entry w key)) apart f))
+          (λ f. new stored (cached_entry n key)
+          (newly_told w.foreign key (cached_entry w key) (cached_entry n key) stored same (λ f. subst N (unheld w key from at free old) (all key f)) f));
       cold = λ f. absurd (used f);
       idle = λ f. absurd (used f);
     }
@@ -390,7 +429,7 @@ parts_aside : (w : WorldState) (key : Bytes) (from next : State) (calls : List C
     → HasParts (record w { stripes = slice_set w.stripes (home w key) next; calls = calls; joins = joins })
 parts_aside w key from next calls joins at cache reservations used old = record {
   held = held_set w key from next at (λ q p h. held_on from next q p (ap (find (is_key p.reservation.key)) reservations ∙ h.out) h) old;
-  told = λ hold q. told_same w key from next q at cache (old.told hold q);
+  told = λ hold q f. told_same w key from next q at cache (old.told hold q f);
   cold = λ f. absurd (used f);
   idle = λ f. absurd (used f);
 }
@@ -466,25 +505,48 @@ abbrev EndsBy : Bytes → Part → State → State → StepDone → Type 0
 EndsBy key part from next done = Steps (after_commit from part.reservation done.place) part.reservation.caller key part.reservation.op (out_of_part part) (callers_of part.reservation.number from.joiners) done next
 
 -- a commit's own entry agrees with the store, if what the operation leaves does
-agrees_own : (key : Bytes) (part : Part) (from next : State) (done : StepDone) (stored : Option Bytes) → EndsBy key part from next done
+pub agrees_own : (key : Bytes) (part : Part) (from next : State) (done : StepDone) (stored : Option Bytes) → EndsBy key part from next done
     → Agrees (entry_after part.reservation.op (entry_at from.cache key) (out_of_part part)) stored → Agrees (entry_at next.cache key) stored
 agrees_own key part from next done stored steps h =
     agrees_stepped (after_commit from part.reservation done.place) next part.reservation.caller key part.reservation.op (out_of_part part) (callers_of part.reservation.number from.joiners) done key stored steps
     (let P : Bool → Type 0 = λ b. Agrees (cond b (entry_after part.reservation.op (entry_at from.cache key) (out_of_part part)) (entry_at from.cache key)) stored in subst P (sym (tied key)) h)
 
 -- and the others still do
-agrees_other : (key : Bytes) (part : Part) (from next : State) (done : StepDone) (q : Bytes) (stored : Option Bytes) → EndsBy key part from next done
+pub agrees_other : (key : Bytes) (part : Part) (from next : State) (done : StepDone) (q : Bytes) (stored : Option Bytes) → EndsBy key part from next done
     → eq_by_cmp key_cmp q key ≡ false → Agrees (entry_at from.cache q) stored → Agrees (entry_at next.cache q) stored
 agrees_other key part from next done q stored steps apart h =
     agrees_stepped (after_commit from part.reservation done.place) next part.reservation.caller key part.reservation.op (out_of_part part) (callers_of part.reservation.number from.joiners) done q stored steps
     (let P : Bool → Type 0 = λ b. Agrees (cond b (entry_after part.reservation.op (entry_at from.cache key) (out_of_part part)) (entry_at from.cache q)) stored in subst P (sym apart) h)
 
+-- another key is one of those that others have written after a commit if it was before
+other_committed : (w : WorldState) (key q : Bytes) (part : Part) (next : State) → eq_by_cmp key_cmp q key ≡ false → is_some (entry_at (foreign_committed w key part next) q) ≡ false → is_foreign w q ≡ false
+other_committed w key q part next apart f =
+    other_doubted w.foreign key q (is_misled part) apart (still_foreign (with_doubt w.foreign key (is_misled part)) key q (is_agreed (entry_at next.cache key) (entry_at w.store key)) apart f)
+
+-- what agrees by the test does
+agrees_tested : (entry stored : Option Bytes) → is_agreed entry stored ≡ true → Agrees entry stored
+agrees_tested None stored h = tt
+agrees_tested (Some value) stored h = holds_same stored value h
+
+-- a committed key that is none of them agrees with the store by the test, or nobody has lied, and it was none before
+own_agreed : (w : WorldState) (key : Bytes) (part : Part) (next : State) → is_some (entry_at (foreign_committed w key part next) key) ≡ false
+    → (is_misled part ≡ false → is_foreign w key ≡ false → Agrees (entry_at next.cache key) (entry_at w.store key)) → Agrees (entry_at next.cache key) (entry_at w.store key)
+own_agreed w key part next f honest =
+    elim (is_agreed (entry_at next.cache key) (entry_at w.store key)) as (λ b. is_agreed (entry_at next.cache key) (entry_at w.store key) ≡ b → is_some (entry_at (without_foreign (with_doubt w.foreign key (is_misled part)) key b) key) ≡ false → Agrees (entry_at next.cache key) (entry_at w.store key)) [
+      | true ↦ λ is f. agrees_tested (entry_at next.cache key) (entry_at w.store key) is
+      | false ↦ λ is f. let d = undoubted w.foreign key (is_misled part) f in honest d.0 d.1
+    ] refl f
+
 -- so there is one part less
+abbrev committed_world : WorldState → Bytes → Part → State → List Event → List CallState → WorldState
+committed_world w key part next order calls =
+    record w { stripes = slice_set w.stripes (home w key) next; order = order; calls = calls; parts = remove w.parts key; foreign = foreign_committed w key part next }
+
 parts_committed : (w : WorldState) (call : ℕ) (key : Bytes) (part : Part) (from next : State) (order : List Event) (calls : List CallState) (done : StepDone) → part_of w call key ≡ Some part → has_progress is_all_answered (part_of w call key) ≡ true → stripe_for w key ≡ Some from
     → Commits from part.reservation (out_of_part part) done next → IsSoundWorld w
-    → HasParts (record w { stripes = slice_set w.stripes (home w key) next; order = order; calls = calls; parts = remove w.parts key })
+    → HasParts (committed_world w key part next order calls)
 parts_committed w call key part from next order calls done is answered at commits old =
-    let n : WorldState = record w { stripes = slice_set w.stripes (home w key) next; order = order; calls = calls; parts = remove w.parts key } in
+    let n : WorldState = committed_world w key part next order calls in
     let there = is_part (get w.parts key) call part is in
     let one = held_at w key part from there at old in
     let r = part.reservation in
@@ -494,24 +556,27 @@ parts_committed w call key part from next order calls done is answered at commit
     let reached = (old.shape.each (home w key) from at).reached in
     record {
       held = λ q p e. held_removed w key from next q p at left old e;
-      told = λ hold q.
+      told = λ hold q f.
           let all = old.told hold in
           subst (λ o. KeyAgrees o (entry_at w.store q) (cached_entry n q)) (sym (get-remove nat_list_cmp_total w.parts key q))
           (split q key (λ b. KeyAgrees (cond b None (get w.parts q)) (entry_at w.store q) (cached_entry n q))
           (λ same.
           let B : Bytes → Type 0 = λ k. Agrees (cached_entry n k) (entry_at w.store k) in
           let S : Option State → Type 0 = λ o. Agrees (entry_in o key) (entry_at w.store key) in
-          let T : Option State → Type 0 = λ o. ProgressAgrees part.progress (entry_at w.store key) (entry_in o key) in
-          let told = subst T at (told_at (get w.parts key) part (entry_at w.store key) (cached_entry w key) there (all key)) in
+          let T : Option State → Type 0 = λ o. PartAgrees part.progress (entry_at w.store key) (entry_in o key) in
+          let F : Bytes → Type 0 = λ k. is_some (entry_at n.foreign k) ≡ false in
+          let leaves = own_agreed w key part next (subst F same f) (λ misled told_of.
+          let told = subst T at (told_at (get w.parts key) part (entry_at w.store key) (cached_entry w key) there (all key told_of)) in
           let asks = ap (λ k. first_asked from.config r.op (entry_at from.cache k)) (sym one.key_is) ∙ asks_found from.config from.cache r.key from.reservations r one.out reached.asks in
           let same_config = config_at w (home w key) from at old in
-          let on : from.config.write_through ≡ true = ap (λ (c : Config). c.write_through) same_config ∙ (and_parts w.config.write_through (premises_hold w.premises) hold).0 in
+          let on : from.config.write_through ≡ true = ap (λ (c : Config). c.write_through) same_config ∙ (and_parts w.config.write_through w.premises.opening hold).0 in
           let due : IsDueIn from.config r.first part.progress = subst (λ (c : Config). IsDueIn c r.first part.progress) (sym same_config) (old.due key part there) in
           let over = not-true (waits_for_report part) (and_parts (not (waits_for_load part) && not (waits_for_process part)) (not (waits_for_report part)) (sym (ap (has_progress is_all_answered) is) ∙ answered)).1 in
-          let leaves = agrees_ended from.config part.progress r.op r.first (entry_at from.cache key) (entry_at w.store key) asks one.asked over on due told in
-          subst B (sym same) (subst S (sym (stripe_put w.stripes (home w key) from next at)) (agrees_own key part from next done (entry_at w.store key) steps leaves)))
+          let leaves = agrees_ended from.config part.progress r.op r.first (entry_at from.cache key) (entry_at w.store key) asks one.asked over on due (told.honest misled) in
+          agrees_own key part from next done (entry_at w.store key) steps leaves) in
+          subst B (sym same) (subst S (sym (stripe_put w.stripes (home w key) from next at)) leaves))
           (λ apart.
-          told_set w key from next q at (told_on (get w.parts q) (entry_at w.store q) (entry_at from.cache q) (entry_at next.cache q) (agrees_other key part from next done q (entry_at w.store q) steps apart)) (all q)));
+          told_set w key from next q at (told_on (get w.parts q) (entry_at w.store q) (entry_at from.cache q) (entry_at next.cache q) (agrees_other key part from next done q (entry_at w.store q) steps apart)) (all q (other_committed w key q part next apart f))));
       cold = λ f. absurd (worn w key part there old f);
       idle = λ f. absurd (worn w key part there old f);
     }
@@ -536,13 +601,14 @@ parts_withdrawn w call key part from next fit is at withdraws old =
     in
     record {
       held = λ q p e. held_removed w key from next q p at left old e;
-      told = λ hold q.
+      told = λ hold q f.
           rw (get-remove nat_list_cmp_total w.parts key q)
           (rw (same q)
           (split q key (λ b. KeyAgrees (cond b None (get w.parts q)) (entry_at w.store q) (cached_entry w q))
           (λ e.
-          unwritten_in part.progress (entry_at w.store q) (cached_entry w q) (unchanged part (sym (ap (has_progress is_untouched) is) ∙ fit)) (rw (ap (get w.parts) e ∙ there) at (old.told hold q)))
-          (λ apart. old.told hold q)));
+          let agrees : PartAgrees part.progress (entry_at w.store q) (cached_entry w q) = rw (ap (get w.parts) e ∙ there) at (old.told hold q f) in
+          agrees.kept (unchanged part (sym (ap (has_progress is_untouched) is) ∙ fit)))
+          (λ apart. old.told hold q f)));
       cold = λ f. absurd (worn w key part there old f);
       idle = λ f. absurd (worn w key part there old f);
     }
@@ -590,8 +656,22 @@ parts_key w new e key seen (by_retry call join from to e_is join_is there h is s
 -- a key that no writer has changed agrees with the store
 key_coherent : (o : Option Part) (stored entry : Option Bytes) → KeyAgrees o stored entry → has_progress has_changed o ≡ false → Agrees entry stored
 key_coherent None stored entry h unchanged = h
-key_coherent (Some part) stored entry h unchanged = unwritten_in part.progress stored entry unchanged h
+key_coherent (Some part) stored entry h unchanged = h.kept unchanged
+
+-- what isn't cached agrees with all
+agrees_none : (entry stored : Option Bytes) (held : Bool) → (is_some entry || held) ≡ false → Agrees entry stored
+agrees_none None stored held h = tt
+agrees_none (Some value) stored held h = let t : true ≡ false = h in cc
 
 -- the second half of the headline, for one world
-pub coherent : (w : WorldState) → IsSoundWorld w → all_hold w ≡ true → Coherent w
-coherent w h hold key unchanged = key_coherent (get w.parts key) (entry_at w.store key) (cached_entry w key) (h.told hold key) unchanged
+pub coherent : (w : WorldState) → IsSoundWorld w → all_hold w ≡ true → CoherentAsTold w
+coherent w h hold key told unchanged =
+    elim (is_foreign w key) as (λ b. is_foreign w key ≡ b → (b && has_any w key) ≡ false → Agrees (cached_entry w key) (entry_at w.store key)) [
+      | true ↦ λ is none. agrees_none (cached_entry w key) (entry_at w.store key) (is_some (get w.parts key)) none
+      | false ↦ λ is none. key_coherent (get w.parts key) (entry_at w.store key) (cached_entry w key) (h.told hold key is) unchanged
+    ] refl told
+
+-- and if nobody else has written the store
+pub coherent_alone : (w : WorldState) → w.foreign ≡ empty → CoherentAsTold w → Coherent w
+coherent_alone w none coherent key =
+    coherent key (ap (λ m. is_some (entry_at m key) && has_any w key) none ∙ ap (λ o. is_some o && has_any w key) (get-empty key_cmp key))

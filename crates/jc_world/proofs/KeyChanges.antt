@@ -8,7 +8,7 @@
 --     IsStart, may_of           it is the start of a call at a key; in a sound world the call may start there
 --     Move                      the same, as far as configuration, stripes and order go
 use Rattle.jc_world.proofs.Asked.{asked_new}
-use Rattle.jc_world.proofs.Common.{cond, None, Change, FitsAsked, IsDueIn, ◌≡◌, ℕ, Bool, true, false, ◌++◌, slice_set, Some, Option, sym, refl, ap, ◌∙◌, inl, inr, Caller, Config, Refusal, Bytes, is_load_given, Op, Begins, Commits, Withdraws, PicksUp, State, is_reserved, new_reservation, with_reservation, TicketClaim, JoinClaim, Begun, Polled, First, Loader, Nobody, Processor, Writer, Reservation, Outcome, Part, JoinAnswer, PartProgress, Shown, Stepped, WorldEvent, CallState, new_call, op_at, with_stripe, with_phase, step_of, not_over, shown_begun, fault_in, with_settled, new_progress, with_new_part, without_part, with_join, without_join, ReservesAs, StartsAs, Ends, Picks, Happens, Step, fits, after_reopening, is_reopening, ends_load, is_answer_at, Agrees, ProgressAgrees, IsSoundWorld, WorldState, home, stripe_for, open_call, part_of, out_of_part, join_of}
+use Rattle.jc_world.proofs.Common.{cond, None, Change, FitsAsked, IsDueIn, ◌≡◌, ℕ, Bool, true, false, ◌++◌, slice_set, Some, Option, sym, refl, ap, ◌∙◌, inl, inr, Caller, Config, Refusal, Bytes, is_load_given, Op, Begins, Commits, Withdraws, PicksUp, State, is_reserved, new_reservation, with_reservation, TicketClaim, JoinClaim, Begun, Polled, First, Loader, Nobody, Processor, Writer, Reservation, Outcome, Part, JoinAnswer, PartProgress, Shown, Stepped, WorldEvent, CallState, new_call, op_at, with_stripe, with_phase, step_of, not_over, shown_begun, fault_in, with_settled, new_progress, with_new_part, without_part, with_commit, with_join, without_join, ReservesAs, StartsAs, Ends, Picks, Happens, Step, fits, after_reopening, is_reopening, ends_load, is_answer_at, Agrees, ProgressAgrees, PartAgrees, IsSoundWorld, WorldState, home, stripe_for, open_call, part_of, out_of_part, join_of}
 use Rattle.jc_world.proofs.Beginning.{MayStart, may_start_at}
 use Rattle.jc_world.proofs.Shares.{added}
 use Rattle.jc_world.proofs.NewCalls.{begun_cases}
@@ -33,7 +33,8 @@ pub record Reserves (from : State) (caller : Caller) (key : Bytes) (op : Op) (p 
   pub is : r ≡ new_reservation from caller key op r.first
   pub after : to ≡ with_reservation from r
   pub asked : FitsAsked r.first p
-  pub untold : (stored entry : Option Bytes) → Agrees entry stored → ProgressAgrees p stored entry
+  pub untold : (stored entry : Option Bytes) → Agrees entry stored → PartAgrees p stored entry
+  pub unmisled : p.is_misled ≡ false
   pub due : (config : Config) → IsDueIn config r.first p
   pub unloaded : is_load_given p.out.load ≡ false
 
@@ -55,7 +56,7 @@ pub data KeyChange (w new : WorldState) (e : WorldEvent) (key : Bytes) (seen : S
   by_join : (u : CallState) (op : Op) (from to : State) (join : JoinClaim) → IsStart w e key u op → stripe_for w key ≡ Some from → Begins from u.caller key op (Begun.Joined join) to
       → new ≡ with_join (with_stripe w key to) join → AnswersNone seen.outcome → EndsNone e seen → KeyChange w new e key seen
   by_commit : (call : ℕ) (part : Part) (from to : State) (x : Stepped) → e ≡ WorldEvent.Commit call key → part_of w call key ≡ Some part → stripe_for w key ≡ Some from → Commits from part.reservation (out_of_part part) (step_of x) to → x.stripe ≡ home w key
-      → new ≡ without_part (with_settled (with_phase w key from to) call key (fault_in x.reply)) key → seen.outcome ≡ Outcome.Stepped x → KeyChange w new e key seen
+      → new ≡ with_commit w key part from to call (fault_in x.reply) → seen.outcome ≡ Outcome.Stepped x → KeyChange w new e key seen
   by_withdrawal : (call : ℕ) (part : Part) (from to : State) → e ≡ WorldEvent.Withdraw call key → part_of w call key ≡ Some part → stripe_for w key ≡ Some from → Withdraws from part.reservation to
       → new ≡ without_part (with_stripe w key to) key → seen ≡ not_over Outcome.Withdrawn → KeyChange w new e key seen
   by_answer : (call : ℕ) (join : JoinClaim) (from to : State) (x : JoinAnswer) → e ≡ WorldEvent.PickUp call key → join_of w call key ≡ Some join → stripe_for w key ≡ Some from → PicksUp from join (Polled.Answer x.reply x.place x.shared) to → x.stripe ≡ home w key
@@ -91,7 +92,8 @@ reserved_change w new e u key op from to o s none ends may there h =
       is = ap (λ (t : TicketClaim). t.reservation) m.4;
       after = m.5;
       asked = asked_new r.first m.3;
-      untold = λ stored entry agrees. new_untold r.first stored entry agrees;
+      untold = λ stored entry agrees. record { kept = λ e. agrees; honest = λ m. new_untold r.first stored entry agrees };
+      unmisled = refl;
       due = λ config. new_due config r.first;
       unloaded = refl;
     }) h.3 none ends

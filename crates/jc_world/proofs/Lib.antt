@@ -25,6 +25,9 @@ pub mod Committing
 pub mod Asked
 pub mod Dues
 pub mod Kept
+pub mod Cleared
+pub mod Marked
+pub mod ListedKeys
 pub mod KeyChanges
 pub mod Maps
 pub mod CallerLemmas
@@ -37,7 +40,10 @@ pub mod Phased
 pub mod Opened
 pub mod Sounding
 pub mod Reopening
+pub mod Telling
+pub mod Loaded
 pub mod AllPremises
+pub mod Unwritten
 pub mod OverCalls
 pub mod LastOpenings
 pub mod ReservedEntries

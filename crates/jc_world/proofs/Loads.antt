@@ -3,7 +3,7 @@
 --     total_step     each event raises that by one if it is an answer for the key, and else leaves it
 --     total_run      so a run raises it by its answers
 use Rattle.jc_world.proofs.Asked.{unanswered_load}
-use Rattle.jc_world.proofs.Common.{asks_loader, asks_processor, is_unanswered, with_loaded, ◌≡◌, ℕ, ◌+◌, Bool, true, false, cond, ◌&&◌, List, [], ◌∷◌, ◌++◌, map, length, drop, ◌==◌, Some, None, count_by, Option, option_map, zip, sym, refl, ap, ◌∙◌, inl, inr, arith, drop-append_seam, and_parts, or_parts, and_right, nat_list_cmp_total, sum_by-cons, sum_by-append, pointwise, texts_ties, get, insert, remove, get-insert, get-remove, eq_by_cmp, Caller, WriterFailed, Bytes, entry_at, key_cmp, Group, nothing_said, victim_events, evicted_events, step_event, shared_event, step_place, events_of, is_load_given, Cause, Event, LoadAnswer, Op, Out, callers_of, ProcessResult, Claim, change_due, new_group, Steps, after_commit, State, StepDone, Outcome, Part, Shown, WorldEvent, step_of, with_met_by, new_part, with_change, with_report, keys_reported, run_result, progress_after, after_process, Happens, Step, Run, fits, is_answer, is_load, is_loaded, read_answer, load_from, report_for, IsSoundWorld, Parts, WorldState, part_of, has_progress, waits_for_load, waits_for_process, is_untouched, out_of_part, IsOpeningWorld, is_reopening, reopens, reported_now}
+use Rattle.jc_world.proofs.Common.{asks_loader, asks_processor, is_unanswered, with_loaded, with_heard, is_misled, is_true_load, is_true_report, has_changed, ◌≡◌, ℕ, ◌+◌, Bool, true, false, cond, ◌&&◌, List, [], ◌∷◌, ◌++◌, map, length, drop, ◌==◌, Some, None, count_by, Option, option_map, zip, sym, refl, ap, ◌∙◌, inl, inr, arith, drop-append_seam, and_parts, or_parts, and_right, nat_list_cmp_total, sum_by-cons, sum_by-append, pointwise, texts_ties, get, insert, remove, get-insert, get-remove, eq_by_cmp, Caller, WriterFailed, Bytes, entry_at, key_cmp, Group, nothing_said, victim_events, evicted_events, step_event, shared_event, step_place, events_of, is_load_given, Cause, Event, LoadAnswer, Op, Out, callers_of, ProcessResult, Claim, change_due, new_group, Steps, after_commit, State, StepDone, Outcome, Part, Shown, WorldEvent, step_of, with_met_by, new_part, with_change, with_report, keys_reported, run_result, progress_after, after_process, Happens, Step, Run, fits, is_answer, is_load, is_loaded, read_answer, load_from, report_for, IsSoundWorld, Parts, WorldState, part_of, has_progress, waits_for_load, waits_for_process, is_untouched, out_of_part, IsOpeningWorld, is_reopening, reopens, reported_now}
 use Rattle.jc_world.proofs.Lemmas.{added, part_key, split, KeyChange, by_nothing, by_refusal, by_step, by_reservation, by_join, by_commit, by_withdrawal, by_answer, by_retry, key_change, each_report}
 use Rattle.jc_world.proofs.Kept.{unheld}
 use Rattle.jc_world.proofs.Opened.{no_part}
@@ -108,12 +108,12 @@ read_given (Some value) = refl
 
 -- an answer is kept
 total_answered : (w : WorldState) (call : ℕ) (key q : Bytes) (part : Part) (answer : LoadAnswer) → part_of w call key ≡ Some part → has_progress waits_for_load (part_of w call key) ≡ true → is_load_given answer ≡ true
-    → count_by (is_load q) w.order + one_if (is_loaded (get (insert w.parts key (record part { progress = with_loaded part.progress answer })) q)) ≡ one_if (pointwise ◌==◌ q key) + total w q
+    → count_by (is_load q) w.order + one_if (is_loaded (get (insert w.parts key (record part { progress = with_heard (with_loaded part.progress answer) (is_misled part) (is_true_load answer (entry_at w.store key)) })) q)) ≡ one_if (pointwise ◌==◌ q key) + total w q
 total_answered w call key q part answer is waits given =
     let there = is_part (get w.parts key) call part is in
     let n = count_by (is_load q) w.order in
-    let P : Bool → Type 0 = λ b. n + one_if (is_loaded (cond b (Some (record part { progress = with_loaded part.progress answer })) (get w.parts q))) ≡ one_if b + (n + one_if (is_loaded (get w.parts q))) in
-    ap (λ o. n + one_if (is_loaded o)) (get-insert nat_list_cmp_total w.parts key (record part { progress = with_loaded part.progress answer }) q)
+    let P : Bool → Type 0 = λ b. n + one_if (is_loaded (cond b (Some (record part { progress = with_heard (with_loaded part.progress answer) (is_misled part) (is_true_load answer (entry_at w.store key)) })) (get w.parts q))) ≡ one_if b + (n + one_if (is_loaded (get w.parts q))) in
+    ap (λ o. n + one_if (is_loaded o)) (get-insert nat_list_cmp_total w.parts key (record part { progress = with_heard (with_loaded part.progress answer) (is_misled part) (is_true_load answer (entry_at w.store key)) }) q)
     ∙ split q key P
     (λ same. let was : one_if (is_loaded (get w.parts q)) ≡ 0 = ap one_if (loaded_at w key q part there same ∙ no_answer (part_of w call key) part is waits) in let now : one_if (is_load_given answer) ≡ 1 = ap one_if given in omega arith)
     (λ apart. omega arith)
@@ -125,7 +125,7 @@ total_processed : (w : WorldState) (call : ℕ) (key q : Bytes) (part : Part) (d
 total_processed w call key q part done is waits =
     let there = is_part (get w.parts key) call part is in
     let n = count_by (is_load q) w.order in
-    let progress = progress_after (change_due w.config done) done in
+    let progress = with_heard (progress_after (change_due w.config done) done) (is_misled part) (is_true_load done.load (entry_at w.store key)) in
     let new : Part = record part { progress = progress } in
     let given = is_load_given done.load in
     let P : Bool → Type 0 = λ b. n + one_if (is_loaded (cond b (Some new) (get w.parts q))) ≡ one_if (b && given) + (n + one_if (is_loaded (get w.parts q))) in
@@ -204,7 +204,7 @@ total_happens w new (WorldEvent.Report call left fault) seen q fit h none old =
     (λ v key part at waits o.
     let there = is_part (get v.parts key) call part at in
     let report = report_for h.0.kind left fault key in
-    ap (λ b. count_by (is_load q) v.order + one_if b) (loaded_inserted v.parts key q (record part { progress = with_report part.progress report }) (λ same. sym (loaded_at v key q part there same))) ∙ o)
+    ap (λ b. count_by (is_load q) v.order + one_if b) (loaded_inserted v.parts key q (record part { progress = with_heard (with_report part.progress report) (is_misled part) (is_true_report report (has_changed part)) }) (λ same. sym (loaded_at v key q part there same))) ∙ o)
     (with_met_by w call (option_map WriterFailed fault)) (keys_reported (reported_now w call h.0)) refl)
 total_happens w new (WorldEvent.Call call session command) seen q fit h none old = unanswered false (total new q) (total w q) refl (ap (λ (x : WorldState). total x q) h.1)
 total_happens w new (WorldEvent.Leave call) seen q fit h none old = unanswered false (total new q) (total w q) refl (ap (λ (x : WorldState). total x q) h.1)

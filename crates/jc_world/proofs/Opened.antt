@@ -3,7 +3,7 @@
 --     sound_opening        an opening is sound
 --     sound_start          and so is a world at its start
 --     starts_open          a world at its start is an opening, with any values in its store
-use Rattle.jc_world.proofs.Common.{◌≡◌, ℕ, zero, suc, ◌+◌, true, List, [], ◌∷◌, slice_get, Some, None, Ok, Option, IfSome, sym, refl, ap, ◌∙◌, subst, list_all, get, get-empty, check, Config, Bytes, key_cmp, in_order, of_stripe, IsOpeningStripe, IsOpeningWorld, start_with, Each, number_up_to, CallsFit, AllDue, AllOwned, AllCalled, Sweeps, IsSoundWorld, JoinKey, join_cmp, WorldState, home, entry_in, cached_entry, fresh_stripes, start, has_progress, has_changed, with_stored}
+use Rattle.jc_world.proofs.Common.{◌≡◌, ℕ, zero, suc, ◌+◌, true, ◌&&◌, List, [], ◌∷◌, slice_get, Some, None, Ok, Option, IfSome, sym, refl, ap, ◌∙◌, subst, list_all, get, get-empty, check, Config, Bytes, key_cmp, in_order, of_stripe, IsOpeningStripe, IsOpeningWorld, start_with, Each, number_up_to, CallsFit, AllDue, AllOwned, AllCalled, Sweeps, IsSoundWorld, JoinKey, join_cmp, WorldState, home, entry_in, cached_entry, fresh_stripes, start, has_progress, has_changed, with_stored, has_any}
 use Rattle.jc_world.proofs.Halves.{HasOrder, HasParts, HasJoins, sound}
 use Rattle.jc_world.proofs.Lemmas.{empty_count, reached_empty, start_is}
 
@@ -39,7 +39,7 @@ opening_order w h = record {
 opening_parts : (w : WorldState) → IsOpeningWorld w → HasParts w
 opening_parts w h = record {
   held = λ key part there. absurd (let e : Some part ≡ None = sym there ∙ no_part w h key in cc);
-  told = λ hold key. rw (no_part w h key) (h.coherent hold key (ap (has_progress has_changed) (no_part w h key)));
+  told = λ hold key f. rw (no_part w h key) (h.coherent hold key (ap (λ b. b && has_any w key) f) (ap (has_progress has_changed) (no_part w h key)));
   cold = h.cold;
   idle = λ fresh. h.calls;
 }
@@ -85,7 +85,7 @@ opens_start config fits =
       parts = refl;
       joins = refl;
       cold = λ fresh. none;
-      coherent = λ hold key unchanged. if_none (cached_entry w key) _ (none key);
+      coherent = λ hold key told unchanged. if_none (cached_entry w key) _ (none key);
     }
 
 pub sound_start : (config : Config) → check config ≡ Ok tt → IsSoundWorld (start config)
@@ -94,7 +94,7 @@ sound_start config fits = sound_opening (start config) (opens_start config fits)
 -- a fresh one stays so with a value more in its store
 opens_stored : (w : WorldState) (key value : Bytes) → w.is_fresh ≡ true → IsOpeningWorld w → IsOpeningWorld (with_stored w key value)
 opens_stored w key value fresh h =
-    record { config_fits = h.config_fits; count = h.count; each = h.each; order = h.order; calls = h.calls; parts = h.parts; joins = h.joins; cold = h.cold; coherent = λ hold q unchanged. if_none (cached_entry w q) _ (h.cold fresh q) }
+    record { config_fits = h.config_fits; count = h.count; each = h.each; order = h.order; calls = h.calls; parts = h.parts; joins = h.joins; cold = h.cold; coherent = λ hold q told unchanged. if_none (cached_entry w q) _ (h.cold fresh q) }
 
 stays_fresh : (config : Config) (stored : List (Bytes × Bytes)) → (start_with config stored).is_fresh ≡ true
 stays_fresh config [] = refl

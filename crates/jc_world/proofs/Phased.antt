@@ -1,6 +1,6 @@
 -- What the machine of a world does in a first and a last phase is what the definitions say.
-use Rattle.jc_world.proofs.Common.{◌≡◌, ℕ, zero, suc, true, false, cond, List, [], ◌∷◌, ◌++◌, length, drop, is_some, IsSomeAnd, slice_get, slice_set, Some, None, Option, sym, refl, ap, ◌∙◌, subst, subst₂, append-nil, and_parts, get, insert, remove, Config, Refusal, Bytes, Event, Op, Played, MayBegin, Commits, Withdraws, PicksUp, reserves, State, IsOut, IsJoined, TicketClaim, JoinClaim, Begun, Polled, StepDone, First, Loader, Nobody, Processor, Writer, Reservation, Outcome, Over, Part, JoinAnswer, PartProgress, Shown, Stepped, WorldEvent, keeps_open, CallState, op_at, settle, over_settled, step_of, not_over, fault_in, over_by, asks_as, new_progress, new_part, with_new_part, BeginsAs, ReservesAs, StartsAs, RefusesAs, Happens, is_free, may_start, fits, IsDue, IsHeld, IsSoundWorld, OrderedStripes, IsPhase, IsQuietPhase, Parts, join_key, WorldState, home, stripe_for, open_call, part_of, out_of_part, join_of}
-use Rattle.jc_world.proofs.Lemmas.{missing, join_at, may_start_at, begins_at, was_free, some_of}
+use Rattle.jc_world.proofs.Common.{Again, Cache, Joins, entry_in, ◌≡◌, ℕ, zero, suc, true, false, cond, List, [], ◌∷◌, ◌++◌, length, drop, is_some, IsSomeAnd, slice_get, slice_set, Some, None, Option, sym, refl, ap, ◌∙◌, subst, subst₂, append-nil, and_parts, get, insert, remove, Config, Refusal, Bytes, Event, Op, Played, MayBegin, Commits, Withdraws, PicksUp, reserves, State, IsOut, IsJoined, TicketClaim, JoinClaim, Begun, Polled, StepDone, First, Loader, Nobody, Processor, Writer, Reservation, Outcome, Over, Part, JoinAnswer, PartProgress, Shown, Stepped, WorldEvent, keeps_open, CallState, op_at, settle, over_settled, step_of, not_over, fault_in, over_by, asks_as, new_progress, new_part, with_new_part, BeginsAs, ReservesAs, StartsAs, RefusesAs, Happens, is_free, may_start, fits, IsDue, IsHeld, IsSoundWorld, OrderedStripes, IsPhase, IsQuietPhase, Parts, join_key, WorldState, home, stripe_for, open_call, part_of, out_of_part, join_of, is_none, cached_entry, without_foreign, with_doubt, is_misled, is_agreed, entry_at, Bool, foreign_committed}
+use Rattle.jc_world.proofs.Lemmas.{stripe_put, missing, join_at, may_start_at, begins_at, was_free, some_of}
 use Rattle.jc_world.proofs.Holding.{is_part}
 use Rattle.jc_world.proofs.Kept.{unheld, stripe_at}
 
@@ -112,10 +112,10 @@ started_refused v next call key u op refusal seen stripes order calls p shows ca
 
 -- a key is reserved, and its stripe appends nothing
 reserved : (v next : WorldState) (key : Bytes) (phase : State → State → Type 0) (stripes : List State) (order : List Event) (parts : Parts) (progress : PartProgress) (r : Reservation) (q : Phased v (home v key) phase stripes order) → r.key ≡ key → q.to.history ≡ q.from.history
-    → parts ≡ insert v.parts r.key (new_part progress r) → next ≡ record v { stripes = stripes; order = order; parts = parts } → next ≡ with_new_part v key q.to progress r
+    → parts ≡ insert v.parts r.key (new_part progress r) → next ≡ record v { stripes = stripes; order = order; parts = parts; foreign = without_foreign v.foreign key (is_none (cached_entry v key)) } → next ≡ with_new_part v key q.to progress r
 reserved v next key phase stripes order parts progress r q key_is same put next_is =
     let parts_are = put ∙ ap (λ k. insert v.parts k (new_part progress r)) key_is in
-    next_is ∙ (λ i. record v { stripes = q.stripes_are i; order = quiet_order v (home v key) phase stripes order q same i; parts = parts_are i })
+    next_is ∙ (λ i. record v { stripes = q.stripes_are i; order = quiet_order v (home v key) phase stripes order q same i; parts = parts_are i; foreign = without_foreign v.foreign key (is_none (cached_entry v key)) })
 
 -- a call has joined a load
 pub started_joins : (v next : WorldState) (call : ℕ) (key : Bytes) (u : CallState) (op : Op) (join : JoinClaim) (stripes : List State) (order : List Event) → StartPhase v call key u op (Begun.Joined join) stripes order
@@ -128,7 +128,7 @@ started_joins v next call key u op join stripes order p next_is =
 -- a key is reserved, its ticket is held, and it is shown who is asked
 pub started_ticket : (v next : WorldState) (call : ℕ) (key : Bytes) (u : CallState) (op : Op) (ticket : TicketClaim) (seen : Shown) (stripes : List State) (order : List Event) (parts : Parts) → StartPhase v call key u op (Begun.Asks ticket) stripes order
     → seen ≡ not_over (asks_as ticket.reservation.first) → parts ≡ insert v.parts ticket.reservation.key (new_part (new_progress ticket.reservation.first) ticket.reservation)
-    → next ≡ record v { stripes = stripes; order = order; parts = parts } → Happens v (WorldEvent.Start call key) seen next
+    → next ≡ record v { stripes = stripes; order = order; parts = parts; foreign = without_foreign v.foreign key (is_none (cached_entry v key)) } → Happens v (WorldEvent.Start call key) seen next
 started_ticket v next call key u op ticket seen stripes order parts p shown put next_is =
     let m = p.phase.made in
     let first = ticket.reservation.first in
@@ -164,16 +164,20 @@ free_key v call u key op ticket stripes order p sound =
 abbrev pub CommitsAs : Part → StepDone → State → State → Type 0
 CommitsAs part done from to = Commits from part.reservation (out_of_part part) done to
 
-pub ended : (v next : WorldState) (call : ℕ) (key : Bytes) (part : Part) (number : ℕ) (done : StepDone) (seen : Stepped) (met : Option Refusal) (over : Option Over) (stripes : List State) (order : List Event) (parts : Parts) → part_of v call key ≡ Some part → number ≡ home v key
+pub ended : (v next : WorldState) (call : ℕ) (key : Bytes) (part : Part) (number : ℕ) (done : StepDone) (seen : Stepped) (met : Option Refusal) (over : Option Over) (stripes : List State) (order : List Event) (parts : Parts) (foreign : Cache) (misled agrees : Bool) → part_of v call key ≡ Some part → number ≡ home v key
     → Phased v number (CommitsAs part done) stripes order → step_of seen ≡ done → seen.stripe ≡ number → parts ≡ remove v.parts key
     → met ≡ fault_in done.reply → over ≡ over_settled call key met v.calls
-    → next ≡ record v { stripes = stripes; order = order; calls = settle call key met v.calls; parts = parts } → Happens v (WorldEvent.Commit call key) (record { outcome = Outcome.Stepped seen; over = over }) next
-ended v next call key part number done seen met over stripes order parts is home_is p shows stripe_is parts_are met_is over_is next_is =
+    → misled ≡ is_misled part → agrees ≡ is_agreed (entry_in (slice_get stripes number) key) (entry_at v.store key) → foreign ≡ without_foreign (with_doubt v.foreign key misled) key agrees
+    → next ≡ record v { stripes = stripes; order = order; calls = settle call key met v.calls; parts = parts; foreign = foreign } → Happens v (WorldEvent.Commit call key) (record { outcome = Outcome.Stepped seen; over = over }) next
+ended v next call key part number done seen met over stripes order parts foreign misled agrees is home_is p shows stripe_is parts_are met_is over_is misled_is agrees_is foreign_is next_is =
     let same : met ≡ fault_in seen.reply = met_is ∙ sym (ap (λ (d : StepDone). fault_in d.reply) shows) in
     let q = here v key number (CommitsAs part done) stripes order home_is p in
     let B : StepDone → Type 0 = λ d. Commits q.from part.reservation (out_of_part part) d q.to in
-    let left = next_is ∙ (λ i. record v { stripes = q.stripes_are i; order = q.order_is i; calls = settle call key (same i) v.calls; parts = parts_are i }) in
-    (part, is, q.from, q.at, q.to, (subst B (sym shows) q.made, stripe_is ∙ home_is, left), over_is ∙ ap (λ m. over_settled call key m v.calls) same)
+    let put : entry_in (slice_get stripes number) key ≡ entry_at q.to.cache key = (λ i. entry_in (slice_get (q.stripes_are i) (home_is i)) key) ∙ ap (λ o. entry_in o key) (stripe_put v.stripes (home v key) q.from q.to q.at) in
+    let agreed : agrees ≡ is_agreed (entry_at q.to.cache key) (entry_at v.store key) = agrees_is ∙ ap (λ e. is_agreed e (entry_at v.store key)) put in
+    let left : foreign ≡ foreign_committed v key part q.to = foreign_is ∙ (λ i. without_foreign (with_doubt v.foreign key (misled_is i)) key (agreed i)) in
+    let leaves = next_is ∙ (λ i. record v { stripes = q.stripes_are i; order = q.order_is i; calls = settle call key (same i) v.calls; parts = parts_are i; foreign = left i }) in
+    (part, is, q.from, q.at, q.to, (subst B (sym shows) q.made, stripe_is ∙ home_is, leaves), over_is ∙ ap (λ m. over_settled call key m v.calls) same)
 
 -- what a commit needs of the stripe
 pub may_end_at : (v : WorldState) (call : ℕ) (key : Bytes) (part : Part) (number : ℕ) → part_of v call key ≡ Some part → number ≡ home v key → IsSoundWorld v

@@ -1,16 +1,18 @@
 -- What a reopening leaves.
 --     cached_reopened     each key has the entry that it had, or none if it is dropped
---     coherent_opened     if the world is coherent, so is its opening
+--     coherent_opened     if the world is coherent as told, so is its opening
+--     stored_opened       and if it is coherent, all that it opens with is the store's
 --     is_reopened         the whole
-use Rattle.jc_world.proofs.Common.{◌≡◌, ℕ, zero, suc, Bool, true, false, cond, List, [], ◌∷◌, slice_get, Some, None, IfSome, is_none, sym, refl, ap, ◌∙◌, subst, inl, inr, and_parts, and_from, nat_list_eq_equiv, list_all, nat_list_cmp_total, get-empty, get-from_entries, stripe_of, Config, Bytes, Cache, entry_at, key_cmp, State, Shown, WorldEvent, Happens, Step, fits, stripes_reopened, after_reopening, holds, is_stored, opens_coherent, Coherent, has_progress, has_changed, IsOpeningWorld, is_dropped, IsReopenedWorld, IsSoundWorld, WorldState, entry_in, cached_entry, none_is}
+use Rattle.jc_world.proofs.Common.{◌≡◌, ℕ, zero, suc, Bool, true, false, cond, List, [], ◌∷◌, slice_get, Some, None, IfSome, is_none, is_some, ◌&&◌, ◌||◌, sym, refl, ap, ◌∙◌, subst, inl, inr, and_parts, and_from, nat_list_eq_equiv, list_all, nat_list_cmp_total, get-empty, get-from_entries, stripe_of, Config, Bytes, Cache, entry_at, key_cmp, State, Shown, WorldEvent, Happens, Step, fits, stripes_reopened, after_reopening, holds, is_stored, is_as_told, opens, opens_coherent, opens_as_told, Coherent, CoherentAsTold, has_progress, has_changed, IsOpeningWorld, is_dropped, IsReopenedWorld, IsSoundWorld, WorldState, entry_in, cached_entry, none_is, is_untold, has_any}
 use Rattle.std.specs.FinMap as map
+use Rattle.jc_world.specs.Events.{foreign_reopened}
 use Rattle.jc_model.specs.Listed.{has_distinct_keys}
 use Rattle.jc_stripe.specs.Reopening.{all_entries, kept}
 use Rattle.jc_world.proofs.DroppedKeys.{found_kept, found_in_all}
 use Rattle.jc_world.proofs.Lemmas.{split, tied}
 use Rattle.jc_world.proofs.Opened.{sound_opening}
 use Rattle.jc_world.proofs.Places.{home_stripe}
-use Rattle.jc_world.proofs.Reopening.{reopened_at, reopened_opens, entries_once, stored_reopened}
+use Rattle.jc_world.proofs.Reopening.{reopened_at, reopened_opens, entries_once, passed_reopened}
 
 -- 1. What is cached.
 
@@ -53,14 +55,43 @@ all_at p (x ∷ xs) each = and_from (p x) (list_all p xs) (each 0 x refl) (all_a
 is_there : (store : Cache) (e : Bytes × Bytes) → entry_at store e.0 ≡ Some e.1 → is_stored store e ≡ true
 is_there store e is = ap (λ o. holds o e.1) is ∙ nat_list_eq_equiv.refl e.1
 
-coherent_opened : (config : Config) (w : WorldState) → IsOpeningWorld (after_reopening config w) → Coherent (after_reopening config w) → opens_coherent w.store (stripes_reopened config w) ≡ true
-coherent_opened config w opens coherent =
+-- a key that nobody else had written is one that nobody else has written
+none_reopened : (m : Cache) (key : Bytes) (stored : Bool) → is_some (entry_at m key) ≡ false → is_some (entry_at (foreign_reopened m stored) key) ≡ false
+none_reopened m key true h = ap is_some (get-empty key_cmp key)
+none_reopened m key false h = h
+
+-- an entry is the store's if nobody else had written its key
+as_told : (config : Config) (w : WorldState) (e : Bytes × Bytes) → cached_entry (after_reopening config w) e.0 ≡ Some e.1 → CoherentAsTold (after_reopening config w) → is_as_told w.foreign w.store e ≡ true
+as_told config w e cached coherent =
     let new : WorldState = after_reopening config w in
-    let sound = sound_opening new opens in
-    sym (stored_reopened w.store config w)
-    ∙ all_at (is_stored w.store) (all_entries new.stripes) (λ i e there.
+    elim (is_some (entry_at w.foreign e.0)) as (λ b. is_some (entry_at w.foreign e.0) ≡ b → (b || is_stored w.store e) ≡ true) [
+      | true ↦ λ is. refl
+      | false ↦ λ is.
+          let told : is_untold new e.0 ≡ false = ap (λ b. b && has_any new e.0) (none_reopened w.foreign e.0 (opens_coherent w.store (stripes_reopened config w)) is) in
+          is_there w.store e (subst (λ o. IfSome o (λ value. entry_at w.store e.0 ≡ Some value)) cached (coherent e.0 told (ap (has_progress has_changed) (get-empty key_cmp e.0))))
+    ] refl
+
+-- an opening passes a test that all that is cached passes
+opened_passes : (test : Bytes × Bytes → Bool) (config : Config) (w : WorldState) → IsOpeningWorld (after_reopening config w)
+    → ((e : Bytes × Bytes) → cached_entry (after_reopening config w) e.0 ≡ Some e.1 → test e ≡ true) → opens test (stripes_reopened config w) ≡ true
+opened_passes test config w begins each =
+    let new : WorldState = after_reopening config w in
+    let sound = sound_opening new begins in
+    sym (passed_reopened test config w)
+    ∙ all_at test (all_entries new.stripes) (λ i e there.
     let cached : cached_entry new e.0 ≡ Some e.1 = sym (found_in_all new e.0 sound.shape) ∙ found_there (all_entries new.stripes) i e (entries_once new sound) there in
-    is_there w.store e (subst (λ o. IfSome o (λ value. entry_at w.store e.0 ≡ Some value)) cached (coherent e.0 (ap (has_progress has_changed) (get-empty key_cmp e.0)))))
+    each e cached)
+
+coherent_opened : (config : Config) (w : WorldState) → IsOpeningWorld (after_reopening config w) → CoherentAsTold (after_reopening config w) → opens_as_told w.foreign w.store (stripes_reopened config w) ≡ true
+coherent_opened config w begins coherent = opened_passes (is_as_told w.foreign w.store) config w begins (λ e cached. as_told config w e cached coherent)
+
+-- an entry of a coherent world is the store's
+as_stored : (config : Config) (w : WorldState) (e : Bytes × Bytes) → cached_entry (after_reopening config w) e.0 ≡ Some e.1 → Coherent (after_reopening config w) → is_stored w.store e ≡ true
+as_stored config w e cached coherent =
+    is_there w.store e (subst (λ o. IfSome o (λ value. entry_at w.store e.0 ≡ Some value)) cached (coherent e.0 (ap (has_progress has_changed) (get-empty key_cmp e.0))))
+
+pub stored_opened : (config : Config) (w : WorldState) → IsOpeningWorld (after_reopening config w) → Coherent (after_reopening config w) → opens_coherent w.store (stripes_reopened config w) ≡ true
+stored_opened config w begins coherent = opened_passes (is_stored w.store) config w begins (λ e cached. as_stored config w e cached coherent)
 
 -- 3. The law.
 
@@ -78,8 +109,8 @@ reopened_now w config s new old fit (shows, is) =
       dropped_are = ap (λ (s : Shown). s.outcome) shows;
       entries_are = λ key. cached_reopened config w key old opens;
       premises = (
-        λ hold. ((and_parts config.write_through (opens_coherent w.store (stripes_reopened config w)) hold).0, opens.coherent hold),
-        λ both. and_from config.write_through (opens_coherent w.store (stripes_reopened config w)) both.0 (coherent_opened config w opens both.1),
+        λ hold. ((and_parts config.write_through (opens_as_told w.foreign w.store (stripes_reopened config w)) hold).0, opens.coherent hold),
+        λ both. and_from config.write_through (opens_as_told w.foreign w.store (stripes_reopened config w)) both.0 (coherent_opened config w opens both.1),
       );
     })
 

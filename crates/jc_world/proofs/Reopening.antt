@@ -5,14 +5,14 @@
 --     entries_once           what is cached in all stripes has each key once
 --     reopened_history, few_reopened
 --                            the new stripes have no history, and are not too many
---     stored_reopened        their opening is coherent if all that they cache is the store's
---     stored_found           what is found among entries that are all the store's is the store's
---     reopened_coherent      if the opening is coherent, so is the world
+--     passed_reopened        their opening passes a test if all that they cache does
+--     reopened_coherent      if the opening is coherent but for what others have written, so is the world
 --     may_reopen             what a reopening rests on
 --     reopened_opens         the world is an opening
-use Rattle.jc_world.proofs.Common.{◌≡◌, ℕ, zero, suc, ◌+◌, true, false, cond, ◌&&◌, List, [], ◌∷◌, length, slice_get, Some, None, Ok, Err, Option, Result, IfSome, IsSomeAnd, sym, refl, ap, ◌∙◌, subst, zero-add, Get, eqb-true, and_parts, nil_from_length, find, list_all, list_all-append, slice_get_within, ◌<◌, ◌≤◌, STRIPES_MAX, history_in, history_at, get, empty, from_entries, get-empty, get-from_entries, nat_list_cmp_total, same_map, eq_by_cmp, same_key, stripe_of, check, Config, Refusal, Bytes, Cache, entry_at, key_cmp, Played, State, WorldEvent, CallState, has_number, stripes_reopened, after_reopening, fits, IsOpeningStripe, IsOpeningWorld, is_stored, opens_coherent, IsCallOf, IsSoundWorld, join_cmp, WorldState, entry_in, cached_entry, is_idle, open_call, op_at}
+use Rattle.jc_world.proofs.Common.{◌≡◌, ℕ, zero, suc, ◌+◌, true, false, cond, Bool, is_some, ◌&&◌, ◌||◌, List, [], ◌∷◌, length, slice_get, Some, None, Ok, Err, Option, Result, IfSome, IsSomeAnd, sym, refl, ap, ◌∙◌, subst, zero-add, Get, eqb-true, and_parts, nil_from_length, find, list_all, list_all-append, slice_get_within, ◌<◌, ◌≤◌, STRIPES_MAX, history_in, history_at, get, empty, from_entries, get-empty, get-from_entries, nat_list_cmp_total, same_map, eq_by_cmp, same_key, stripe_of, check, Config, Refusal, Bytes, entry_at, key_cmp, Played, State, WorldEvent, CallState, has_number, stripes_reopened, after_reopening, fits, IsOpeningStripe, IsOpeningWorld, is_stored, is_as_told, opens, opens_coherent, opens_as_told, is_untold, has_any, IsCallOf, IsSoundWorld, join_cmp, WorldState, entry_in, cached_entry, is_idle, open_call, op_at}
 use Rattle.std.specs.FinMap as map
 use Rattle.std.specs.Result.{is_ok}
+use Rattle.jc_world.specs.Events.{foreign_reopened}
 use Rattle.jc_model.specs.Listed.{has_distinct_keys}
 use Rattle.jc_stripe.specs.Reopening.{all_entries, kept, opened_stripe, opened_stripes}
 use Rattle.jc_stripe.proofs.CallerLemmas.{all_at, all_entries_once, opened_len, opened_at, opened_reached}
@@ -70,51 +70,71 @@ pub few_reopened : (config : Config) (w : WorldState) → check config ≡ Ok tt
 few_reopened config w fits_in =
     subst (λ count. count ≤ STRIPES_MAX) (sym (opened_len config Played (all_entries w.stripes) 0 config.stripes)) (few_stripes config fits_in)
 
--- 3. What is cached, if the opening is coherent.
+-- 3. What is cached, if the opening is coherent but for what others have written.
 
--- an opening is coherent if all that the stripes then cache is the store's
-stored_all : (store : Cache) (config : Config) (contents : List (Bytes × Bytes)) (number count : ℕ)
-    → list_all (is_stored store) (all_entries (opened_stripes config Played contents number count)) ≡ opens_coherent store (opened_stripes config Played contents number count)
-stored_all store config contents number zero = refl
-stored_all store config contents number (suc count) =
-    list_all-append (is_stored store) (kept config number contents) (all_entries (opened_stripes config Played contents (number + 1) count))
-    ∙ ap (λ b. list_all (is_stored store) (kept config number contents) && b) (stored_all store config contents (number + 1) count)
+-- an opening passes a test if all that the stripes then cache does
+passed_all : (test : Bytes × Bytes → Bool) (config : Config) (contents : List (Bytes × Bytes)) (number count : ℕ)
+    → list_all test (all_entries (opened_stripes config Played contents number count)) ≡ opens test (opened_stripes config Played contents number count)
+passed_all test config contents number zero = refl
+passed_all test config contents number (suc count) =
+    list_all-append test (kept config number contents) (all_entries (opened_stripes config Played contents (number + 1) count))
+    ∙ ap (λ b. list_all test (kept config number contents) && b) (passed_all test config contents (number + 1) count)
 
-pub stored_reopened : (store : Cache) (config : Config) (w : WorldState) → list_all (is_stored store) (all_entries (stripes_reopened config w)) ≡ opens_coherent store (stripes_reopened config w)
-stored_reopened store config w = stored_all store config (all_entries w.stripes) 0 config.stripes
+pub passed_reopened : (test : Bytes × Bytes → Bool) (config : Config) (w : WorldState) → list_all test (all_entries (stripes_reopened config w)) ≡ opens test (stripes_reopened config w)
+passed_reopened test config w = passed_all test config (all_entries w.stripes) 0 config.stripes
 
-pub stored_found : (store : Cache) (entries : List (Bytes × Bytes)) (key value : Bytes) → list_all (is_stored store) entries ≡ true → map.find key_cmp key entries ≡ Some value → entry_at store key ≡ Some value
-stored_found store [] key value all h = cc
-stored_found store (e ∷ es) key value all h =
-    let parts = and_parts (is_stored store e) (list_all (is_stored store) es) all in
-    elim (eq_by_cmp key_cmp key e.0) as (λ b. eq_by_cmp key_cmp key e.0 ≡ b → cond b (Some e.1) (map.find key_cmp key es) ≡ Some value → entry_at store key ≡ Some value) [
+found_passes : (test : Bytes × Bytes → Bool) (entries : List (Bytes × Bytes)) (key value : Bytes) → list_all test entries ≡ true → map.find key_cmp key entries ≡ Some value → test (key, value) ≡ true
+found_passes test [] key value all h = cc
+found_passes test (e ∷ es) key value all h =
+    let parts = and_parts (test e) (list_all test es) all in
+    elim (eq_by_cmp key_cmp key e.0) as (λ b. eq_by_cmp key_cmp key e.0 ≡ b → cond b (Some e.1) (map.find key_cmp key es) ≡ Some value → test (key, value) ≡ true) [
       | true ↦ λ same h.
-          let is : e.1 ≡ value = cc in
-          ap (entry_at store) (same_key key e.0 same) ∙ holds_same (entry_at store e.0) e.1 parts.0 ∙ ap Some is
-      | false ↦ λ other h. stored_found store es key value parts.1 h
+          let is : value ≡ e.1 = cc in
+          let at = same_key key e.0 same in
+          ap test (λ i. (at i, is i)) ∙ parts.0
+      | false ↦ λ other h. found_passes test es key value parts.1 h
     ] refl h
 
--- in a stripe that is there
-stored_in : (store : Cache) (contents : List (Bytes × Bytes)) (key : Bytes) → list_all (is_stored store) contents ≡ true → IfSome (entry_at (from_entries contents) key) (λ value. entry_at store key ≡ Some value)
-stored_in store contents key all = go (entry_at (from_entries contents) key) refl
+-- what is cached then passes a test that the opening passes
+kept_passes : (test : Bytes × Bytes → Bool) (config : Config) (w : WorldState) → opens test (stripes_reopened config w) ≡ true → (key value : Bytes) → cached_entry (after_reopening config w) key ≡ Some value → test (key, value) ≡ true
+kept_passes test config w all key value cached = go (slice_get (stripes_reopened config w) (stripe_of key config.stripes)) refl
   where
-    go : (o : Option Bytes) → entry_at (from_entries contents) key ≡ o → IfSome o (λ value. entry_at store key ≡ Some value)
-    go None is = tt
-    go (Some value) is = stored_found store contents key value all (sym (get-from_entries nat_list_cmp_total contents key) ∙ is)
-
-pub reopened_coherent : (config : Config) (w : WorldState) → opens_coherent w.store (stripes_reopened config w) ≡ true → (key : Bytes) → IfSome (cached_entry (after_reopening config w) key) (λ value. entry_at w.store key ≡ Some value)
-reopened_coherent config w all key = go (slice_get (stripes_reopened config w) (stripe_of key config.stripes)) refl
-  where
-    go : (o : Option State) → slice_get (stripes_reopened config w) (stripe_of key config.stripes) ≡ o → IfSome (entry_in o key) (λ value. entry_at w.store key ≡ Some value)
-    go None is = tt
+    go : (o : Option State) → slice_get (stripes_reopened config w) (stripe_of key config.stripes) ≡ o → test (key, value) ≡ true
+    go None is = let t : None ≡ Some value = sym (ap (λ o. entry_in o key) is) ∙ cached in cc
     go (Some s) is =
         let number = stripe_of key config.stripes in
         let contents = kept config number (all_entries w.stripes) in
         let opened : s ≡ opened_stripe config Played number contents = reopened_at config w number s is in
-        let stored : list_all (is_stored w.store) contents ≡ true =
-        ap (λ (t : State). list_all (is_stored w.store) t.opening) (sym opened) ∙ all_at (λ t. list_all (is_stored w.store) t.opening) (stripes_reopened config w) number s all is
+        let passed : list_all test contents ≡ true =
+        ap (λ (t : State). list_all test t.opening) (sym opened) ∙ all_at (λ t. list_all test t.opening) (stripes_reopened config w) number s all is
         in
-        subst (λ (t : State). IfSome (entry_at t.cache key) (λ value. entry_at w.store key ≡ Some value)) (sym opened) (stored_in w.store contents key stored)
+        let found : entry_at (from_entries contents) key ≡ Some value =
+        ap (λ (t : State). entry_at t.cache key) (sym opened) ∙ sym (ap (λ o. entry_in o key) is) ∙ cached
+        in
+        found_passes test contents key value passed (sym (get-from_entries nat_list_cmp_total contents key) ∙ found)
+
+pub left_false : (a b : Bool) → b ≡ true → (a && b) ≡ false → a ≡ false
+left_false false b t h = refl
+left_false true b t h = let x : true ≡ false = sym t ∙ h in cc
+
+-- so it is the store's, unless somebody else has written its key
+kept_stored : (config : Config) (w : WorldState) (key value : Bytes) → opens_as_told w.foreign w.store (stripes_reopened config w) ≡ true → cached_entry (after_reopening config w) key ≡ Some value
+    → is_untold (after_reopening config w) key ≡ false → entry_at w.store key ≡ Some value
+kept_stored config w key value all cached told =
+    let any : has_any (after_reopening config w) key ≡ true = ap (λ o. is_some o || is_some (get (after_reopening config w).parts key)) cached in
+    elim (opens_coherent w.store (stripes_reopened config w)) as (λ b. opens_coherent w.store (stripes_reopened config w) ≡ b → (is_some (entry_at (foreign_reopened w.foreign b) key) && has_any (after_reopening config w) key) ≡ false → entry_at w.store key ≡ Some value) [
+      | true ↦ λ is told. holds_same (entry_at w.store key) value (kept_passes (is_stored w.store) config w is key value cached)
+      | false ↦ λ is told.
+          let free = left_false (is_some (entry_at w.foreign key)) (has_any (after_reopening config w) key) any told in
+          holds_same (entry_at w.store key) value (ap (λ b. b || is_stored w.store (key, value)) (sym free) ∙ kept_passes (is_as_told w.foreign w.store) config w all key value cached)
+    ] refl told
+
+pub reopened_coherent : (config : Config) (w : WorldState) → opens_as_told w.foreign w.store (stripes_reopened config w) ≡ true → (key : Bytes) → is_untold (after_reopening config w) key ≡ false → IfSome (cached_entry (after_reopening config w) key) (λ value. entry_at w.store key ≡ Some value)
+reopened_coherent config w all key told = go (cached_entry (after_reopening config w) key) refl
+  where
+    go : (o : Option Bytes) → cached_entry (after_reopening config w) key ≡ o → IfSome o (λ value. entry_at w.store key ≡ Some value)
+    go None is = tt
+    go (Some value) is = kept_stored config w key value all is told
 
 -- 4. The world is an opening.
 
@@ -147,5 +167,5 @@ reopened_opens w config old fit =
       parts = refl;
       joins = refl;
       cold = λ fresh. absurd (let t : false ≡ true = fresh in cc);
-      coherent = λ hold key unchanged. reopened_coherent config w (and_parts config.write_through (opens_coherent w.store (stripes_reopened config w)) hold).1 key;
+      coherent = λ hold key told unchanged. reopened_coherent config w (and_parts config.write_through (opens_as_told w.foreign w.store (stripes_reopened config w)) hold).1 key told;
     }

@@ -23,7 +23,7 @@ pick why true true false other h e = refl
 pick why room is_there needs other h e = cc
 
 -- a call that is not refused at a reserved key needs no free key
-needs_none : (s : State) (caller : Caller) (key : Bytes) (op : Op) → first_refusal s caller key op ≡ None → is_reserved s key ≡ true → needs_free_key s key op ≡ false
+pub needs_none : (s : State) (caller : Caller) (key : Bytes) (op : Op) → first_refusal s caller key op ≡ None → is_reserved s key ≡ true → needs_free_key s key op ≡ false
 needs_none s caller key op none there = pick _ (has_room s caller.call (places_needed (needs_free_key s key op))) (is_reserved s key) (needs_free_key s key op) _ none there
 
 -- what needs no free key and joins no load answers at once

@@ -1,5 +1,5 @@
 -- Each event leads from a sound world to a sound one, and so does each run.
-use Rattle.jc_world.proofs.Common.{◌≡◌, ℕ, true, List, [], ◌∷◌, OnOk, OnErr, Some, Ok, Err, Option, Result, option_map, sym, refl, ap, ◌∙◌, subst, inl, inr, and_parts, Refusal, WriterFailed, Bytes, entry_at, with_entry, is_load_given, WriteAnswer, StaysReached, KeepsReserved, Part, Shown, WorldEvent, CallState, with_met_by, after_report, keys_reported, after_reopening, Happens, Step, Run, fits, read_answer, load_from, report_for, IsSoundWorld, WorldState, open_call, part_of, has_progress, waits_for_load, waits_for_report, with_stored, reported_now}
+use Rattle.jc_world.proofs.Common.{◌≡◌, ℕ, true, List, [], ◌∷◌, OnOk, OnErr, Some, Ok, Err, Option, Result, option_map, sym, refl, ap, ◌∙◌, subst, inl, inr, and_parts, Refusal, WriterFailed, Bytes, entry_at, is_load_given, WriteAnswer, StaysReached, KeepsReserved, Part, Shown, WorldEvent, CallState, with_met_by, after_report, keys_reported, after_reopening, Happens, Step, Run, fits, read_answer, load_from, report_for, IsSoundWorld, WorldState, open_call, part_of, has_progress, waits_for_load, waits_for_report, with_stored, reported_now}
 use Rattle.jc_world.proofs.Lemmas.{HasParts, sound, order_met, order_part, order_happens, order_opened, key_change, each_report, IsWhole}
 use Rattle.jc_world.proofs.Joins.{joins_met, joins_parted, joins_happens, joins_stored}
 use Rattle.jc_world.proofs.Dues.{dues_reported, dues_happens}
@@ -12,8 +12,8 @@ use Rattle.jc_world.proofs.Reopening.{reopened_opens}
 -- the writer has returned for a key
 sound_reported : (w : WorldState) (call : ℕ) (key : Bytes) (part : Part) (report : WriteAnswer) → part_of w call key ≡ Some part → waits_for_report part ≡ true → IsSoundWorld w → IsSoundWorld (after_report w key part report)
 sound_reported w call key part report at waits h =
-    sound (after_report w key part report) (order_part w call key part _ _ w.store at refl h) (parts_reported w call key part report at (ap (has_progress waits_for_report) at ∙ waits) h) (dues_reported w call key part report at h.due)
-    (joins_parted w call key part _ _ w.store at refl h) h.sweeps
+    sound (after_report w key part report) (order_part w call key part _ _ w.store w.foreign at refl h) (parts_reported w call key part report at (ap (has_progress waits_for_report) at ∙ waits) h) (dues_reported w call key part report at h.due)
+    (joins_parted w call key part _ _ w.store w.foreign at refl h) h.sweeps
 
 -- a call has met something
 sound_met : (w : WorldState) (call : ℕ) (met : Option Refusal) (u : CallState) → open_call w call ≡ Some u → IsSoundWorld w → IsSoundWorld (with_met_by w call met)
@@ -40,7 +40,7 @@ parts_happens w new (WorldEvent.Process call key source calls fail) seen fit (pa
 parts_happens w new (WorldEvent.Change call key) seen fit (part, change, there, asked, shows, is) back h = subst HasParts (sym is) (parts_changed w call key part change there asked (asked_waits w call key fit) h)
 parts_happens w new (WorldEvent.Report call left fault) seen fit happens back h = parts_half new (back tt)
 parts_happens w new (WorldEvent.Leave call) seen fit (shows, is) back h = subst HasParts (sym is) (parts_left w call fit h)
-parts_happens w new (WorldEvent.Foreign key value) seen fit (shows, is) back h = subst HasParts (sym is) (parts_disturbed w (with_entry w.store key value) h)
+parts_happens w new (WorldEvent.Foreign key value) seen fit (shows, is) back h = subst HasParts (sym is) (parts_disturbed w key value h)
 parts_happens w new (WorldEvent.Reopen config) seen fit h back old = parts_half new (back tt)
 parts_happens w new e seen fit h back old = let k = key_change w new e seen refl h in parts_key w new e k.0 seen k.1 fit old
 
@@ -61,7 +61,7 @@ sound_run laws old new (e ∷ es) (s ∷ ss) (mid, step, rest) h = sound_run law
 sound_run laws old new es ss run h = absurd run
 
 pub sound_stored : (w : WorldState) (key value : Bytes) → w.is_fresh ≡ true → IsSoundWorld w → IsSoundWorld (with_stored w key value)
-sound_stored w key value none h = sound (with_stored w key value) (order_opened w key value h) (parts_stored w key value none h) h.due (joins_stored w (with_stored w key value).store w.premises w.is_fresh h) h.sweeps
+sound_stored w key value none h = sound (with_stored w key value) (order_opened w key value h) (parts_stored w key value none h) h.due (joins_stored w (with_stored w key value).store w.foreign w.premises w.is_fresh h) h.sweeps
 
 pub sound_set : {A E : Type 0} (r : Result A E) (old new : WorldState) (key value : Bytes) → OnOk r (new ≡ with_stored old key value) → OnErr r (new ≡ old) → old.is_fresh ≡ true → IsSoundWorld old → IsSoundWorld new
 sound_set (Ok x) old new key value ok err fresh h = subst IsSoundWorld (sym ok) (sound_stored old key value fresh h)

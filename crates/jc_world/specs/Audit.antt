@@ -2,6 +2,8 @@
 --     IsCache       a map of all that is cached, over all stripes
 --     differs       an entry that isn't the store's, while no writer's change of its key waits for its commit
 --     differing     the keys of such entries
+--     untold_among, untold_keys
+--                   the keys of these entries that are untold, and all of them, in byte order
 --     cache_in      what a stripe caches, and nothing if there is no stripe
 --     cache_at      what the stripe with a number caches
 --     opening_in    the entries with which a stripe opened, and nothing if there is no stripe
@@ -15,7 +17,7 @@ use Rattle.jc_model.specs.Cache.{Bytes, Cache, entry_at}
 use Rattle.jc_model.specs.Table.{holds}
 use Rattle.jc_model.specs.Legal.{IsWholeHistory, of_stripe}
 use Rattle.jc_stripe.specs.State.{State}
-use Rattle.jc_world.specs.World.{WorldState, cached_entry, has_progress, has_changed}
+use Rattle.jc_world.specs.World.{WorldState, cached_entry, has_progress, has_changed, is_untold}
 
 abbrev pub IsCache : WorldState → Cache → Type 0
 IsCache w cache = (key : Bytes) → entry_at cache key ≡ cached_entry w key
@@ -27,6 +29,13 @@ differs w entry =
 
 abbrev pub differing : WorldState → List (Bytes × Bytes) → List Bytes
 differing w entries = map (λ e. e.0) (filter (differs w) entries)
+
+abbrev pub untold_among : WorldState → List (Bytes × Bytes) → List Bytes
+untold_among w foreign = map (λ e. e.0) (filter (λ e. is_untold w e.0) foreign)
+
+-- each of them is a foreign key
+abbrev pub untold_keys : WorldState → List Bytes
+untold_keys w = untold_among w (entries w.foreign)
 
 abbrev pub cache_in : Option State → Cache
 cache_in None = empty

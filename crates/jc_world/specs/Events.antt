@@ -17,7 +17,10 @@
 --     asks_as                     what is shown of a key that was just reserved
 --     new_part                    what is kept of a key that was just reserved
 --     with_part, without_part     the world with this part of a key, and with none
---     with_new_part            the world in which a call has reserved its key
+--     with_new_part            the world in which a call has reserved its key. If it has no entry, no write of others counts any longer
+--     foreign_committed           the foreign keys, once one is committed: it is one if somebody has lied about it, and none if its
+--                                 commit leaves what the store holds, or nothing
+--     with_commit                 the world once a key is committed
 --     with_join, without_join     the world with one join more, and without a call's join of a key
 --     BeginsAs                    the first phase of a call, by what it returns
 --     ReservesAs                  a first phase that reserves its key, with what is shown of it
@@ -26,10 +29,11 @@
 --     Ends                        a last phase
 --     Picks                       a pick-up, by what is shown of it
 --     with_progress               the world with another progress of a reserved key
+--     with_heard                  the progress once whoever was asked has answered, honestly or not
 --     with_loaded, with_change, with_report
 --                                 the progress once the loader has answered, once the writer has changed the store, and once it has returned
 --     after_answer                the world once the loader has answered
---     after_change                the world once the writer has changed the store
+--     after_change                the world once the writer has changed the store: no write of others from before counts any longer
 --     after_report                the world once the writer has returned for a key
 --     reported_part, reported_in, reported_key
 --                                 what a return of the writer shows of a key, if the writer is asked for it now
@@ -45,8 +49,10 @@
 --     shown_process               what a processor's run shows
 --     keys_dropped                the keys that a reopening drops
 --     stripes_reopened            the stripes of the new shape, each with what it keeps
---     after_reopening             the world once it is opened again: as a new one, but for what is cached, the store and the numbers of
---                                 calls. Its premises count from here: the opening is coherent if what is kept is the store's
+--     foreign_reopened            the foreign keys, once it is opened again: none if what is kept is the store's
+--     after_reopening             the world once it is opened again: as a new one, but for what is cached, the store, the foreign keys,
+--                                 and the numbers of calls. Its premises count from here: the opening is coherent if what is
+--                                 kept is the store's, but for foreign keys
 --     Happens                     what an event that fits may show and leave. A call of many keys is over with the event after which none of
 --                                 its keys is open and no look is left; a call that leaves, or is refused whole, is given up instead
 --     Step                        one event: one that doesn't fit is shown as a fault and changes nothing
@@ -54,9 +60,9 @@
 --     RunAppending                the same, and what they show is appended to a list
 --     is_fit, all_fit             an outcome is not the fault of an event that doesn't fit, and none of those that are shown is
 --     AllFit                      whatever the world may choose, each of these events fits when it comes
-use Rattle.std.specs.Prelude.{◌≡◌, ◌⊎◌, ℕ, List, [], ◌∷◌, ◌++◌, length, drop, Bool, true, false, Option, None, Some, map, option_map, slice_get, slice_set, if◌then◌else◌}
+use Rattle.std.specs.Prelude.{◌≡◌, ◌⊎◌, ℕ, List, [], ◌∷◌, ◌++◌, length, drop, Bool, true, false, not, ◌||◌, Option, None, Some, is_none, map, option_map, slice_get, slice_set, if◌then◌else◌}
 use Rattle.std.specs.List.{filter_map, list_all}
-use Rattle.std.specs.FinMap.{get, insert, remove}
+use Rattle.std.specs.FinMap.{empty, get, insert, remove}
 use Rattle.jc_types.specs.declared.caller.Caller.{Caller}
 use Rattle.jc_types.specs.declared.refusal.Refusal.{Refusal}
 use Rattle.jc_types.specs.declared.refusal.Refusal.TheVariants.{TooManyKeys, WriterFailed}
@@ -70,7 +76,7 @@ use Rattle.jc_model.specs.declared.event.LoadAnswer.{LoadAnswer}
 use Rattle.jc_model.specs.declared.event.WriteAnswer.{WriteAnswer}
 use Rattle.jc_model.specs.declared.event.WriteAnswer.TheVariants as write
 use Rattle.jc_model.specs.Group.{nothing_said}
-use Rattle.jc_model.specs.Cache.{Bytes, entry_at, with_entry}
+use Rattle.jc_model.specs.Cache.{Bytes, Cache, entry_at, with_entry}
 use Rattle.jc_types.specs.declared.config.Config.{Config}
 use Rattle.jc_outside.specs.declared.done.Origin.TheVariants.{Played}
 use Rattle.jc_mutentry.specs.Done.{ProcessResult}
@@ -100,8 +106,8 @@ use Rattle.jc_world.specs.declared.reports.WriterBatch.{WriterBatch}
 use Rattle.jc_world.specs.Calls.{CallState, SweepState, open_keys, keeps_open, op_at, new_call, has_too_many_keys, opened, over_of, settle, over_settled, meet, drop_call, with_swept_keys, look}
 use Rattle.jc_world.specs.declared.event.Part.{Part}
 use Rattle.jc_world.specs.declared.event.PartProgress.{PartProgress}
-use Rattle.jc_world.specs.World.{WorldState, start, home, stripe_for, open_call, of_call, part_of, Parts, waits_for_report, has_changed, join_of, join_key, out_of_part, writer_change}
-use Rattle.jc_world.specs.Premises.{opens_coherent, read_answer, changed_to, report_for, is_true_load, is_true_report, with_loader, with_writer, with_foreign_write, load_from}
+use Rattle.jc_world.specs.World.{WorldState, start, home, stripe_for, open_call, of_call, cached_entry, part_of, Parts, waits_for_report, has_changed, is_misled, join_of, join_key, out_of_part, writer_change, with_foreign, without_foreign, with_doubt}
+use Rattle.jc_world.specs.Premises.{opens_coherent, opens_as_told, is_agreed, read_answer, changed_to, report_for, is_true_load, is_true_report, with_loader, with_writer, load_from}
 use Rattle.jc_world.specs.declared.process.ShownRun.{ShownRun as ProcessShown}
 use Rattle.jc_world.specs.Fits.{fits, is_in_batch, writer_batch}
 
@@ -167,7 +173,7 @@ with_look w call stripe keys sweep =
 
 -- what is kept of a key that was reserved
 abbrev pub new_progress : First → PartProgress
-new_progress first = record { change = change_asked first; out = nothing_said; is_changed = false }
+new_progress first = record { change = change_asked first; out = nothing_said; is_changed = false; is_misled = false }
 
 abbrev pub asks_as : First → Outcome
 asks_as Nobody = outcome.Unfit  -- no reservation asks nobody
@@ -182,12 +188,24 @@ abbrev pub with_part : WorldState → Bytes → Part → WorldState
 with_part w key part = record w { parts = insert w.parts key part }
 
 -- a key is reserved, and its stripe is then at another state
+-- if it has no entry, the cache had nothing of it, and what it will have isn't from before
 abbrev pub with_new_part : WorldState → Bytes → State → PartProgress → Reservation → WorldState
 with_new_part w key to progress r =
-    with_part (with_stripe w key to) key (new_part progress r)
+    let foreign = without_foreign w.foreign key (is_none (cached_entry w key)) in
+    record (with_part (with_stripe w key to) key (new_part progress r)) { foreign = foreign }
 
 abbrev pub without_part : WorldState → Bytes → WorldState
 without_part w key = record w { parts = remove w.parts key }
+
+-- a commit that leaves what the store holds, or nothing, tells; one that was misled makes doubt otherwise
+abbrev pub foreign_committed : WorldState → Bytes → Part → State → Cache
+foreign_committed w key part to =
+    without_foreign (with_doubt w.foreign key (is_misled part)) key (is_agreed (entry_at to.cache key) (entry_at w.store key))
+
+-- the part of a commit is over
+abbrev pub with_commit : WorldState → Bytes → Part → State → State → ℕ → Option Refusal → WorldState
+with_commit w key part from to call met =
+    record (without_part (with_settled (with_phase w key from to) call key met) key) { foreign = foreign_committed w key part to }
 
 abbrev pub with_join : WorldState → JoinClaim → WorldState
 with_join w join = record w { joins = insert w.joins (join_key join) join }
@@ -238,7 +256,7 @@ abbrev pub Ends : WorldState → ℕ → Bytes → Part → State → State → 
 Ends old call key part from to (outcome.Stepped seen) new =
     Commits from part.reservation (out_of_part part) (step_of seen) to
     × (seen.stripe ≡ home old key)
-    × (new ≡ without_part (with_settled (with_phase old key from to) call key (fault_in seen.reply)) key)
+    × (new ≡ with_commit old key part from to call (fault_in seen.reply))
 Ends old call key part from to o new = ⊥
 
 -- of a call that has joined the load of a key: its answer, with which the key is settled, or that it is to retry, or nothing yet
@@ -259,6 +277,10 @@ Picks old call key join from to o new = ⊥
 abbrev pub with_progress : WorldState → Bytes → Part → PartProgress → WorldState
 with_progress w key part progress = with_part w key (record part { progress = progress })
 
+-- whoever was asked has answered, and was honest or not
+abbrev pub with_heard : PartProgress → Bool → Bool → PartProgress
+with_heard p was_misled honest = record p { is_misled = was_misled || not honest }
+
 abbrev pub with_loaded : PartProgress → LoadAnswer → PartProgress
 with_loaded p answer = record p { out = record p.out { load = answer } }
 
@@ -266,16 +288,20 @@ with_loaded p answer = record p { out = record p.out { load = answer } }
 abbrev pub after_answer : WorldState → Bytes → Part → LoadAnswer → WorldState
 after_answer w key part answer =
     let honest = is_true_load answer (entry_at w.store key) in
-    record (with_progress w key part (with_loaded part.progress answer)) { premises = with_loader w.premises honest }
+    let progress = with_heard (with_loaded part.progress answer) (is_misled part) honest in
+    record (with_progress w key part progress) { premises = with_loader w.premises honest }
 
 abbrev pub with_change : PartProgress → PartProgress
-with_change p = record p { is_changed = true }
+with_change p = record p { is_changed = true; is_misled = false }
 
--- the store is as the writer was asked
+-- the store is as the writer was asked, and so will the entry be
 abbrev pub after_change : WorldState → Bytes → Part → Change → WorldState
 after_change w key part change =
     let progress = with_change part.progress in
-    record (with_progress w key part progress) { store = with_entry w.store key (changed_to change) }
+    record (with_progress w key part progress) {
+      store = with_entry w.store key (changed_to change);
+      foreign = without_foreign w.foreign key true;
+    }
 
 abbrev pub with_report : PartProgress → WriteAnswer → PartProgress
 with_report p report = record p { out = record p.out { write = report } }
@@ -283,8 +309,8 @@ with_report p report = record p { out = record p.out { write = report } }
 -- the writer's report for a key is kept
 abbrev pub after_report : WorldState → Bytes → Part → WriteAnswer → WorldState
 after_report w key part report =
-    let progress = with_report part.progress report in
     let honest = is_true_report report (has_changed part) in
+    let progress = with_heard (with_report part.progress report) (is_misled part) honest in
     record (with_progress w key part progress) { premises = with_writer w.premises honest }
 
 -- what a writer's return shows of a key
@@ -344,13 +370,14 @@ progress_after change done =
       change = change;
       out = record { load = done.load; write = write.NotAsked; process = done.process };
       is_changed = false;
+      is_misled = false;
     }
 
 -- what the processor did is kept, and the writer is asked for its net effect if that is due
 abbrev pub after_process : WorldState → Bytes → Part → ProcessResult Claim → WorldState
 after_process w key part done =
-    let progress = progress_after (change_due w.config done) done in
     let honest = is_true_load done.load (entry_at w.store key) in
+    let progress = with_heard (progress_after (change_due w.config done) done) (is_misled part) honest in
     record (with_progress w key part progress) { premises = with_loader w.premises honest }
 
 -- what a processor's run shows
@@ -374,14 +401,21 @@ keys_dropped config w = map (λ entry. entry.0) (dropped config (all_entries w.s
 abbrev pub stripes_reopened : Config → WorldState → List State
 stripes_reopened config w = opened_stripes config Played (all_entries w.stripes) 0 config.stripes
 
+-- if all that is kept is the store's, no write of others counts any longer
+abbrev pub foreign_reopened : Cache → Bool → Cache
+foreign_reopened foreign true = empty
+foreign_reopened foreign false = foreign
+
 -- the store stays, and the highest number of a call
 abbrev pub after_reopening : Config → WorldState → WorldState
 after_reopening config w =
+    let stripes = stripes_reopened config w in
     record (start config) {
-      stripes = stripes_reopened config w;
+      stripes = stripes;
       store = w.store;
+      foreign = foreign_reopened w.foreign (opens_coherent w.store stripes);
       last = w.last;
-      premises = record { writers = true; loaders = true; quiet = true; opening = opens_coherent w.store (stripes_reopened config w) };
+      premises = record { writers = true; loaders = true; opening = opens_as_told w.foreign w.store stripes };
       is_fresh = false;
     }
 
@@ -443,7 +477,7 @@ Happens old (event.PickUp call key) seen new =
 Happens old (event.Foreign key value) seen new =
     let store = with_entry old.store key value in
     (seen ≡ not_over outcome.Written)
-    × (new ≡ record old { store = store; premises = with_foreign_write old.premises; is_fresh = false })
+    × (new ≡ record old { store = store; foreign = with_foreign old.foreign key; is_fresh = false })
 Happens old (event.Reopen config) seen new =
     (seen ≡ not_over (outcome.Reopened (keys_dropped config old))) × (new ≡ after_reopening config old)
 

@@ -1,5 +1,5 @@
 -- When an event fits.
---     is_single          an operation is a call by itself: each but `Clear` and `LoadAll`
+--     is_single          an operation is a call by itself: each but `LoadAll`
 --     is_playable        a command that a world plays: one operation that is a call by itself, or one on many keys
 --     is_new             a call's number is above all before it
 --     is_free            a call has neither a reservation nor a join of a key
@@ -40,14 +40,14 @@ use Rattle.jc_world.specs.declared.reports.WriterBatch.TheVariants as batch
 use Rattle.jc_world.specs.Calls.{CallState, SweepState, has_looked, open_keys, op_at}
 use Rattle.jc_world.specs.World.{WorldState, is_busy, is_idle, open_call, of_call, part_of, Parts, is_free_of, waits_for_load, waits_for_report, waits_for_write, is_all_answered, is_untouched, is_joined, has_progress, waits_for_process}
 
--- the operations that are calls by themselves: the others are keys of a bulk call
+-- the operations that are calls by themselves: the other one is a key of a bulk call
 abbrev pub is_single : Op → Bool
 is_single op = elim (op_kind op) [
   | kind.Get ↦ true
   | kind.ContainsKey ↦ true
   | kind.Write ↦ true
   | kind.Invoke ↦ true
-  | kind.Clear ↦ false
+  | kind.Clear ↦ true
   | kind.LoadAll replace ↦ false
 ]
 

@@ -10,10 +10,12 @@
 --     ReachesSince      after a list of events, of which none opened it again, an opening world is at this state
 --     StaysLegal        after every list of events the order is one legal history from what the cache opened with last, what is cached
 --                       is what it leaves, and each stripe's history is its part of the order
---     StaysCoherent     after every list of events, as long as the premises held since the last opening, the world is coherent
---     with_all_premises  a world in which the premises have held so far, whatever came before
---     StaysCoherentFrom from any world that is reached and coherent, in which no key is reserved: after every list of events, as long
---                       as the premises held since then, the world is coherent
+--     StaysCoherent     after every list of events, if write-through is on, and the last opening was coherent but for foreign keys, the
+--                       world is coherent, but for untold keys
+--     with_all_premises  a world in which the premises have held so far, and these are the foreign keys, whatever came before
+--     StaysCoherentFrom from any world that is reached and coherent but for some keys, in which no key is reserved: after every list of
+--                       events, with write-through on, the world is coherent, but for those of these keys that are untold, and of
+--                       those that are foreign since
 --     is_answer         an event is an answer of the loader for a key, and was taken, by its outcome
 --     is_load           an event is a step of a key that had the loader asked, and isn't shared
 --     is_loaded         an answer of the loader is kept for the commit
@@ -27,7 +29,7 @@ use Rattle.jc_types.specs.declared.config.Config.{Config}
 use Rattle.jc_types.specs.Limits.{check}
 use Rattle.jc_model.specs.declared.event.Event.{Event}
 use Rattle.jc_model.specs.declared.event.Event.TheVariants as stripe
-use Rattle.jc_model.specs.Cache.{Bytes}
+use Rattle.jc_model.specs.Cache.{Bytes, Cache}
 use Rattle.jc_model.specs.Table.{is_load_given}
 use Rattle.jc_outside.specs.declared.done.Origin.TheVariants.{Played}
 use Rattle.jc_stripe.specs.State.{State}
@@ -40,7 +42,7 @@ use Rattle.jc_world.specs.declared.event.Outcome.TheVariants as outcome
 use Rattle.jc_world.specs.declared.event.Shown.{Shown}
 use Rattle.jc_world.specs.World.{WorldState, start, out_of_part, with_stored, cached_entry}
 use Rattle.jc_world.specs.Events.{Run}
-use Rattle.jc_world.specs.Coherent.{Coherent, all_hold}
+use Rattle.jc_world.specs.Coherent.{CoherentAsTold, all_hold}
 use Rattle.jc_world.specs.Audit.{IsOrder, HasShares}
 
 -- 1. Openings.
@@ -67,7 +69,7 @@ pub record IsOpeningWorld (w : WorldState) : Type 0 where
   pub parts : w.parts ≡ empty
   pub joins : w.joins ≡ empty
   pub cold : w.is_fresh ≡ true → (key : Bytes) → cached_entry w key ≡ None
-  pub coherent : all_hold w ≡ true → Coherent w
+  pub coherent : all_hold w ≡ true → CoherentAsTold w
 
 -- a world at its start, with nothing cached and these values in its store
 abbrev pub start_with : Config → List (Bytes × Bytes) → WorldState
@@ -107,19 +109,23 @@ StaysLegal =
 abbrev pub StaysCoherent : Type 0
 StaysCoherent =
     (opening : WorldState) (events : List WorldEvent) (seen : List Shown) (new : WorldState)
-    → Reaches opening events seen new → all_hold new ≡ true → Coherent new
+    → Reaches opening events seen new → all_hold new ≡ true → CoherentAsTold new
 
-abbrev pub with_all_premises : WorldState → WorldState
-with_all_premises w =
-    record w { premises = record { writers = true; loaders = true; quiet = true; opening = true } }
+abbrev pub with_all_premises : Cache → WorldState → WorldState
+with_all_premises foreign w =
+    record w {
+      foreign = foreign;
+      premises = record { writers = true; loaders = true; opening = true };
+    }
 
 abbrev pub StaysCoherentFrom : Type 0
 StaysCoherentFrom =
     (opening : WorldState) (before events : List WorldEvent) (seen_before seen : List Shown)
-    (from new : WorldState)
+    (from new : WorldState) (foreign : Cache)
     → Reaches opening before seen_before from
-    → ((key : Bytes) → get from.parts key ≡ None) → Coherent from
-    → Run (with_all_premises from) events seen new → all_hold new ≡ true → Coherent new
+    → ((key : Bytes) → get from.parts key ≡ None) → CoherentAsTold (with_all_premises foreign from)
+    → Run (with_all_premises foreign from) events seen new → all_hold new ≡ true
+    → CoherentAsTold new
 
 -- an answer of the loader for a key, which was taken
 abbrev pub is_answer : Bytes → WorldEvent → Outcome → Bool

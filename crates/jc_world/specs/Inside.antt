@@ -11,6 +11,7 @@ world_of m =
       stripes = m.stripes.stripes;
       order = m.stripes.order;
       store = m.store;
+      foreign = m.foreign;
       last = m.last;
       calls = m.calls.items;
       parts = parts_of m.held;

@@ -15,6 +15,7 @@ pub mod Inside
 pub mod Ending
 pub mod Gathered
 pub mod Headline
+pub mod Told
 pub mod Openings
 pub mod Replies
 pub mod Reserved

@@ -7,10 +7,16 @@
 --     IsReopenedWorld   a reopening left an opening in the new shape, with the store and the numbers of calls as they were. Each
 --                       stripe opens with what it keeps, in this order of use. Each key has the entry that it had, but for those
 --                       that are shown, which are dropped. The premises hold then exactly if write-through is on and what is cached
---                       is the store's
+--                       is the store's, but for untold keys
 --     ReopensOpen       every reopening does so
-use Rattle.std.specs.Prelude.{◌≡◌, ◌==◌, ◌⊎◌, ◌↔◌, ◌++◌, ℕ, List, [], ◌∷◌, slice_get, Bool, true, None, Some, if◌then◌else◌}
+--     is_by_others      an event is a write of the store by somebody else
+--     StaysUnwritten    if nobody else has written the store since the last opening, that was coherent, and each loader and each writer
+--                       was honest, no key is foreign
+--     StaysCoherentAlone
+--                       and if write-through is on too, it is coherent
+use Rattle.std.specs.Prelude.{◌≡◌, ◌==◌, ◌⊎◌, ◌↔◌, ◌++◌, ℕ, List, [], ◌∷◌, slice_get, Bool, true, false, None, Some, if◌then◌else◌}
 use Rattle.std.specs.List.{list_any}
+use Rattle.std.specs.FinMap.{empty}
 use Rattle.std.specs.Cmp.Lexicographic.{pointwise}
 use Rattle.jc_types.specs.declared.config.Config.{Config}
 use Rattle.jc_model.specs.Cache.{Bytes}
@@ -23,7 +29,8 @@ use Rattle.jc_world.specs.declared.event.Shown.{Shown}
 use Rattle.jc_world.specs.World.{WorldState, cached_entry}
 use Rattle.jc_world.specs.Events.{Run, Step, keys_dropped}
 use Rattle.jc_world.specs.Fits.{fits}
-use Rattle.jc_world.specs.Coherent.{Coherent, all_hold}
+use Rattle.jc_world.specs.Premises.{are_honest}
+use Rattle.jc_world.specs.Coherent.{Coherent, CoherentAsTold, all_hold}
 use Rattle.jc_world.specs.Headline.{IsOpeningWorld, Reaches, ReachesSince, is_reopening}
 
 -- 1. The last opening of a run.
@@ -71,7 +78,7 @@ pub record IsReopenedWorld (config : Config) (old : WorldState) (s : Shown) (new
   pub dropped_are : s.outcome ≡ outcome.Reopened (keys_dropped config old)
   pub entries_are : (key : Bytes)
       → cached_entry new key ≡ (if is_dropped config old key then None else cached_entry old key)
-  pub premises : all_hold new ≡ true ↔ (config.write_through ≡ true) × Coherent new
+  pub premises : all_hold new ≡ true ↔ (config.write_through ≡ true) × CoherentAsTold new
 
 abbrev pub ReopensOpen : Type 0
 ReopensOpen =
@@ -79,3 +86,25 @@ ReopensOpen =
     (config : Config) (s : Shown)
     → Reaches first events seen old → fits old (event.Reopen config) ≡ true
     → Step old (event.Reopen config) s new → IsReopenedWorld config old s new
+
+-- 3. Nobody else has written the store since the last opening.
+
+abbrev pub is_by_others : WorldEvent → Bool
+is_by_others (event.Foreign key value) = true
+is_by_others e = false
+
+abbrev pub StaysUnwritten : Type 0
+StaysUnwritten =
+    (first : WorldState) (events : List WorldEvent) (seen : List Shown) (new : WorldState)
+    (last : LastOpening first events seen new)
+    → Reaches first events seen new → first.foreign ≡ empty
+    → Coherent last.opening → list_any is_by_others last.since ≡ false
+    → are_honest new.premises ≡ true → new.foreign ≡ empty
+
+abbrev pub StaysCoherentAlone : Type 0
+StaysCoherentAlone =
+    (first : WorldState) (events : List WorldEvent) (seen : List Shown) (new : WorldState)
+    (last : LastOpening first events seen new)
+    → Reaches first events seen new → first.foreign ≡ empty
+    → Coherent last.opening → list_any is_by_others last.since ≡ false
+    → are_honest new.premises ≡ true → all_hold new ≡ true → Coherent new

@@ -11,12 +11,14 @@
 --                                  are exactly those that aren't left
 --     with_loader, with_writer     the premises behind an answer of a loader, and behind a report of a writer, by whether it was
 --                                  honest
---     with_foreign_write           the premises once somebody else has written the store
 --     is_stored                    an entry is the store's
---     opens_coherent               each entry with which these stripes opened is the store's
---     premises_hold                all of them have held so far: loaders and writers were honest, the store was quiet, and the last
---                                  opening was coherent
-use Rattle.std.specs.Prelude.{ℕ, List, Bool, true, false, ◌&&◌, Option, None, Some, is_none}
+--     is_as_told                   an entry is the store's, or its key is foreign
+--     opens                        each entry with which these stripes opened passes a test
+--     opens_coherent, opens_as_told
+--                                  each of them is the store's; and but for foreign keys
+--     is_agreed                    what is cached of a key is what the store holds, or nothing is
+--     are_honest                   each loader and each writer was honest so far
+use Rattle.std.specs.Prelude.{ℕ, List, Bool, true, false, ◌&&◌, ◌||◌, Option, None, Some, is_none, is_some}
 use Rattle.std.specs.Bool.{beq}
 use Rattle.std.specs.List.{list_all}
 use Rattle.jc_model.specs.declared.event.Change.{Change}
@@ -78,14 +80,24 @@ with_loader p honest = record p { loaders = p.loaders && honest }
 abbrev pub with_writer : Premises → Bool → Premises
 with_writer p honest = record p { writers = p.writers && honest }
 
-abbrev pub with_foreign_write : Premises → Premises
-with_foreign_write p = record p { quiet = false }
-
 abbrev pub is_stored : Cache → Bytes × Bytes → Bool
 is_stored store entry = holds (entry_at store entry.0) entry.1
 
-abbrev pub opens_coherent : Cache → List State → Bool
-opens_coherent store stripes = list_all (λ s. list_all (is_stored store) s.opening) stripes
+abbrev pub opens : (Bytes × Bytes → Bool) → List State → Bool
+opens test stripes = list_all (λ s. list_all test s.opening) stripes
 
-abbrev pub premises_hold : Premises → Bool
-premises_hold p = p.writers && p.loaders && p.quiet && p.opening
+abbrev pub opens_coherent : Cache → List State → Bool
+opens_coherent store stripes = opens (is_stored store) stripes
+
+abbrev pub is_as_told : Cache → Cache → Bytes × Bytes → Bool
+is_as_told foreign store entry = is_some (entry_at foreign entry.0) || is_stored store entry
+
+abbrev pub opens_as_told : Cache → Cache → List State → Bool
+opens_as_told foreign store stripes = opens (is_as_told foreign store) stripes
+
+abbrev pub is_agreed : Option Bytes → Option Bytes → Bool
+is_agreed None stored = true
+is_agreed (Some value) stored = holds stored value
+
+abbrev pub are_honest : Premises → Bool
+are_honest p = p.writers && p.loaders

@@ -25,6 +25,7 @@
 --     LoadAgrees, WriteAgrees       as long as the premises hold: what is known of a key that is loaded, also for a processor, and of one
 --                                   that is written
 --     ChangeAgrees, ProgressAgrees  and so of a reserved key, by whether the writer is asked
+--     PartAgrees                    and whether anyone was misled
 --     KeyAgrees                     as long as the premises hold: what is known of any key, by its part, the store's value and the
 --                                   cached one
 --     Sweeps                        a call that is still to look at a stripe: the keys that it has taken are of those at which it has
@@ -68,7 +69,7 @@ use Rattle.jc_stripe.specs.OwnSteps.{may_come_all}
 use Rattle.jc_world.specs.Calls.{CallState, SweepState, has_looked, op_at, op_for}
 use Rattle.jc_world.specs.declared.event.Part.{Part}
 use Rattle.jc_world.specs.declared.event.PartProgress.{PartProgress}
-use Rattle.jc_world.specs.World.{WorldState, home, stripe_for, cached_entry, open_call, part_of, JoinKey, Joins, join_key, is_joined, is_unanswered, Parts}
+use Rattle.jc_world.specs.World.{WorldState, home, stripe_for, cached_entry, open_call, part_of, JoinKey, Joins, join_key, is_joined, is_unanswered, Parts, is_foreign}
 use Rattle.jc_world.specs.Premises.{changed_to, is_done}
 use Rattle.jc_world.specs.Coherent.{all_hold}
 
@@ -144,7 +145,8 @@ FitsAsked Loader p = (p.change ≡ None) × (p.out ≡ load_only p.out.load)
 FitsAsked (Writer change) p = (p.change ≡ Some change) × (p.out ≡ write_only p.out.write)
 FitsAsked (Processor entry may_load) p =
     (p.change ≡ None → p.out.write ≡ write.NotAsked)
-    × (is_process_given p.out.process ≡ false → (p.change ≡ None) × (is_unanswered p.out ≡ true))
+    × (is_process_given p.out.process ≡ false
+    → (p.change ≡ None) × (is_unanswered p.out ≡ true) × (p.is_changed ≡ false))
 
 -- what the writer is to be asked for after a processor
 abbrev pub change_in : Config → Out → Option Change
@@ -224,9 +226,14 @@ ChangeAgrees (Some change) p stored entry = WriteAgrees change p.is_changed p.ou
 abbrev pub ProgressAgrees : PartProgress → Option Bytes → Option Bytes → Type 0
 ProgressAgrees p stored entry = ChangeAgrees p.change p stored entry
 
+-- until the writer has changed the store, the entry is the one from before; and if nobody has lied, more is known
+pub record PartAgrees (p : PartProgress) (stored entry : Option Bytes) : Type 0 where
+  pub kept : p.is_changed ≡ false → Agrees entry stored
+  pub honest : p.is_misled ≡ false → ProgressAgrees p stored entry
+
 abbrev pub KeyAgrees : Option Part → Option Bytes → Option Bytes → Type 0
 KeyAgrees None stored entry = Agrees entry stored
-KeyAgrees (Some part) stored entry = ProgressAgrees part.progress stored entry
+KeyAgrees (Some part) stored entry = PartAgrees part.progress stored entry
 
 -- 6. The calls that look at the stripes.
 
@@ -251,7 +258,7 @@ pub record IsSoundWorld (w : WorldState) : Type 0 where
   pub joins : AllWaitedFor w w.joins
   pub called : (number : ℕ) (s : State) → slice_get w.stripes number ≡ Some s
       → AllCalled w number s.joiners
-  pub told : all_hold w ≡ true → (key : Bytes)
+  pub told : all_hold w ≡ true → (key : Bytes) → is_foreign w key ≡ false
       → KeyAgrees (get w.parts key) (entry_at w.store key) (cached_entry w key)
   pub cold : w.is_fresh ≡ true → (key : Bytes) → cached_entry w key ≡ None
   pub idle : w.is_fresh ≡ true → w.calls ≡ []

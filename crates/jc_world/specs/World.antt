@@ -26,13 +26,20 @@
 --     is_all_answered                 all that was asked is answered
 --     is_untouched                    nothing was answered outside for the key, and nothing done
 --     has_changed                     the writer has changed the store
+--     is_misled                       the loader or the writer has lied about the key
 --     writer_change                   what the writer is asked for, if it is
 --     out_of_part                     the outside answers
 --     join_of                         a call's join of a key, if it has one
 --     has_join, is_joined             among these joins, and in a world, a call has joined a load of a key, and hasn't its answer
 --     is_free_of                      a call has neither reserved a key nor joined a load of it
 --     with_stored                     the world with this value in its store
-use Rattle.std.specs.Prelude.{◌==◌, ℕ, zero, suc, ◌+◌, List, [], ◌∷◌, length, Bool, true, false, not, ◌&&◌, Option, None, Some, find, is_none, is_some, slice_get, if◌then◌else◌}
+--     is_foreign                      others have written a key in the store, or a loader or a writer has lied about it, since the cache
+--                                     last wrote it, reserved it with no entry, or left what the store held of it at a commit
+--     has_any                         the cache has something of a key: an entry, or a reservation
+--     is_untold                       a key is foreign, and the cache has something of it: it may be from before
+--     with_foreign, without_foreign   these keys with one more, and without one if its write counts no longer
+--     with_doubt                      these keys with one more if a loader or a writer has lied about it
+use Rattle.std.specs.Prelude.{◌==◌, ℕ, zero, suc, ◌+◌, List, [], ◌∷◌, length, Bool, true, false, not, ◌&&◌, ◌||◌, Option, None, Some, find, is_none, is_some, slice_get, if◌then◌else◌}
 use Rattle.std.specs.declared.cmp.Ordering.{Ordering}
 use Rattle.std.specs.Ordering.{nat_cmp, on, then_cmp}
 use Rattle.std.specs.List.{list_any}
@@ -78,6 +85,7 @@ pub record WorldState : Type 0 where
   pub stripes : List State
   pub order : List Event  -- all events since the world was opened last, over all stripes
   pub store : Cache
+  pub foreign : Cache  -- the foreign keys, of which the cache may have what isn't the store's, each with no bytes
   pub last : Option ℕ  -- the highest number of a call so far
   pub calls : List CallState  -- the calls under way, in the order in which they began
   pub parts : Parts
@@ -118,11 +126,12 @@ start config =
       stripes = fresh_stripes config 0 config.stripes;
       order = [];
       store = empty;
+      foreign = empty;
       last = None;
       calls = [];
       parts = empty;
       joins = empty;
-      premises = record { writers = true; loaders = true; quiet = true; opening = true };
+      premises = record { writers = true; loaders = true; opening = true };
       is_fresh = true;
     }
 
@@ -191,6 +200,10 @@ is_untouched part = is_unanswered part.progress.out && not part.progress.is_chan
 abbrev pub has_changed : Part → Bool
 has_changed part = part.progress.is_changed
 
+-- what the loader or the writer has answered isn't so: what is cached at the commit may not be the store's
+abbrev pub is_misled : Part → Bool
+is_misled part = part.progress.is_misled
+
 -- what the writer is asked for: the change that it was asked for first, or the processor's net effect
 abbrev pub writer_change : Part → Option Change
 writer_change part = part.progress.change
@@ -218,3 +231,28 @@ is_free_of parts joins call key =
 -- 5. The store before anything has happened.
 abbrev pub with_stored : WorldState → Bytes → Bytes → WorldState
 with_stored w key value = record w { store = with_entry w.store key (Some value) }
+
+-- 6. What others have written, or lied about.
+
+-- others have written the key, or lied about it, since the cache last wrote it, newly reserved it, or agreed with the store on it
+abbrev pub is_foreign : WorldState → Bytes → Bool
+is_foreign w key = is_some (entry_at w.foreign key)
+
+-- the cache has an entry of the key, or has reserved it
+abbrev pub has_any : WorldState → Bytes → Bool
+has_any w key = is_some (cached_entry w key) || is_some (map.get w.parts key)
+
+-- and what it has may be from before that write
+abbrev pub is_untold : WorldState → Bytes → Bool
+is_untold w key = is_foreign w key && has_any w key
+
+-- with no bytes
+abbrev pub with_foreign : Cache → Bytes → Cache
+with_foreign foreign key =
+    if is_some (entry_at foreign key) then foreign else with_entry foreign key (Some [])
+
+abbrev pub without_foreign : Cache → Bytes → Bool → Cache
+without_foreign foreign key is_over = if is_over then with_entry foreign key None else foreign
+
+abbrev pub with_doubt : Cache → Bytes → Bool → Cache
+with_doubt foreign key is_misled = if is_misled then with_foreign foreign key else foreign

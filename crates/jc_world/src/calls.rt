@@ -22,8 +22,8 @@ fn is_single(op: &Op) -> bool
     ensures { result ≡ is_single op.now }
 {
     match op.kind() {
-        OpKind::Get | OpKind::ContainsKey | OpKind::Write | OpKind::Invoke => true,
-        OpKind::Clear | OpKind::LoadAll { .. } => false,
+        OpKind::Get | OpKind::ContainsKey | OpKind::Write | OpKind::Clear | OpKind::Invoke => true,
+        OpKind::LoadAll { .. } => false,
     }
 }
 

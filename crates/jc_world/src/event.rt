@@ -18,7 +18,7 @@ pub enum WorldEvent {
     /// A session begins a call. It has no phase yet.
     ///
     /// It fits if the number is above all before it, the session is one and has no call under way, and the command is one operation
-    /// on one key that is a call by itself, or one on many keys. `Op::Clear` and `Op::LoadAll` are no calls by themselves.
+    /// on one key that is a call by itself, or one on many keys. `Op::LoadAll` is no call by itself.
     ///
     /// A call of more than [`BULK_KEYS_MAX`](jc_types::BULK_KEYS_MAX) keys is refused whole: it is over at once, and its number is
     /// used. So is a call of no keys over at once.
@@ -298,17 +298,18 @@ pub struct PartProgress {
     pub out: Out,
     /// Whether the writer has changed the store.
     pub is_changed: bool,
+    /// Whether the loader's answer, or the writer's report, isn't so: what the commit leaves in the cache may not be the store's.
+    pub is_misled: bool,
 }
 
-/// The premises of coherence, and whether each has held since the world was opened last.
+/// What has held since the world was opened last. Coherence but for untold keys needs a coherent opening alone; that no key is untold
+/// needs the others, too.
 #[derive(Clone, Copy, Debug, PartialEq, Eq)]
 pub struct Premises {
     /// Honest writers: for each key each report said that it was written exactly if the writer had changed the store.
     pub writers: bool,
     /// Honest loaders: each answer was a failure, or what the store held for the key when it came.
     pub loaders: bool,
-    /// A quiet store: nobody else wrote it.
-    pub quiet: bool,
-    /// A coherent opening: each entry with which the cache opened was the store's.
+    /// A coherent opening: each entry with which the cache opened was the store's, but for foreign keys.
     pub opening: bool,
 }

@@ -10,15 +10,15 @@ ghost use Rattle.jc_stripe.specs.Phases.{Commits, Withdraws, with_reply};
 ghost use Rattle.jc_stripe.specs.Effects.{change_due};
 ghost use Rattle.jc_stripe.specs.Refusals.{reserves};
 ghost use Rattle.jc_outside.specs.declared.done.Origin.TheVariants.{Played};
-ghost use Rattle.jc_world.specs.Premises.{changed_to};
-ghost use Rattle.jc_world.specs.World.{has_changed, out_of_part, is_all_answered, is_unanswered, is_untouched, waits_for_load, waits_for_process};
+ghost use Rattle.jc_world.specs.Premises.{changed_to, is_true_load, is_true_report};
+ghost use Rattle.jc_world.specs.World.{has_changed, is_misled, out_of_part, is_all_answered, is_unanswered, is_untouched, waits_for_load, waits_for_process};
 ghost use Rattle.jc_world.specs.World.{is_write, waits_for_report, waits_for_write, writer_change};
 ghost use Rattle.jc_world.specs.Fits.{is_in_batch};
-ghost use Rattle.jc_world.specs.Events.{new_part, new_progress, with_loaded, with_change, with_report, run_answers, run_result, progress_after, reported_part};
+ghost use Rattle.jc_world.specs.Events.{new_part, new_progress, with_heard, with_loaded, with_change, with_report, run_answers, run_result, progress_after, reported_part};
 ghost use Rattle.jc_world.specs.Sound.{IsDue};
 
 use crate::event::{Part, PartProgress};
-use crate::outside::entry_after;
+use crate::outside::{entry_after, is_honest_load, is_honest_report};
 use crate::reports::{ReportedKey, WriterBatch};
 use crate::run::{RunPlan, RunShown, change_due, commit_run, new_progress, progress_after};
 use jc_model::{Change, Contents, EntryAnswer, LoadAnswer, Reply, WriteAnswer};
@@ -26,7 +26,7 @@ use jc_mutentry::played_process;
 use jc_stripe::{
     Appended, Ask, First, ProcDone, Reservation, Stripe, Ticket, played_load, played_write,
 };
-use jc_types::{Config, Key};
+use jc_types::{Config, Key, Value};
 use std::alloc::AllocError;
 use std::marker::Model;
 use std::mem;
@@ -174,21 +174,32 @@ impl HeldKey {
         self.progress.is_changed
     }
 
-    /// The loader answers.
-    pub(crate) fn loader_answers(&mut self, answer: LoadAnswer)
+    /// Whether the loader or the writer has lied about the key.
+    pub(crate) fn is_misled(&self) -> bool
+        ensures { result ≡ is_misled self.now }
+    {
+        self.progress.is_misled
+    }
+
+    /// The loader answers, honestly or not.
+    pub(crate) fn loader_answers(&mut self, answer: LoadAnswer, honest: bool)
         requires waits { waits_for_load self.old ≡ true }
         requires given { is_load_given answer ≡ true }
-        ensures { self.new ≡ record self.old { progress = with_loaded self.old.progress answer } }
+        ensures { self.new ≡ record self.old {
+          progress = with_heard (with_loaded self.old.progress answer) (is_misled self.old) honest;
+        } }
     {
         self.progress.out.load = answer;
+        self.progress.is_misled |= !honest;
     }
 
     /// The entry processor runs as planned. What each of its calls was answered is appended to `answers`, for which there is room.
-    /// Then the writer is asked for the net effect, if that is due.
+    /// Then the writer is asked for the net effect, if that is due. `stored` is what the store holds, by which its loader is judged.
     pub(crate) fn process(
         &mut self,
         config: &Config,
         plan: &RunPlan<'_>,
+        stored: Option<Value>,
         answers: &mut Vec<EntryAnswer>,
     ) -> RunShown
         requires waits { waits_for_process self.old ≡ true }
@@ -199,15 +210,20 @@ impl HeldKey {
         ensures change { result.change
             ≡ change_due config.now (run_result self.old.reservation plan.now.load plan.now.calls.now plan.now.fail) }
         ensures run { self.new ≡ record self.old {
-          progress = progress_after
+          progress = with_heard
+              (progress_after
               (change_due config.now (run_result self.old.reservation plan.now.load plan.now.calls.now plan.now.fail))
-              (run_result self.old.reservation plan.now.load plan.now.calls.now plan.now.fail);
+              (run_result self.old.reservation plan.now.load plan.now.calls.now plan.now.fail))
+              (is_misled self.old)
+              (is_true_load (run_result self.old.reservation plan.now.load plan.now.calls.now plan.now.fail).load stored);
         } }
     {
         let done = played_process(self.ticket.ask(), plan.calls, plan.fail, plan.load, answers);
         let load = *done.load();
         let change = change_due(config, &done);
+        let is_misled = self.progress.is_misled || !is_honest_load(*done.load(), stored);
         self.progress = progress_after(&change, &done);
+        self.progress.is_misled = is_misled;
         match mem::replace(&mut self.run, Some(done)) {
             None => {}
             Some(_former) => unreachable!(),
@@ -227,6 +243,7 @@ impl HeldKey {
             Some(change) => {
                 store.set(key, entry_after(&change))?;
                 self.progress.is_changed = true;
+                self.progress.is_misled = false;
                 Ok(())
             }
             None => unreachable!(),
@@ -255,9 +272,12 @@ impl HeldKey {
         requires waits { waits_for_report self.old ≡ true }
         requires given { is_write_given report ≡ true }
         ensures changed { result ≡ has_changed self.old }
-        ensures report { self.new ≡
-            record self.old { progress = with_report self.old.progress report } }
+        ensures report { self.new ≡ record self.old {
+          progress = with_heard (with_report self.old.progress report) (is_misled self.old)
+              (is_true_report report (has_changed self.old));
+        } }
     {
+        self.progress.is_misled |= !is_honest_report(&report, self.progress.is_changed);
         self.progress.out.write = report;
         self.progress.is_changed
     }

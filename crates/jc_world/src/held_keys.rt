@@ -9,11 +9,11 @@ ghost use Rattle.jc_model.specs.Table.{is_load_given, is_write_given};
 ghost use Rattle.jc_stripe.specs.Refusals.{reserves};
 ghost use Rattle.jc_stripe.specs.Effects.{change_due};
 ghost use Rattle.jc_world.specs.declared.event.Part.{Part};
-ghost use Rattle.jc_world.specs.Premises.{changed_to};
-ghost use Rattle.jc_world.specs.World.{has_changed, has_progress, of_call, waits_for_load, waits_for_process, waits_for_report};
+ghost use Rattle.jc_world.specs.Premises.{changed_to, is_true_load, is_true_report};
+ghost use Rattle.jc_world.specs.World.{has_changed, is_misled, has_progress, of_call, waits_for_load, waits_for_process, waits_for_report};
 ghost use Rattle.jc_world.specs.World.{writer_change};
 ghost use Rattle.jc_world.specs.Fits.{passes_in, is_in_batch};
-ghost use Rattle.jc_world.specs.Events.{asks_as, new_part, new_progress, not_over, with_loaded, with_change, with_report, reported_key};
+ghost use Rattle.jc_world.specs.Events.{asks_as, new_part, new_progress, not_over, with_heard, with_loaded, with_change, with_report, reported_key};
 ghost use Rattle.jc_world.specs.Events.{run_answers, run_result, progress_after};
 ghost use Rattle.jc_world.specs.Held.{parts_of};
 
@@ -24,7 +24,7 @@ use crate::run::{RunPlan, RunShown, asks_as};
 use indexmap::IndexMap;
 use jc_model::{Change, Contents, EntryAnswer, LoadAnswer, Op, ProcessAnswer, WriteAnswer};
 use jc_stripe::{First, Ticket};
-use jc_types::{Config, Key};
+use jc_types::{Config, Key, Value};
 use std::alloc::{AllocError, Global};
 
 /// The keys that are held, each with its ticket.
@@ -99,16 +99,16 @@ pub(crate) fn list_parts(alloc: Global, held: &HeldKeys) -> Result<Vec<(Key, Par
     Ok(parts)
 }
 
-/// The loader answers for a key.
-pub(crate) fn loader_answers(held: &mut HeldKeys, key: &Key, answer: LoadAnswer)
+/// The loader answers for a key, honestly or not.
+pub(crate) fn loader_answers(held: &mut HeldKeys, key: &Key, answer: LoadAnswer, honest: bool)
     requires waits { has_progress waits_for_load (map.get (parts_of held.old) key.now) ≡ true }
     requires given { is_load_given answer ≡ true }
     ensures { (part : Part) × (map.get (parts_of held.old) key.now ≡ Some part)
         × (parts_of held.new ≡ map.insert (parts_of held.old) key.now
-        (record part { progress = with_loaded part.progress answer })) }
+        (record part { progress = with_heard (with_loaded part.progress answer) (is_misled part) honest })) }
 {
     match held.get_mut(key) {
-        Some(one) => one.loader_answers(answer),
+        Some(one) => one.loader_answers(answer, honest),
         None => unreachable!(),
     }
 }
@@ -183,7 +183,9 @@ pub(crate) fn report(held: &mut HeldKeys, key: &Key, report: WriteAnswer) -> boo
     ensures { (part : Part) × (map.get (parts_of held.old) key.now ≡ Some part)
         × (result ≡ has_changed part)
         × (parts_of held.new ≡ map.insert (parts_of held.old) key.now
-        (record part { progress = with_report part.progress report })) }
+        (record part {
+          progress = with_heard (with_report part.progress report) (is_misled part) (is_true_report report (has_changed part));
+        })) }
 {
     match held.get_mut(key) {
         Some(one) => one.report(report),
@@ -197,6 +199,7 @@ pub(crate) fn process(
     config: &Config,
     key: &Key,
     plan: &RunPlan<'_>,
+    stored: Option<Value>,
     answers: &mut Vec<EntryAnswer>,
 ) -> RunShown
     requires waits { has_progress waits_for_process (map.get (parts_of held.old) key.now) ≡ true }
@@ -209,15 +212,25 @@ pub(crate) fn process(
         ≡ change_due config.now (run_result part.reservation plan.now.load plan.now.calls.now plan.now.fail))
         × (parts_of held.new ≡ map.insert (parts_of held.old) key.now
         (record part {
-          progress = progress_after
+          progress = with_heard
+              (progress_after
               (change_due config.now (run_result part.reservation plan.now.load plan.now.calls.now plan.now.fail))
-              (run_result part.reservation plan.now.load plan.now.calls.now plan.now.fail);
+              (run_result part.reservation plan.now.load plan.now.calls.now plan.now.fail))
+              (is_misled part)
+              (is_true_load (run_result part.reservation plan.now.load plan.now.calls.now plan.now.fail).load stored);
         })) }
 {
     match held.get_mut(key) {
-        Some(one) => one.process(config, plan, answers),
+        Some(one) => one.process(config, plan, stored, answers),
         None => unreachable!(),
     }
+}
+
+/// Whether the loader or the writer has lied about a key, if it is held.
+pub(crate) fn is_misled(held: &HeldKeys, key: &Key) -> bool
+    ensures { result ≡ has_progress is_misled (map.get (parts_of held.now) key.now) }
+{
+    held_at(held, key).is_some_and(|one| one.is_misled())
 }
 
 /// Takes a key out. The last one takes its place.

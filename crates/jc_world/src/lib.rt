@@ -17,6 +17,7 @@ pub mod determinism;
 mod ending;
 pub mod essence;
 pub mod event;
+mod foreign;
 pub mod headline;
 mod held;
 mod held_keys;
@@ -35,6 +36,7 @@ mod run;
 mod stripes;
 mod sweep;
 mod tasks;
+pub mod told;
 pub mod world;
 
 pub use audit::Audit;

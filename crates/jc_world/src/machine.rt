@@ -20,7 +20,8 @@ use crate::calls::{begin, drop_call, fault_in, find_call, refuse, settle};
 use crate::command::Command;
 use crate::ending::{end_all, pick_all};
 use crate::event::{JoinAnswer, Outcome, Premises, Shown, WorldEvent, show, show_end};
-use crate::held_keys::{HeldKeys, hold, make_room, take};
+use crate::foreign::{doubt, forget};
+use crate::held_keys::{HeldKeys, hold, is_misled, make_room, take};
 use crate::joined::{Joins, make_join_room, put_join, take_join};
 use crate::open_call::OpenCall;
 use crate::stripes::{Stripes, shown_of};
@@ -36,6 +37,8 @@ pub(crate) struct Machine {
     pub(crate) config: Config,
     pub(crate) stripes: Stripes,
     pub(crate) store: Contents,
+    // The foreign keys, each with an empty value.
+    pub(crate) foreign: Contents,
     pub(crate) last: Option<u64>,
     pub(crate) calls: Vec<OpenCall>,
     pub(crate) held: HeldKeys,
@@ -70,6 +73,7 @@ impl Machine {
             config: *config,
             stripes,
             store: Contents::new(alloc),
+            foreign: Contents::new(alloc),
             last: None,
             calls: Vec::new(alloc),
             held: HeldKeys::new(alloc),
@@ -77,7 +81,6 @@ impl Machine {
             premises: Premises {
                 writers: true,
                 loaders: true,
-                quiet: true,
                 opening: true,
             },
             is_fresh: true,
@@ -92,12 +95,12 @@ impl Machine {
         self.stripes
             .restart(&self.config, &mut self.held, &mut self.joins);
         self.store = Contents::new(self.alloc);
+        self.foreign = Contents::new(self.alloc);
         self.last = None;
         self.calls.clear();
         self.premises = Premises {
             writers: true,
             loaders: true,
-            quiet: true,
             opening: true,
         };
         self.is_fresh = true;
@@ -215,6 +218,7 @@ impl Machine {
         let caller = u.caller();
         let kind = u.kind();
         let number = stripe_of(key, self.config.stripes);
+        let is_new = self.stripes.is_missing(number, key);
         let mut reply = Reply::Unit;
         match self.stripes.begin(number, &caller, key, op, &mut reply) {
             Started::Done(done) => {
@@ -228,7 +232,10 @@ impl Machine {
             Started::Refused(refusal) => {
                 refuse(&mut self.calls, kind, caller.call, key, refusal, seen);
             }
-            Started::Asks(ticket) => hold(&mut self.held, ticket, seen),
+            Started::Asks(ticket) => {
+                forget(&mut self.foreign, key, is_new);
+                hold(&mut self.held, ticket, seen)
+            }
         }
         Ok(())
     }
@@ -242,10 +249,13 @@ impl Machine {
         ensures err { OnErr result (self.new ≡ self.old) }
     {
         self.stripes.reserve()?;
+        doubt(&mut self.foreign, key, is_misled(&self.held, key))?;
         let number = stripe_of(key, self.config.stripes);
         let held = take(&mut self.held, key);
         let mut reply = Reply::Unit;
         let done = self.stripes.commit(number, held, &mut reply);
+        let agrees = self.stripes.is_agreed(number, key, &self.store);
+        forget(&mut self.foreign, key, agrees);
         let over = settle(&mut self.calls, call, key, fault_in(&reply));
         let outcome = Outcome::Stepped(shown_of(number, done, &reply));
         *seen = Shown { outcome, over };
@@ -310,6 +320,7 @@ impl Machine {
             config,
             stripes,
             store: _,
+            foreign: _,
             last: _,
             calls: _,
             mut held,

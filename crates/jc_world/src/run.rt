@@ -55,6 +55,7 @@ pub(crate) fn new_progress(first: &First) -> PartProgress
         change: change_asked(first),
         out: Out::nothing_said(),
         is_changed: false,
+        is_misled: false,
     }
 }
 
@@ -91,6 +92,7 @@ pub(crate) fn progress_after(change: &Option<Change>, done: &ProcDone<Ask>) -> P
             process: *done.process(),
         },
         is_changed: false,
+        is_misled: false,
     }
 }
 

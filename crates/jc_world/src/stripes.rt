@@ -1,12 +1,14 @@
 //! The stripes of a world, and the order of all that they append to their histories.
 ghost use Rattle.std.specs.Prelude.{◌≡◌, ◌+◌, ◌-◌, ◌≤◌, ◌<◌, ◌++◌, [], Ok, true, IsSomeAnd, IfOk, OnOk, length};
-ghost use Rattle.std.specs.Prelude.{ℕ, replicate, vec_len, vec_capacity, slice_get};
+ghost use Rattle.std.specs.Prelude.{ℕ, replicate, vec_len, vec_capacity, slice_get, is_none};
 ghost use Rattle.jc_types.specs.declared.limits.TheConstants.{STEP_PLACES, JOINERS_MAX, STRIPES_MAX};
 ghost use Rattle.jc_types.specs.Limits.{check};
 ghost use Rattle.jc_stripe.specs.State.{IsOut, IsJoined};
 ghost use Rattle.jc_stripe.specs.Phases.{MayBegin, begun_with, with_reply, Commits, Withdraws, PicksUp, polled_with};
 ghost use Rattle.jc_outside.specs.declared.done.Origin.TheVariants.{Played};
-ghost use Rattle.jc_world.specs.World.{out_of_part, is_all_answered, is_unanswered, fresh_stripes};
+ghost use Rattle.jc_model.specs.Cache.{entry_at};
+ghost use Rattle.jc_world.specs.Premises.{is_agreed};
+ghost use Rattle.jc_world.specs.World.{entry_in, out_of_part, is_all_answered, is_unanswered, fresh_stripes};
 ghost use Rattle.jc_world.specs.Sound.{IsDue};
 ghost use Rattle.jc_stripe.specs.Reached.{IsReached};
 ghost use Rattle.jc_world.specs.Ending.{AreLeft, HasHeld, HasJoins, NoneReserved};
@@ -19,7 +21,7 @@ use crate::event::Stepped;
 use crate::held::HeldKey;
 use crate::held_keys::HeldKeys;
 use crate::joined::Joins;
-use jc_model::{Effect, Event, LoadAnswer, Op, Out, ProcessAnswer, Reply, WriteAnswer};
+use jc_model::{Contents, Effect, Event, LoadAnswer, Op, Out, ProcessAnswer, Reply, WriteAnswer};
 use jc_stripe::phase_laws::grows;
 use jc_stripe::{Appended, Join, Origin, Picked, Started, Stripe};
 use jc_types::{Caller, Config, JOINERS_MAX, Key, STEP_PLACES, STRIPES_MAX, Value};
@@ -98,6 +100,26 @@ impl Stripes {
         ensures room { OnOk result (STEP_PLACES + JOINERS_MAX ≤ self.new.room) }
     {
         self.turns.try_reserve(EVENTS_MAX)
+    }
+
+    /// Whether a stripe caches nothing for a key.
+    pub(crate) fn is_missing(&self, number: usize, key: &Key) -> bool
+        ensures { result ≡ is_none (entry_in (slice_get self.now.stripes number) key.now) }
+    {
+        match self.items.get(number) {
+            Some(stripe) => stripe.entry(key).is_none(),
+            None => true,
+        }
+    }
+
+    /// Whether what a stripe caches for a key is what the store holds, or nothing is cached.
+    pub(crate) fn is_agreed(&self, number: usize, key: &Key, store: &Contents) -> bool
+        ensures { result ≡ is_agreed (entry_in (slice_get self.now.stripes number) key.now) (entry_at store.now key.now) }
+    {
+        match self.items.get(number) {
+            Some(stripe) => agrees(stripe, key, store),
+            None => true,
+        }
     }
 
     /// The first phase of an operation at a key, on the stripe of that key. What it appends is at the end of the order, too. If the call
@@ -274,5 +296,15 @@ pub(crate) fn shown_of(number: usize, done: Appended, reply: &Reply) -> Stepped
         place: done.place,
         victim: done.victim,
         evicted: done.evicted,
+    }
+}
+
+/// Whether what a stripe caches for a key is what the store holds, or nothing is cached.
+fn agrees(stripe: &Stripe, key: &Key, store: &Contents) -> bool
+    ensures { result ≡ is_agreed (entry_at stripe.now.cache key.now) (entry_at store.now key.now) }
+{
+    match stripe.entry(key) {
+        Some(value) => store.get(key).is_some_and(|held| *held == *value),
+        None => true,
     }
 }

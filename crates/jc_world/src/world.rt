@@ -2,15 +2,16 @@
 ghost use Rattle.std.specs.Prelude.{[], ◌≡◌, ◌≤◌, ◌⊎◌, ◌<◌, true, IsTrue, IfOk, IfErr, IsOk, option_copied, OnErr, OnOk, Ok, is_some};
 ghost use Rattle.std.specs.Prelude.{Err, take, length, find, option_map};
 ghost use Rattle.std.specs.FinMap as map;
+ghost use Rattle.std.specs.List.{list_all};
 ghost use Rattle.jc_world.specs.Calls.{is_of_session};
 ghost use Rattle.jc_types.specs.Limits.{check};
 ghost use Rattle.jc_world.specs.World.{start, is_busy, is_idle, open_call, part_of, has_progress, waits_for_load, waits_for_process};
-ghost use Rattle.jc_world.specs.World.{waits_for_report, is_joined, with_stored};
+ghost use Rattle.jc_world.specs.World.{waits_for_report, is_joined, is_untold, with_stored};
 ghost use Rattle.jc_world.specs.Fits.{fits, is_being_written, is_new};
 ghost use Rattle.jc_world.specs.Events.{RunAppending};
 ghost use Rattle.jc_world.specs.Together.{BeginFits, FitTogether};
-ghost use Rattle.jc_world.specs.Coherent.{all_hold, Coherent};
-ghost use Rattle.jc_world.specs.Audit.{IsOrder, HasShares, IsAudit};
+ghost use Rattle.jc_world.specs.Coherent.{all_hold, CoherentAsTold};
+ghost use Rattle.jc_world.specs.Audit.{IsOrder, HasShares, IsAudit, untold_keys};
 ghost use Rattle.jc_world.specs.Sound.{HaveNoneEnded};
 
 use crate::audit::Audit;
@@ -200,6 +201,31 @@ impl World {
         self.machine.store.entries(alloc)
     }
 
+    /// The foreign keys, in byte order, each with an empty value: others have written them in the store, or a loader or a writer has lied
+    /// about them, since this cache last wrote them, reserved them with no entry, or left what the store held of them at a commit. An
+    /// `Err` says that an allocation failed.
+    pub fn foreign_keys(&self, alloc: Global) -> Result<Vec<(Key, Value)>, AllocError>
+        ensures { IfOk result (λ entries. entries.items ≡ map.entries self.now.world.foreign) }
+    {
+        self.machine.foreign.entries(alloc)
+    }
+
+    /// Whether the key is foreign, as [`foreign_keys`](World::foreign_keys) says, and the cache has had something of it ever since: an entry,
+    /// or a reservation.
+    pub fn is_untold(&self, key: &Key) -> bool
+        ensures { result ≡ is_untold self.now.world key.now }
+    {
+        self.machine.is_untold(key)
+    }
+
+    /// The keys that are untold, in byte order: if all premises hold, no other cached value differs from the store's, but for keys whose
+    /// writer has changed the store and whose call isn't committed. An `Err` says that an allocation failed.
+    pub fn untold_keys(&self, alloc: Global) -> Result<Vec<Key>, AllocError>
+        ensures { IfOk result (λ keys. keys.items ≡ untold_keys self.now.world) }
+    {
+        self.machine.untold_keys(alloc)
+    }
+
     /// Each reserved key, with what its call has asked and heard for it, in no particular order. An `Err` says that an allocation
     /// failed.
     pub fn parts(&self, alloc: Global) -> Result<Vec<(Key, Part)>, AllocError>
@@ -319,15 +345,16 @@ impl World {
 
     /// What there is to see of the world.
     ///
-    /// If write-through is on, and since the world was opened last nobody else wrote the store, each writer reported success exactly if
-    /// it had changed the store, each loader answered what the store held or failed, and each entry with which it opened was the
-    /// store's, then no key differs: each cached value is the store's, but for keys whose writer has changed the store and whose call
-    /// isn't committed. It looks at all entries.
+    /// If write-through is on, and each entry with which the world was opened last was the store's, but for keys that were untold before,
+    /// then no key differs but untold ones: those that somebody else has written, or about which a loader or a writer has lied, and of
+    /// which the cache has had something ever since, an entry or a reservation. So each other cached value is the store's, but for keys
+    /// whose writer has changed the store and whose call isn't committed. It looks at all entries.
     pub fn audit(&self, alloc: Global) -> Result<Audit, AllocError>
         ensures audit { IfOk result (λ a.
             IsAudit self.now.world a.cache.items a.store.items a.differing.items a.events a.is_legal) }
         ensures coherent { IfOk result (λ a. all_hold self.now.world ≡ true
-            → Coherent self.now.world × (a.differing.items ≡ [])) }
+            → CoherentAsTold self.now.world
+            × (list_all (is_untold self.now.world) a.differing.items ≡ true)) }
         ensures legal { IfOk result (λ a. IsTrue a.is_legal) }
     {
         self.machine.audit(alloc)

@@ -201,6 +201,22 @@ impl<E> Stripe<E> {
             }
             Asked::Process { .. } | Asked::Full => unreachable!("it was not asked for"),
         };
+        let asking = self.reserve(side, key, session, number, is_load);
+        Ok(if is_load {
+            First::Load(asking)
+        } else {
+            First::Write(asking, value)
+        })
+    }
+
+    fn reserve(
+        &self,
+        side: &mut Side<E>,
+        key: &[u8],
+        session: u32,
+        number: u64,
+        is_load: bool,
+    ) -> Asking<'_, E> {
         let flight = Arc::new(Flight {
             owner: this_thread(),
             number,
@@ -210,19 +226,14 @@ impl<E> Stripe<E> {
         });
         side.sessions.take();
         side.flights.insert(key.to_vec(), flight.clone());
-        let asking = Asking {
+        Asking {
             stripe: self,
             key: key.to_vec(),
             session,
             flight,
             is_load,
             is_over: false,
-        };
-        Ok(if is_load {
-            First::Load(asking)
-        } else {
-            First::Write(asking, value)
-        })
+        }
     }
 
     fn leave(&self, side: &mut Side<E>, session: u32) {

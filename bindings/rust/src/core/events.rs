@@ -115,7 +115,8 @@ impl fmt::Debug for Event {
 /// It takes time and memory as long as the history.
 ///
 /// # Errors
-/// [`Code::BadArgument`]: an entry is none. [`Code::NoMemory`]. [`Code::WrongVersion`]: the library that was linked is of another version.
+/// [`Code::BadArgument`]: an entry is none. [`Code::NoMemory`]. [`Code::WrongVersion`]: the library that was linked is of another
+/// version.
 pub fn legal(shape: &Shape, opening: &[(&[u8], &[u8])], events: &[Event]) -> Result<bool, Code> {
     check_version()?;
     let shape = raw_shape(shape);

@@ -1,8 +1,8 @@
 //! The functions of the header. `tests/header.rs` compares their parameters with it.
 use crate::{Entry, FlatEvent, Handle, Out, Processed, Shape, Statistics, Value};
 
-// What each requires is in the header, under "the host owes": pointers to live memory that nothing else uses meanwhile, true bools, one call at
-// a time of a desk. A pointer with length 0 isn't null.
+// What each requires is in the header, under "the host owes": pointers to live memory that nothing else uses meanwhile, true bools, one
+// call at a time of a desk. A pointer with length 0 isn't null.
 unsafe extern "C" {
     /// The version of the library: compare its thousands with those of [`VERSION`](crate::VERSION) before any other call.
     pub fn jc_version() -> u32;

@@ -2,7 +2,8 @@
 use crate::{KEY_MAX, VALUE_MAX};
 use core::ffi::c_void;
 
-/// A desk: one stripe. It begins as [`Handle::CLOSED`]; only the library reads or writes it, and it isn't copied or moved while it is open.
+/// A desk: one stripe. It begins as [`Handle::CLOSED`]; only the library reads or writes it, and it isn't copied or moved while it is
+/// open.
 #[repr(C)]
 #[derive(Debug)]
 pub struct Handle {

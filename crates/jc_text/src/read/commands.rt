@@ -18,6 +18,7 @@ pub enum Bare {
     Contains,
     Remove,
     GetRemove,
+    Forget,
     Invoke,
 }
 
@@ -71,6 +72,7 @@ pub fn form_named(word: &[u8]) -> Result<Form, Fault>
         _ if is(word, "replace") => Ok(Form::Valued(Valued::Replace)),
         _ if is(word, "replaceif") => Ok(Form::ReplaceIf),
         _ if is(word, "getreplace") => Ok(Form::Valued(Valued::GetReplace)),
+        _ if is(word, "forget") => Ok(Form::Bare(Bare::Forget)),
         _ if is(word, "invoke") => Ok(Form::Bare(Bare::Invoke)),
         _ if is(word, "getall") => Ok(Form::Bulk(BulkName::GetAll)),
         _ if is(word, "putall") => Ok(Form::Bulk(BulkName::PutAll)),
@@ -83,7 +85,7 @@ pub fn form_named(word: &[u8]) -> Result<Form, Fault>
     }
 }
 
-/// The name of an operation, if it has one: the keys of a `clear` and of a `loadall` have none of their own.
+/// The name of an operation, if it has one: the keys of a `loadall` have none of their own.
 pub fn op_name(op: &Op) -> Option<&'static str>
     ensures { option_map (λ name. name.now) result ≡ op_name op.now }
 {
@@ -99,7 +101,8 @@ pub fn op_name(op: &Op) -> Option<&'static str>
         Op::Replace(_) => Some("replace"),
         Op::ReplaceIf { .. } => Some("replaceif"),
         Op::GetAndReplace(_) => Some("getreplace"),
-        Op::Clear | Op::LoadAll { .. } => None,
+        Op::Clear => Some("forget"),
+        Op::LoadAll { .. } => None,
         Op::Invoke => Some("invoke"),
     }
 }
@@ -155,6 +158,7 @@ fn bare_op(bare: Bare) -> Op
         Bare::Contains => Op::ContainsKey,
         Bare::Remove => Op::Remove,
         Bare::GetRemove => Op::GetAndRemove,
+        Bare::Forget => Op::Clear,
         Bare::Invoke => Op::Invoke,
     }
 }

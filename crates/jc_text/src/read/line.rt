@@ -94,6 +94,8 @@ pub enum Line {
     Reopen(Config),
     /// An audit of the world.
     Audit,
+    /// The keys that are untold.
+    Untold,
 }
 
 /// Leaves `new` in `line`, and lets go of what was there. A line owns memory, and the prover would go through all its variants at each place

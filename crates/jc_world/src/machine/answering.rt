@@ -12,6 +12,7 @@ ghost use Rattle.jc_world.specs.Events.{after_answer, after_report, reported_at,
 use crate::calls::{find_call, meet};
 use crate::command::CallKind;
 use crate::event::{Outcome, Shown, show};
+use crate::foreign::{forget, write_foreign};
 use crate::held_keys::{change, loader_answers, report, waits_for_report};
 use crate::machine::Machine;
 use crate::outside::{answer_of, is_honest_load, is_honest_report};
@@ -32,7 +33,7 @@ impl Machine {
         // Copied first: see docs/CONTRIBUTING.md, "Idioms that the prover asks for".
         let kept = answer;
         let honest = is_honest_load(answer, self.stored(key));
-        loader_answers(&mut self.held, key, kept);
+        loader_answers(&mut self.held, key, kept, honest);
         self.premises.loaders &= honest;
     }
 
@@ -74,6 +75,7 @@ impl Machine {
         ensures err { OnErr result (self.new ≡ self.old) }
     {
         change(&mut self.held, &mut self.store, key)?;
+        forget(&mut self.foreign, key, true);
         show(seen, Outcome::Changed);
         Ok(())
     }
@@ -156,8 +158,7 @@ impl Machine {
         ensures ok { OnOk result (Happens self.old (event.Foreign key.now value.now) seen.new self.new) }
         ensures err { OnErr result (self.new ≡ self.old) }
     {
-        self.store.set(key, *value)?;
-        self.premises.quiet = false;
+        write_foreign(&mut self.store, &mut self.foreign, key, value)?;
         self.is_fresh = false;
         show(seen, Outcome::Written);
         Ok(())

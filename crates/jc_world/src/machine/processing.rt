@@ -64,8 +64,18 @@ impl Machine {
             calls,
             fail,
         };
-        let ran = process(&mut self.held, &self.config, key, &plan, &mut answers);
-        let honest = is_honest_load(ran.load, self.stored(key));
+        // Copied first: see docs/CONTRIBUTING.md, "Idioms that the prover asks for".
+        let stored = self.stored(key);
+        let kept = stored;
+        let ran = process(
+            &mut self.held,
+            &self.config,
+            key,
+            &plan,
+            stored,
+            &mut answers,
+        );
+        let honest = is_honest_load(ran.load, kept);
         self.premises.loaders &= honest;
         Ok(ShownRun {
             answers: ReadOnlyList::new(answers),

@@ -5,11 +5,12 @@ ghost use Rattle.jc_model.specs.Cache.{Bytes};
 ghost use Rattle.jc_stripe.specs.Reopening.{all_entries};
 ghost use Rattle.jc_world.specs.declared.event.WorldEvent.TheVariants as event;
 ghost use Rattle.jc_world.specs.Fits.{fits};
-ghost use Rattle.jc_world.specs.Premises.{is_stored};
+ghost use Rattle.jc_world.specs.Premises.{is_as_told, is_stored};
 ghost use Rattle.jc_world.specs.Events.{Happens};
 ghost use Rattle.jc_world.specs.Sound.{IsSoundWorld};
 
 use crate::event::{Outcome, Premises, Shown, show};
+use crate::foreign::forget_all;
 use crate::machine::Machine;
 use crate::machine::auditing::is_stored;
 use crate::read_only::ReadOnlyList;
@@ -38,13 +39,15 @@ impl Machine {
         )?;
         let keys = keys_of(self.alloc, &dropped)?;
         let opened = all_entries(self.alloc, &stripes)?;
+        let opening = are_as_told(&self.foreign, &self.store, &opened);
+        let stored = are_stored(&self.store, &opened);
+        forget_all(self.alloc, &mut self.foreign, stored);
         self.config = *config;
         self.stripes = Stripes::of(self.alloc, stripes);
         self.premises = Premises {
             writers: true,
             loaders: true,
-            quiet: true,
-            opening: are_stored(&self.store, &opened),
+            opening,
         };
         self.is_fresh = false;
         show(seen, Outcome::Reopened(ReadOnlyList::new(keys)));
@@ -79,4 +82,20 @@ fn are_stored(store: &Contents, entries: &[(Key, Value)]) -> bool
     ensures { result ≡ list_all (is_stored store.now) entries.now }
 {
     entries.iter().all(|entry| is_stored(store, entry))
+}
+
+/// Whether each of these entries is the store's, but for foreign keys.
+fn are_as_told(foreign: &Contents, store: &Contents, entries: &[(Key, Value)]) -> bool
+    ensures { result ≡ list_all (is_as_told foreign.now store.now) entries.now }
+{
+    entries
+        .iter()
+        .all(|entry| is_as_told(foreign, store, entry))
+}
+
+/// Whether the store has this entry, or its key is foreign.
+fn is_as_told(foreign: &Contents, store: &Contents, entry: &(Key, Value)) -> bool
+    ensures { result ≡ is_as_told foreign.now store.now entry.now }
+{
+    foreign.get(&entry.0).is_some() || is_stored(store, entry)
 }

@@ -159,10 +159,9 @@ pub fn plays(rt: &impl Abort, alloc: Global, world: &mut World, course: &str) ->
     over
 }
 
-// At first these operations are no calls by themselves, no session has such a number, and no call is under way. Then there is a
-// busy session, a number that doesn't rise, another key, another call's number, and a call that is over.
+// At first this operation is no call by itself, no session has such a number, and no call is under way. Then there is a busy
+// session, a number that doesn't rise, another key, another call's number, and a call that is over.
 const LOAD: &str = "\
-clear 1 b: unfit; none
 loadall 1 b: unfit; none
 get 100 b: unfit; none
 get 33 b: unfit; none
@@ -199,6 +198,47 @@ fn stays_fresh_without_a_call(rt: HostRuntime) {
     let mut world = opened_world(&rt, alloc);
     plays(&rt, alloc, &mut world, "get 33 b: unfit; none\n");
     assert!(rt; world.is_fresh() && world.is_new(0));
+    world.close();
+}
+
+// A clear of a reserved key is refused.
+const RESERVED: &str = "\
+get 1 a: begun; start leave
+start 1 a: loads; read say withdraw
+read 1 a: reads; commit
+clear 2 a: begun; start leave
+start 2 a: refused; none
+commit 1 a: stepped; none
+";
+
+const CLEARED: &str = "\
+clear 3 a: begun; start leave
+start 3 a: stepped; none
+";
+
+/// Asserts which keys are foreign, and which of them are untold: as many as this.
+fn counts(rt: &HostRuntime, alloc: Global, world: &World, foreign: usize, untold: usize) {
+    let keys = world.foreign_keys(alloc).expect(rt, "memory");
+    assert!(rt; keys.len() == foreign);
+    let keys = world.untold_keys(alloc).expect(rt, "memory");
+    assert!(rt; keys.len() == untold);
+}
+
+// Somebody else writes a key while it is reserved. It is untold until a clear of it is done.
+#[test]
+fn tells_by_a_clear(rt: HostRuntime) {
+    let alloc = rt.alloc();
+    let mut world = opened_world(&rt, alloc);
+    let key = key_of(&rt, "a");
+    let write = WorldEvent::Foreign { key, value: None };
+    plays(&rt, alloc, &mut world, RESERVED);
+    counts(&rt, alloc, &world, 0, 0);
+    shows(&rt, alloc, &mut world, write, "written", "a write of others");
+    assert!(rt; world.is_untold(&key));
+    counts(&rt, alloc, &world, 1, 1);
+    plays(&rt, alloc, &mut world, CLEARED);
+    assert!(rt; !world.is_untold(&key));
+    counts(&rt, alloc, &world, 1, 0);
     world.close();
 }
 

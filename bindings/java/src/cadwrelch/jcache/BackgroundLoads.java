@@ -5,7 +5,6 @@ import java.util.Set;
 import java.util.concurrent.ExecutorService;
 import java.util.concurrent.Executors;
 import javax.cache.event.CacheEntryListenerException;
-import javax.cache.integration.CacheLoaderException;
 import javax.cache.integration.CompletionListener;
 
 /** {@code loadAll}: it returns at once, and threads of the cache's own load (JSR 107, {@code Cache.loadAll}). */
@@ -37,22 +36,16 @@ final class BackgroundLoads<K, V> {
     }
 
     private void load(Set<K> keys, boolean replaces, CompletionListener listener) {
-        Throwable cause;
         try {
-            cause = BulkCalls.run(context, replaces ? Native.RELOAD : Native.LOAD, keys, key -> null).cause;
+            BulkCalls.Result result =
+                    BulkCalls.run(context, replaces ? Native.RELOAD : Native.LOAD, keys, key -> null);
+            tell(listener, result.cause == null ? null : Faults.ofBackground(result.cause, result.where()));
         } catch (IllegalStateException | CacheEntryListenerException e) {
             tell(listener, e);
-            return;
         } catch (RuntimeException | Error e) {
-            cause = e;
+            // A thread of the cache's own has nobody to throw an error at: the listener is told of it.
+            tell(listener, Faults.ofBackground(e, " (cache " + cacheName + ")"));
         }
-        tell(listener, cause == null ? null : failure(cause));
-    }
-
-    /** A thread of the cache's own has nobody to throw an error at: the listener is told of it. */
-    private static Exception failure(Throwable cause) {
-        return cause instanceof CacheLoaderException ? (CacheLoaderException) cause
-                : new CacheLoaderException("the loader failed", cause);
     }
 
     private static void tell(CompletionListener listener, Exception failure) {

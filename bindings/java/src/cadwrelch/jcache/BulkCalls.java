@@ -8,12 +8,14 @@ import java.util.List;
 import java.util.Set;
 import java.util.function.Consumer;
 import java.util.function.Function;
+import java.util.stream.Collectors;
 
 /**
  * A call of many keys, in rounds. A round makes the first phase of each key that has no reply. Then whoever is to be
  * asked is asked, once for all keys that the round has reserved, and these are committed; then it waits for the loads
- * that it has joined. A key that can't begin is put off to the next round. A round waits for a key only while it has
- * nothing out: so no two calls wait for each other.
+ * that it has joined. A key that can't begin is put off to the next round: none is waited for. If a round could begin
+ * none, the first one that it has put off is waited for before the next round, with nothing out: so no two calls wait
+ * for each other.
  */
 final class BulkCalls {
     private final CacheContext<?, ?> context;
@@ -52,6 +54,13 @@ final class BulkCalls {
             return asked.isEmpty() && joined.isEmpty();
         }
 
+        /** Waits for the first key that is put off, if nothing is out. */
+        void awaitTurn() {
+            if (hasNothingOut() && !later.isEmpty()) {
+                later.get(0).stripe.awaitTurn(later.get(0));
+            }
+        }
+
         /** Gives up what is out: nobody was asked yet. */
         void giveUp() {
             for (int i = 0; i < asked.size(); i++) {
@@ -69,12 +78,12 @@ final class BulkCalls {
     }
 
     /**
-     * Makes the calls, and tells the listeners. Returns them in the order in which they ended.
+     * Makes the calls, and tells the listeners.
      *
      * @throws IllegalStateException if the cache is closed, or a call would wait for its own thread. Calls that have
      *     not ended have done nothing then
      */
-    List<Call> run() {
+    void run() {
         try {
             List<Call> left = calls;
             while (!left.isEmpty()) {
@@ -89,7 +98,6 @@ final class BulkCalls {
             throw e;
         }
         context.tellListeners(touched);
-        return done;
     }
 
     /** One round. Returns the calls that are put off. */
@@ -108,6 +116,7 @@ final class BulkCalls {
             end(round);
         }
         pickUp(round);
+        round.awaitTurn();
         return round.later;
     }
 
@@ -118,7 +127,7 @@ final class BulkCalls {
             return;
         }
         touched.add(stripe);
-        stripe.begin(call, round.hasNothingOut());
+        stripe.begin(call, false);
         switch (call.next) {
             case Native.DONE:
                 done.add(call);
@@ -182,24 +191,31 @@ final class BulkCalls {
 
     // One operation at each key.
 
-    /** The replies of one operation at many keys, and the first failure. */
+    /** The replies of one operation at many keys, in the caller's order, and the first failure. */
     static final class Result {
         final List<Call> calls;
         /** What the loader or the writer threw first, or null. */
         final Throwable cause;
+        private final String cacheName;
 
-        Result(List<Call> calls, Throwable cause) {
+        Result(List<Call> calls, Throwable cause, String cacheName) {
             this.calls = calls;
             this.cause = cause;
+            this.cacheName = cacheName;
+        }
+
+        /** The end of a message: the keys that have failed. */
+        String where() {
+            return Texts.at(cacheName, calls.stream().filter(Call::hasFailed).collect(Collectors.toList()));
         }
     }
 
-    /** Makes one operation at each of these keys, with a value or null for each. */
+    /** Makes one operation at each of these keys, in their order, with a value or null for each. */
     static <K, V> Result run(CacheContext<K, V> context, int op, Collection<? extends K> keys, Function<K, V> valueOf) {
         List<Call> calls = new ArrayList<>(keys.size());
         for (K key : new LinkedHashSet<>(keys)) {
             V value = valueOf.apply(key);
-            calls.add(new Call(op, context.copier.lookup(key), value, context.copier.in(value), null));
+            calls.add(new Call(op, context.copier.lookup(key), value, context.valueIn(key, value), null));
         }
         Throwable[] thrown = new Throwable[1];
         BulkCalls bulk = new BulkCalls(context, calls, asked -> {
@@ -215,7 +231,7 @@ final class BulkCalls {
             }
             throw e;
         }
-        return new Result(bulk.done, bulk.failure(thrown[0]));
+        return new Result(calls, bulk.failure(thrown[0]), context.cache.getName());
     }
 
     /** The first failure: what the loader or the writer threw, if it isn't null, or of a call that is done; or null. */

@@ -16,7 +16,7 @@ final class ByteDesk extends KeyedDesk {
 
     /** A stripe over a desk; the recorder keeps its events, if it isn't null. */
     ByteDesk(DeskOfBytes desk, Counts counts, Recorder recorder, ByteCopier copier, BooleanSupplier needsBefore) {
-        super(desk, counts, recorder);
+        super(desk, counts, recorder, false);
         this.desk = desk;
         this.copier = copier;
         this.needsBefore = needsBefore;
@@ -101,7 +101,7 @@ final class ByteDesk extends KeyedDesk {
     }
 
     @Override
-    List<Object> keys() {
+    List<Object> keys(boolean withAbsent) {
         return desk.keys().stream().map(copier::keyOf).collect(Collectors.toList());
     }
 

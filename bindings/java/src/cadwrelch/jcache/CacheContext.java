@@ -2,10 +2,10 @@ package cadwrelch.jcache;
 
 import java.util.Collection;
 import java.util.concurrent.locks.ReentrantLock;
+import java.util.function.Consumer;
 import javax.cache.Cache;
-import javax.cache.CacheManager;
+import javax.cache.CacheException;
 import javax.cache.configuration.CacheEntryListenerConfiguration;
-import javax.cache.configuration.CompleteConfiguration;
 import javax.cache.configuration.Factory;
 import javax.cache.event.CacheEntryListenerException;
 import javax.cache.expiry.EternalExpiryPolicy;
@@ -16,26 +16,29 @@ final class CacheContext<K, V> {
     final Cache<K, V> cache;
     final Copier copier;
     final Outside<K, V> outside;
-    /** Null if no entry expires. */
+    /** Null if no entry expires or ages. */
     final Expiry expiry;
+    /** Null if no entry ages. */
+    private final Refresher refresher;
     final Listeners<K, V> listeners;
     volatile boolean hasStatistics;
     private final Stripe[] stripes;
 
     /**
      * Makes the parts of a cache: its factories are called, and its stripes opened. The cache need only know its name
-     * and its manager yet. If that fails, what the cache was given is closed.
+     * and its manager yet, and loads a key again when it is told. If that fails, what the cache was given is closed.
      */
-    CacheContext(Cache<K, V> cache, CompleteConfiguration<K, V> configuration, Settings settings) {
+    CacheContext(Cache<K, V> cache, CadwrelchConfiguration<K, V> configuration, Settings settings,
+            Consumer<Object> reload) {
         this.cache = cache;
-        Factory<ExpiryPolicy> policies = configuration.getExpiryPolicyFactory();
-        ExpiryPolicy policy = policies == null ? null : policies.create();
-        expiry = policy == null || policy instanceof EternalExpiryPolicy ? null : new Expiry(policy);
+        expiry = expiry(configuration, settings);
         copier = copier(configuration, settings);
         hasStatistics = configuration.isStatisticsEnabled();
         listeners = new Listeners<>(cache.getName());
+        boolean ages = settings.refreshAfter != 0 && configuration.getCacheLoaderFactory() != null;
+        refresher = ages ? new Refresher(cache.getName(), configuration.executor, reload) : null;
         try {
-            outside = new Outside<>(configuration, copier);
+            outside = new Outside<>(configuration, this, settings.absentFor != 0);
             configuration.getCacheEntryListenerConfigurations().forEach(this::addListener);
             stripes = openStripes(settings);
         } catch (RuntimeException | Error e) {
@@ -44,11 +47,18 @@ final class CacheContext<K, V> {
         }
     }
 
+    private static Expiry expiry(CadwrelchConfiguration<?, ?> configuration, Settings settings) {
+        Factory<ExpiryPolicy> policies = configuration.getExpiryPolicyFactory();
+        ExpiryPolicy policy = policies == null ? null : policies.create();
+        policy = policy instanceof EternalExpiryPolicy ? null : policy;
+        boolean isTimeless = policy == null && settings.refreshAfter == 0 && settings.absentFor == 0;
+        return isTimeless ? null : new Expiry(policy, settings, configuration.clock);
+    }
+
     /** Keeps bytes, if the settings say so, the types have bytes, and no entry expires; else objects. */
-    private Copier copier(CompleteConfiguration<K, V> configuration, Settings settings) {
+    private Copier copier(CadwrelchConfiguration<K, V> configuration, Settings settings) {
         ByteCopier bytes = settings.bytes && expiry == null ? ByteCopier.of(configuration) : null;
-        CacheManager manager = cache.getCacheManager();
-        return bytes != null ? bytes : new ObjectCopier(configuration.isStoreByValue(), manager::getClassLoader);
+        return bytes != null ? bytes : ObjectCopier.of(configuration, settings, cache.getCacheManager());
     }
 
     /** Opens all stripes, or none. */
@@ -56,7 +66,7 @@ final class CacheContext<K, V> {
         Stripe[] opened = new Stripe[settings.stripes];
         try {
             for (int i = 0; i < opened.length; i++) {
-                opened[i] = new Stripe(this, settings, Recorder.open(cache.getName(), i, settings, copier));
+                opened[i] = new Stripe(this, settings, i, Recorder.open(cache.getName(), i, settings, copier));
             }
         } catch (RuntimeException | Error e) {
             for (Stripe stripe : opened) {
@@ -69,13 +79,21 @@ final class CacheContext<K, V> {
         return opened;
     }
 
-    /** Opens the core's stripe behind a stripe's lock. */
-    KeyedDesk openDesk(ReentrantLock lock, Settings settings, Counts counts, Recorder recorder) {
-        if (copier instanceof ByteCopier) {
-            DeskOfBytes desk = new DeskOfBytes(lock, new Desk.Shape(settings, outside, true));
-            return new ByteDesk(desk, counts, recorder, (ByteCopier) copier, () -> hasStatistics || hasListeners());
+    /** Opens the core's stripe of an index, behind the lock of that stripe. */
+    KeyedDesk openDesk(ReentrantLock lock, Settings settings, int index, Counts counts, Recorder recorder) {
+        Desk.Shape shape = new Desk.Shape(settings, index, outside, copier instanceof ByteCopier);
+        if (shape.hasBytes) {
+            return new ByteDesk(new DeskOfBytes(lock, shape), counts, recorder, (ByteCopier) copier,
+                    () -> hasStatistics || hasListeners());
         }
-        return new ObjectDesk(new Desk(lock, new Desk.Shape(settings, outside, false)), counts, recorder);
+        return new ObjectDesk(new Desk(lock, shape), counts, recorder, settings.refreshAfter != 0);
+    }
+
+    /** Has an entry loaded again that is old, in the background. No lock is held. */
+    void refresh(Object key) {
+        if (refresher != null) {
+            refresher.later(key);
+        }
     }
 
     /** The stripe of a key with this hash. */
@@ -87,10 +105,32 @@ final class CacheContext<K, V> {
         return stripes;
     }
 
+    /** What is kept of a value that comes with a key. */
+    Object valueIn(Object key, Object value) {
+        try {
+            return copier.in(value);
+        } catch (CacheException e) {
+            throw Faults.ofCopy(e, Texts.at(cache.getName(), key));
+        }
+    }
+
+    /** Copies a key that is to be kept. */
+    void copyKey(KeyLookup sought) {
+        try {
+            sought.copy(copier);
+        } catch (CacheException e) {
+            throw Faults.ofCopy(e, Texts.at(cache.getName(), sought.key));
+        }
+    }
+
     /** What is handed out of a value that is kept. */
     @SuppressWarnings("unchecked")
     V valueOut(Object stored) {
-        return (V) copier.out(stored);
+        try {
+            return (V) copier.out(stored);
+        } catch (CacheException e) {
+            throw Faults.ofCopy(e, " (cache " + cache.getName() + ")");
+        }
     }
 
     /** What is handed out of a key that is kept. */
@@ -149,6 +189,9 @@ final class CacheContext<K, V> {
     private void closeGiven() {
         if (outside != null) {
             outside.close();
+        }
+        if (refresher != null) {
+            refresher.close();
         }
         if (expiry != null) {
             expiry.close();

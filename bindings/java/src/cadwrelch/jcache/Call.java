@@ -4,6 +4,7 @@ import java.util.ArrayList;
 import java.util.List;
 import java.util.concurrent.locks.Condition;
 import java.util.concurrent.locks.Lock;
+import java.util.function.BooleanSupplier;
 
 /**
  * One call at one key, from its first phase to its end. One thread has it. Under the lock of its stripe others read who
@@ -66,6 +67,10 @@ final class Call {
     /** What the expiry policy is to be asked for the entry after the step, and the entry's version then. */
     Expiry.Due due = Expiry.Due.NOTHING;
     long dueVersion;
+    /** Whether what it has found is to be loaded again. */
+    boolean isStale;
+    /** What its stripe had seen when that had no room for it. */
+    long departuresSeen;
 
     /** Whether it has given its reservation back. Its waiters are signalled then. */
     private volatile boolean isOver;
@@ -90,6 +95,11 @@ final class Call {
         return lookup.key;
     }
 
+    /** The end of a message about it: its key and its cache. */
+    String where() {
+        return Texts.at(stripe.cacheName(), key());
+    }
+
     boolean isDone() {
         return next == Native.DONE;
     }
@@ -112,13 +122,33 @@ final class Call {
 
     /** Whether the entry has to be compared with the expected value before the first phase. */
     boolean hasToCompare(Node at) {
-        return expected != null && at.isCached() && comparedVersion != at.version;
+        return expected != null && at.isCached() && !at.isAbsent() && comparedVersion != at.version;
     }
 
     /** Compares the expected value with what is cached. Called with no lock held. */
     void compare(Copier copier, Object cached, long cachedVersion) {
         isAsExpected = copier.out(cached).equals(expected);
         comparedVersion = cachedVersion;
+    }
+
+    /** Whether it only looks at its entry, so that it may find one that is known to be absent. */
+    boolean isLook() {
+        return op == Native.GET || op == Native.CONTAINS_KEY;
+    }
+
+    /** What is known to be absent is nothing to all who have called. */
+    void hideAbsent() {
+        if (before == Node.ABSENT) {
+            before = null;
+            reply = op == Native.CONTAINS_KEY ? Native.NO : reply;
+        }
+        if (after == Node.ABSENT) {
+            after = null;
+            hasChanged = false;
+        }
+        if (answer == Node.ABSENT) {
+            answer = null;
+        }
     }
 
     /** Whether it has a processor that set a value. */
@@ -169,12 +199,23 @@ final class Call {
 
     // With the lock of the stripe held.
 
-    /** Sleeps until the call is over, or for no reason. */
-    void sleep(Lock lock) {
-        if (waiters == null) {
-            waiters = lock.newCondition();
+    /**
+     * Sleeps until this call is over, or that is of no use any more, for a call of this thread.
+     *
+     * @throws WouldWait if this call's thread waits for this one, or is it
+     */
+    void awaitEnd(Lock lock, Call own, BooleanSupplier isUseless) {
+        Waits.enter(this, own);
+        try {
+            while (!isOver && !isUseless.getAsBoolean()) {
+                if (waiters == null) {
+                    waiters = lock.newCondition();
+                }
+                waiters.awaitUninterruptibly();
+            }
+        } finally {
+            Waits.leave();
         }
-        waiters.awaitUninterruptibly();
     }
 
     /** Wakes those who wait for the call. */

@@ -1,5 +1,6 @@
 package cadwrelch.jcache;
 
+import java.lang.reflect.Modifier;
 import java.math.BigDecimal;
 import java.math.BigInteger;
 import java.util.Set;
@@ -16,6 +17,11 @@ abstract class Copier {
         Class<?> type = it.getClass();
         return type == String.class || type == Integer.class || type == Long.class || IMMUTABLE.contains(type)
                 || it instanceof Enum;
+    }
+
+    /** Whether all objects that are declared of this type are {@linkplain #isPlain plain}. */
+    static boolean isPlainType(Class<?> type) {
+        return IMMUTABLE.contains(type) && Modifier.isFinal(type.getModifiers()) || type.isEnum();
     }
 
     /** What is kept of a value; null of null. */

@@ -14,6 +14,7 @@ final class Counts {
     long puts;
     long removals;
     long evictions;
+    long expirations;
     final Timer gets = new Timer();
     final Timer putTimes = new Timer();
     final Timer removeTimes = new Timer();
@@ -44,9 +45,13 @@ final class Counts {
         return call < FIRST_CALLS || call % CALLS_A_TIMED_ONE == 0 ? System.nanoTime() | 1 : 0;
     }
 
-    /** A get has found its entry; when it began, if it was timed, else 0. */
-    void hit(long began) {
-        hits++;
+    /** A get has found its entry, or that there is none; when it began, if it was timed, else 0. */
+    void hit(long began, boolean isThere) {
+        if (isThere) {
+            hits++;
+        } else {
+            misses++;
+        }
         if (began != 0) {
             gets.add(System.nanoTime() - began);
         }
@@ -147,6 +152,7 @@ final class Counts {
         puts = 0;
         removals = 0;
         evictions = 0;
+        expirations = 0;
         gets.clear();
         putTimes.clear();
         removeTimes.clear();

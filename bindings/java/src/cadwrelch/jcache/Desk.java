@@ -44,8 +44,9 @@ class Desk {
         final boolean keepsEvents;
         final boolean hasBytes;
 
-        Shape(Settings settings, Outside<?, ?> outside, boolean hasBytes) {
-            capacity = settings.capacity;
+        /** That of a stripe of a cache, by its index. */
+        Shape(Settings settings, int stripe, Outside<?, ?> outside, boolean hasBytes) {
+            capacity = settings.capacityOf(stripe);
             history = settings.history;
             readsThrough = outside.readsThrough();
             writesThrough = outside.writesThrough();

@@ -42,7 +42,7 @@ final class EntryIterator<K, V> implements Iterator<Cache.Entry<K, V>> {
             if (nextStripe == context.stripes().length) {
                 return null;
             }
-            keys = context.stripes()[nextStripe++].keys().iterator();
+            keys = context.stripes()[nextStripe++].keys(false).iterator();
         }
     }
 
@@ -78,7 +78,7 @@ final class EntryIterator<K, V> implements Iterator<Cache.Entry<K, V>> {
 
     private void checkOpen() {
         if (context.cache.isClosed()) {
-            throw new IllegalStateException("the cache is closed");
+            throw new IllegalStateException("the cache " + context.cache.getName() + " is closed");
         }
     }
 }

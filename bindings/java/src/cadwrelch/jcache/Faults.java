@@ -1,12 +1,13 @@
 package cadwrelch.jcache;
 
+import javax.cache.CacheException;
 import javax.cache.integration.CacheLoaderException;
 import javax.cache.integration.CacheWriterException;
 import javax.cache.processor.EntryProcessorException;
 
 /**
  * What a caller gets for what a loader, a writer or a processor threw: the standard's exceptions as they are, others as
- * their causes.
+ * their causes. {@code where} is the end of the message, which names the keys and the cache.
  */
 final class Faults {
     private Faults() {
@@ -20,33 +21,43 @@ final class Faults {
     }
 
     /** What a caller gets for what a loader threw; an error is thrown here. */
-    static CacheLoaderException ofLoader(Throwable cause) {
+    static CacheLoaderException ofLoader(Throwable cause, String where) {
         throwError(cause);
+        return ofBackground(cause, where);
+    }
+
+    /** The same for whom nobody can throw an error at. */
+    static CacheLoaderException ofBackground(Throwable cause, String where) {
         return cause instanceof CacheLoaderException ? (CacheLoaderException) cause
-                : new CacheLoaderException("the loader failed", cause);
+                : new CacheLoaderException("the loader failed" + where, cause);
     }
 
     /** The same of a writer. */
-    static CacheWriterException ofWriter(Throwable cause) {
+    static CacheWriterException ofWriter(Throwable cause, String where) {
         throwError(cause);
         return cause instanceof CacheWriterException ? (CacheWriterException) cause
-                : new CacheWriterException("the writer failed", cause);
+                : new CacheWriterException("the writer failed" + where, cause);
     }
 
     /** The same of a processor. */
-    static EntryProcessorException ofProcessor(Throwable cause) {
+    static EntryProcessorException ofProcessor(Throwable cause, String where) {
         throwError(cause);
         return cause instanceof EntryProcessorException ? (EntryProcessorException) cause
-                : new EntryProcessorException(cause);
+                : new EntryProcessorException("the processor failed" + where, cause);
+    }
+
+    /** What a caller gets if a copy of a value can't be made. */
+    static CacheException ofCopy(CacheException cause, String where) {
+        return new CacheException(cause.getMessage() + where, cause.getCause());
     }
 
     /** Throws what a call of one key ended in, if its loader or its writer failed. */
     static void throwFailureOf(Call call) {
         if (call.reply == Native.LOADER_FAILED) {
-            throw ofLoader(call.cause);
+            throw ofLoader(call.cause, call.where());
         }
         if (call.reply == Native.WRITER_FAILED) {
-            throw ofWriter(call.cause);
+            throw ofWriter(call.cause, call.where());
         }
     }
 }

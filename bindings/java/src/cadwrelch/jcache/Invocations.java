@@ -1,8 +1,8 @@
 package cadwrelch.jcache;
 
 import java.util.ArrayList;
-import java.util.HashMap;
 import java.util.IdentityHashMap;
+import java.util.LinkedHashMap;
 import java.util.LinkedHashSet;
 import java.util.List;
 import java.util.Map;
@@ -47,17 +47,17 @@ final class Invocations<K, V> {
             case Native.LOADER_FAILED:
                 throw ofLoad(call);
             case Native.WRITER_FAILED:
-                throw Faults.ofWriter(call.cause);
+                throw Faults.ofWriter(call.cause, call.where());
             case Native.PROCESSOR_FAILED:
-                throw Faults.ofProcessor(call.fault);
+                throw Faults.ofProcessor(call.fault, call.where());
             default:
         }
     }
 
     /** A failed load is what the processor threw then, or, if it threw nothing, the load's own failure. */
     private static EntryProcessorException ofLoad(Call call) {
-        return call.fault != null ? Faults.ofProcessor(call.fault)
-                : new EntryProcessorException(Faults.ofLoader(call.cause));
+        return call.fault != null ? Faults.ofProcessor(call.fault, call.where())
+                : new EntryProcessorException(Faults.ofLoader(call.cause, call.where()));
     }
 
     /**
@@ -76,8 +76,9 @@ final class Invocations<K, V> {
             }
             write(asked);
         });
-        Map<K, EntryProcessorResult<T>> answers = new HashMap<>();
-        for (Call call : bulk.run()) {
+        bulk.run();
+        Map<K, EntryProcessorResult<T>> answers = new LinkedHashMap<>();
+        for (Call call : calls) {
             EntryProcessorResult<T> answer = answer(call, results.get(call));
             if (answer != null) {
                 @SuppressWarnings("unchecked")
@@ -109,7 +110,7 @@ final class Invocations<K, V> {
         try {
             throwFailureOf(call);
         } catch (RuntimeException e) {
-            EntryProcessorException fault = Faults.ofProcessor(e);
+            EntryProcessorException fault = Faults.ofProcessor(e, call.where());
             return () -> {
                 throw fault;
             };

@@ -2,17 +2,17 @@ package cadwrelch.jcache;
 
 import java.util.ArrayList;
 import java.util.Collection;
-import java.util.HashMap;
 import java.util.Iterator;
+import java.util.LinkedHashMap;
 import java.util.List;
 import java.util.Map;
 import java.util.Objects;
 import java.util.Set;
+import java.util.function.Consumer;
 import javax.cache.Cache;
 import javax.cache.CacheManager;
 import javax.cache.configuration.CacheEntryListenerConfiguration;
 import javax.cache.configuration.Configuration;
-import javax.cache.configuration.MutableConfiguration;
 import javax.cache.integration.CompletionListener;
 import javax.cache.processor.EntryProcessor;
 import javax.cache.processor.EntryProcessorResult;
@@ -23,11 +23,12 @@ import javax.cache.processor.EntryProcessorResult;
  */
 final class JcacheCache<K, V> implements Cache<K, V> {
     /**
-     * So many keys of {@link #removeAll()} are removed by one call of many keys, and up to those of one stripe more.
+     * So many keys of {@link #removeAll()} and {@link #clear} are taken out by one call of many keys, and up to those
+     * of one stripe more.
      */
     private static final int KEYS_AT_ONCE = 1 << 16;
 
-    final MutableConfiguration<K, V> configuration;
+    final CadwrelchConfiguration<K, V> configuration;
     private final JcacheManager manager;
     private final String name;
     private final CacheContext<K, V> context;
@@ -42,12 +43,12 @@ final class JcacheCache<K, V> implements Cache<K, V> {
      * @throws javax.cache.CacheException if its record can't be written
      * @throws OutOfMemoryError if the core's memory can't be allocated
      */
-    JcacheCache(JcacheManager manager, String name, MutableConfiguration<K, V> configuration, Settings settings) {
+    JcacheCache(JcacheManager manager, String name, CadwrelchConfiguration<K, V> configuration, Settings settings) {
         this.manager = manager;
         this.name = name;
         this.configuration = configuration;
         checksTypes = configuration.getKeyType() != Object.class || configuration.getValueType() != Object.class;
-        context = new CacheContext<>(this, configuration, settings);
+        context = new CacheContext<>(this, configuration, settings, this::reload);
         invocations = new Invocations<>(context, configuration.getValueType());
         loads = new BackgroundLoads<>(context, name);
     }
@@ -72,6 +73,16 @@ final class JcacheCache<K, V> implements Cache<K, V> {
         }
     }
 
+    private void checkOpenAndKey(K key) {
+        checkOpen();
+        checkKey(key);
+    }
+
+    private void checkAll(K key, V value) {
+        checkOpenAndKey(key);
+        checkValue(value);
+    }
+
     private void checkKeys(Set<? extends K> keys) {
         checkOpen();
         Objects.requireNonNull(keys, "keys");
@@ -80,12 +91,10 @@ final class JcacheCache<K, V> implements Cache<K, V> {
 
     // Calls of one key.
 
-    /** A whole call: its phases, and whom they ask between. */
+    /** A whole call, whose arguments are checked: its phases, and whom they ask between. */
     private Call call(int op, K key, V value, V expected) {
-        checkOpen();
-        checkKey(key);
         Copier copier = context.copier;
-        Call call = new Call(op, copier.lookup(key), value, copier.in(value), copier.expected(expected));
+        Call call = new Call(op, copier.lookup(key), value, context.valueIn(key, value), copier.expected(expected));
         Stripe stripe = context.stripeOf(call.lookup.hash);
         do {
             stripe.begin(call, true);
@@ -118,7 +127,18 @@ final class JcacheCache<K, V> implements Cache<K, V> {
     /** What is kept of a key's value: a get. Null: it has none. */
     private Object stored(K key) {
         Object stored = hit(key);
-        return stored != null ? stored : call(Native.GET, key, null, null).answer;
+        if (stored != null) {
+            return stored == Node.ABSENT ? null : stored;
+        }
+        return call(Native.GET, key, null, null).answer;
+    }
+
+    /** Loads an entry again, unless the cache is closed. */
+    @SuppressWarnings("unchecked")
+    private void reload(Object key) {
+        if (!isClosed) {
+            call(Native.RELOAD, (K) context.copier.key(key), null, null);
+        }
     }
 
     private Object hit(K key) {
@@ -128,73 +148,74 @@ final class JcacheCache<K, V> implements Cache<K, V> {
 
     @Override
     public V get(K key) {
-        checkOpen();
-        checkKey(key);
+        checkOpenAndKey(key);
         return context.valueOut(stored(key));
     }
 
     @Override
     public boolean containsKey(K key) {
+        checkOpenAndKey(key);
         return call(Native.CONTAINS_KEY, key, null, null).isYes();
     }
 
     @Override
     public void put(K key, V value) {
-        checkValue(value);
+        checkAll(key, value);
         call(Native.PUT, key, value, null);
     }
 
     @Override
     public V getAndPut(K key, V value) {
-        checkValue(value);
+        checkAll(key, value);
         return context.valueOut(call(Native.GET_AND_PUT, key, value, null).answer);
     }
 
     @Override
     public boolean putIfAbsent(K key, V value) {
-        checkValue(value);
+        checkAll(key, value);
         return call(Native.PUT_IF_ABSENT, key, value, null).isYes();
     }
 
     @Override
     public boolean remove(K key) {
+        checkOpenAndKey(key);
         return call(Native.REMOVE, key, null, null).isYes();
     }
 
     @Override
     public boolean remove(K key, V oldValue) {
-        checkValue(oldValue);
+        checkAll(key, oldValue);
         return call(Native.REMOVE_IF, key, null, oldValue).isYes();
     }
 
     @Override
     public V getAndRemove(K key) {
+        checkOpenAndKey(key);
         return context.valueOut(call(Native.GET_AND_REMOVE, key, null, null).answer);
     }
 
     @Override
     public boolean replace(K key, V oldValue, V newValue) {
-        checkValue(oldValue);
+        checkAll(key, oldValue);
         checkValue(newValue);
         return call(Native.REPLACE_IF, key, newValue, oldValue).isYes();
     }
 
     @Override
     public boolean replace(K key, V value) {
-        checkValue(value);
+        checkAll(key, value);
         return call(Native.REPLACE, key, value, null).isYes();
     }
 
     @Override
     public V getAndReplace(K key, V value) {
-        checkValue(value);
+        checkAll(key, value);
         return context.valueOut(call(Native.GET_AND_REPLACE, key, value, null).answer);
     }
 
     @Override
     public <T> T invoke(K key, EntryProcessor<K, V, T> entryProcessor, Object... arguments) {
-        checkOpen();
-        checkKey(key);
+        checkOpenAndKey(key);
         Objects.requireNonNull(entryProcessor, "entryProcessor");
         return invocations.invoke(key, entryProcessor, arguments);
     }
@@ -206,9 +227,9 @@ final class JcacheCache<K, V> implements Cache<K, V> {
         checkKeys(keys);
         BulkCalls.Result result = BulkCalls.run(context, Native.GET, keys, key -> null);
         if (result.cause != null) {
-            throw Faults.ofLoader(result.cause);
+            throw Faults.ofLoader(result.cause, result.where());
         }
-        Map<K, V> found = new HashMap<>();
+        Map<K, V> found = new LinkedHashMap<>();
         for (Call call : result.calls) {
             if (call.answer != null) {
                 found.put(keyOf(call), context.valueOut(call.answer));
@@ -226,7 +247,7 @@ final class JcacheCache<K, V> implements Cache<K, V> {
     public void putAll(Map<? extends K, ? extends V> map) {
         checkOpen();
         Objects.requireNonNull(map, "map");
-        Map<K, V> values = new HashMap<>(map);
+        Map<K, V> values = new LinkedHashMap<>(map);
         values.forEach((key, value) -> {
             checkKey(key);
             checkValue(value);
@@ -246,22 +267,14 @@ final class JcacheCache<K, V> implements Cache<K, V> {
 
     private static void throwWriterFailure(BulkCalls.Result result) {
         if (result.cause != null) {
-            throw Faults.ofWriter(result.cause);
+            throw Faults.ofWriter(result.cause, result.where());
         }
     }
 
     @Override
     public void removeAll() {
         checkOpen();
-        List<K> keys = new ArrayList<>();
-        for (Stripe stripe : context.stripes()) {
-            stripe.keys().forEach(key -> keys.add(context.keyOut(key)));
-            if (keys.size() >= KEYS_AT_ONCE) {
-                removeEach(keys);
-                keys.clear();
-            }
-        }
-        removeEach(keys);
+        takeOut(false, this::removeEach);
     }
 
     /**
@@ -271,12 +284,20 @@ final class JcacheCache<K, V> implements Cache<K, V> {
     @Override
     public void clear() {
         checkOpen();
+        takeOut(true, keys -> BulkCalls.run(context, Native.CLEAR, keys, key -> null));
+    }
+
+    /** Takes all keys out that are cached, some stripes' at a time. */
+    private void takeOut(boolean withAbsent, Consumer<List<K>> by) {
+        List<K> keys = new ArrayList<>();
         for (Stripe stripe : context.stripes()) {
-            for (Object key : stripe.keys()) {
-                stripe.begin(new Call(Native.CLEAR, context.copier.lookup(key)), true);
+            stripe.keys(withAbsent).forEach(key -> keys.add(context.keyOut(key)));
+            if (keys.size() >= KEYS_AT_ONCE) {
+                by.accept(keys);
+                keys.clear();
             }
-            context.tellListeners(stripe);
         }
+        by.accept(keys);
     }
 
     @Override
@@ -389,6 +410,10 @@ final class JcacheCache<K, V> implements Cache<K, V> {
     void setStatistics(boolean isOn) {
         configuration.setStatisticsEnabled(isOn);
         context.hasStatistics = isOn;
+    }
+
+    LoaderCounts loaderCounts() {
+        return context.outside.loaderCounts;
     }
 
     /** The stripes: what statistics and tests read. */

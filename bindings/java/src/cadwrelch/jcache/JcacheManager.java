@@ -16,7 +16,6 @@ import javax.cache.CacheException;
 import javax.cache.CacheManager;
 import javax.cache.configuration.CompleteConfiguration;
 import javax.cache.configuration.Configuration;
-import javax.cache.configuration.MutableConfiguration;
 import javax.cache.spi.CachingProvider;
 
 /**
@@ -28,13 +27,16 @@ final class JcacheManager implements CacheManager {
     /** A provider keeps managers as long as their class loaders live, so a manager keeps none alive. */
     private final WeakReference<ClassLoader> loader;
     private final Properties properties;
-    private final Settings settings;
+    /** The provider's own of them, as they were when the manager was made. */
+    private final Map<String, String> own;
     /**
      * The caches by their names, and the names of caches that are being made. This map guards both, and {@link
      * #isClosed}.
      */
     private final Map<String, JcacheCache<?, ?>> caches = new LinkedHashMap<>();
     private final Set<String> names = new HashSet<>();
+    /** The caches that have properties of their own, and were never made. */
+    private final Set<String> unmade;
     private boolean isClosed;
 
     /**
@@ -47,7 +49,8 @@ final class JcacheManager implements CacheManager {
         this.uri = uri;
         this.loader = new WeakReference<>(loader);
         this.properties = properties;
-        settings = new Settings(properties);
+        own = Settings.of(properties);
+        unmade = Settings.cacheNames(own);
     }
 
     private void checkOpen() {
@@ -82,7 +85,9 @@ final class JcacheManager implements CacheManager {
      * Makes a cache.
      *
      * @throws UnsupportedOperationException if there is no native library for this platform
-     * @throws CacheException if there is a cache of this name, or its native library or its record can't be opened
+     * @throws CacheException if there is a cache of this name, if what its configuration and its properties say doesn't
+     *     go together, or if its native library or its record can't be opened
+     * @throws IllegalArgumentException if read-through or write-through is on without a factory
      * @throws OutOfMemoryError if the memory of the core can't be allocated
      */
     @Override
@@ -90,12 +95,13 @@ final class JcacheManager implements CacheManager {
         checkOpen();
         Objects.requireNonNull(cacheName, "cacheName");
         Objects.requireNonNull(configuration, "configuration");
-        MutableConfiguration<K, V> own = copyOf(configuration);
-        NativeLibrary.require(settings.library);
+        CadwrelchConfiguration<K, V> copy = copyOf(configuration);
+        Settings settings = new Settings(own, cacheName, copy);
+        NativeLibrary.require(Settings.library(own));
         reserve(cacheName);
         JcacheCache<K, V> cache;
         try {
-            cache = new JcacheCache<>(this, cacheName, own, settings);
+            cache = new JcacheCache<>(this, cacheName, copy, settings);
         } catch (RuntimeException | Error e) {
             release(cacheName);
             throw e;
@@ -104,17 +110,19 @@ final class JcacheManager implements CacheManager {
             cache.close();
             checkOpen();
         }
-        Management.showStatistics(cache, own.isStatisticsEnabled());
-        Management.showConfiguration(cache, own.isManagementEnabled());
+        Management.showStatistics(cache, copy.isStatisticsEnabled());
+        Management.showConfiguration(cache, copy.isManagementEnabled());
         return cache;
     }
 
-    private static <K, V> MutableConfiguration<K, V> copyOf(Configuration<K, V> configuration) {
-        MutableConfiguration<K, V> own;
-        if (configuration instanceof CompleteConfiguration) {
-            own = new MutableConfiguration<>((CompleteConfiguration<K, V>) configuration);
+    private static <K, V> CadwrelchConfiguration<K, V> copyOf(Configuration<K, V> configuration) {
+        CadwrelchConfiguration<K, V> own;
+        if (configuration instanceof CadwrelchConfiguration) {
+            own = new CadwrelchConfiguration<>((CadwrelchConfiguration<K, V>) configuration);
+        } else if (configuration instanceof CompleteConfiguration) {
+            own = new CadwrelchConfiguration<>((CompleteConfiguration<K, V>) configuration);
         } else {
-            own = new MutableConfiguration<>();
+            own = new CadwrelchConfiguration<>();
             own.setTypes(configuration.getKeyType(), configuration.getValueType());
             own.setStoreByValue(configuration.isStoreByValue());
         }
@@ -147,6 +155,7 @@ final class JcacheManager implements CacheManager {
         synchronized (caches) {
             if (!isClosed) {
                 caches.put(cache.getName(), cache);
+                unmade.remove(cache.getName());
             }
             return !isClosed;
         }
@@ -245,6 +254,8 @@ final class JcacheManager implements CacheManager {
         }
         provider.closed(this);
         all.forEach(cache -> Closing.quietly(cache));
+        unmade.forEach(name -> Log.warning("there are properties " + "cadwrelch." + name
+                + ".*, and no cache " + name + " was made", null));
     }
 
     @Override

@@ -16,17 +16,24 @@ import javax.cache.spi.CachingProvider;
  * A provider of {@code javax.cache} whose caches are stripes of a proved core (JSR 107, "CachingProviders"). Everything
  * above the core is ordinary Java, judged by tests.
  *
- * <p>A manager's properties say how its caches are made; a system property of the same name is the default of each:
+ * <p>A manager's properties say how its caches are made; a system property of the same name is the default of each.
+ * {@code cadwrelch.NAME.capacity}, and so on, is of the cache NAME alone, and comes first; before all of them comes what
+ * a {@link CadwrelchConfiguration} sets.
  *
- * <ul> <li>{@code cadwrelch.stripes}, 1 to 4,096, by default 16: calls at keys of different stripes share no
- * lock; <li>{@code cadwrelch.capacity}, 1 to 4,096, by default 4,096: the entries that a stripe has room for;
- * <li>{@code cadwrelch.history}, 16 to 65,536, by default 260: the events that a stripe's history has room for. A
- * call under way needs three, and one that has joined a load one: 260 are enough for as many as there can be;
- * <li>{@code cadwrelch.bytes}, true or false, by default false: whether the core has the bytes of keys and
- * values, in caches whose entries don't expire and whose types are of String, Integer, Long and UUID. Then a key has 1
- * to 32 bytes, and a value 0 to 256; <li>{@code cadwrelch.record}: the folder to which all events of the core are
- * written, for {@link Records}; <li>{@code cadwrelch.library}: the path of the native library, if it isn't to be
- * the jar's. The first cache of the virtual machine loads it. </ul>
+ * <ul> <li>{@code cadwrelch.capacity}, by default 65,536: the entries that a whole cache has room for, up to 4,096 for
+ * each stripe; <li>{@code cadwrelch.stripes}, 1 to 4,096, by default as many as the capacity wants, one for up to 511
+ * entries and 16 from 4,096 on: calls at keys of different stripes share no lock; <li>{@code cadwrelch.history}, 16 to
+ * 65,536, by default 260: the events that a stripe's history has room for. A call under way needs three, and one that
+ * has joined a load one: 260 are enough for as many as there can be; <li>{@code cadwrelch.refresh_after}, as {@code
+ * 30s}, a number and one of ms, s, m, h and d; by default never: the age at which a get has an entry loaded again, in
+ * the background; <li>{@code cadwrelch.absent_for}, such a time; by default none: for how long it is remembered that
+ * the loader has found nothing; <li>{@code cadwrelch.copier} and {@code cadwrelch.key_copier}, the names of public
+ * classes that are a {@link java.util.function.UnaryOperator}: what copies values and keys, in place of serialization;
+ * <li>{@code cadwrelch.bytes}, true or false, by default false: whether the core has the bytes of keys and values, in
+ * caches whose entries neither expire nor age and whose types are of String, Integer, Long and UUID. Then a key has 1 to
+ * 32 bytes, and a value 0 to 256; <li>{@code cadwrelch.record}: the folder to which all events of the core are written,
+ * for {@link Records}; <li>{@code cadwrelch.library}, of no single cache: the path of the native library, if it isn't
+ * to be the jar's. The first cache of the virtual machine loads it. </ul>
  */
 public final class JcacheProvider implements CachingProvider {
     private static final URI DEFAULT_URI = URI.create("cadwrelch:default");
@@ -44,7 +51,7 @@ public final class JcacheProvider implements CachingProvider {
      * @param uri its name; null: the default URI
      * @param classLoader the class loader of its caches' values; null: the provider's
      * @param properties its properties, if it is made; null: the default ones
-     * @throws CacheException if a property {@code cadwrelch.*} is unknown or out of its limits
+     * @throws CacheException if a property {@code cadwrelch.*}, also of the system, is unknown or out of its limits
      */
     @Override
     public synchronized CacheManager getCacheManager(URI uri, ClassLoader classLoader, Properties properties) {

@@ -12,12 +12,13 @@ abstract class KeyedDesk {
     private final Desk desk;
     /** What keeps the events; null if nothing does. */
     private final Recorder recorder;
-    private final NodeTable nodes = new NodeTable();
+    private final NodeTable nodes;
     private final Sessions sessions = new Sessions();
     private boolean isFreed;
 
-    /** A stripe over a desk; the recorder keeps its events, if it isn't null. */
-    KeyedDesk(Desk desk, Counts counts, Recorder recorder) {
+    /** A stripe over a desk, whose nodes age or don't; the recorder keeps its events, if it isn't null. */
+    KeyedDesk(Desk desk, Counts counts, Recorder recorder, boolean ages) {
+        nodes = new NodeTable(ages);
         this.desk = desk;
         this.counts = counts;
         this.recorder = recorder;
@@ -51,8 +52,8 @@ abstract class KeyedDesk {
     /** A step was made, and its reply is noted: notes what it left. */
     abstract void noteStep(Call call, int result);
 
-    /** The keys that are cached. */
-    abstract List<Object> keys();
+    /** The keys that are cached, with those that are known to be absent, or without. */
+    abstract List<Object> keys(boolean withAbsent);
 
     /**
      * For tests, while no call is under way: whether what is here is what the core has. How many entries there are.

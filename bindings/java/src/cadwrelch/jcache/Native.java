@@ -23,6 +23,7 @@ final class Native {
 
     /** Where a result has its reply. */
     static final int REPLY_SHIFT = 4;
+    static final int NO = 1;
     static final int YES = 2;
     static final int VALUE = 4;
     static final int LOADER_FAILED = 5;

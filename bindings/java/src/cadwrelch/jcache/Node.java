@@ -5,7 +5,10 @@ package cadwrelch.jcache;
  * and values, a key that calls have reserved or joined. A node is there as long as its key is cached so, reserved or
  * joined. The lock of its stripe guards all that changes.
  */
-final class Node {
+class Node {
+    /** What is cached at a key of which it is known that the loader finds nothing. The core takes it for a value. */
+    static final Object ABSENT = new Object();
+
     /** The key: a copy, if the cache keeps copies. */
     final Object key;
     /** The spread hash of the key. */
@@ -19,7 +22,7 @@ final class Node {
     Object stored;
     /** The number by which the core knows what is cached: never given twice by a stripe; 0 if nothing is cached. */
     long version;
-    /** When the entry expires, by {@link System#nanoTime}, if {@link #expires}. */
+    /** When the entry expires, by the cache's clock, if {@link #expires}. */
     long deadline;
     /** The call that has reserved the key, or null. */
     Call owner;
@@ -35,6 +38,16 @@ final class Node {
         this.id = id;
     }
 
+    /** A node of a cache that loads entries again when they are old. */
+    static final class Aging extends Node {
+        /** When that is, by the cache's clock. */
+        long staleAt;
+
+        Aging(Object key, int hash, long id) {
+            super(key, hash, id);
+        }
+    }
+
     /** Caches a value, or nothing: null with version 0. */
     void set(Object newStored, long newVersion) {
         stored = newStored;
@@ -44,6 +57,10 @@ final class Node {
 
     boolean isCached() {
         return version != 0;
+    }
+
+    boolean isAbsent() {
+        return stored == ABSENT;
     }
 
     /** Whether nobody needs the node. */

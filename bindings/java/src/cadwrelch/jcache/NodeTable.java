@@ -18,6 +18,8 @@ final class NodeTable {
     private static final int SLOTS_MAX = 1 << SLOT_BITS;
     private static final int SMALLEST = 16;
 
+    /** Whether its nodes are {@link Node.Aging}. */
+    private final boolean ages;
     /** The first node of each bucket; a power of two. */
     private Node[] buckets = new Node[SMALLEST];
     private Node[] slots = new Node[SMALLEST];
@@ -26,6 +28,10 @@ final class NodeTable {
     private int slotCount;
     /** How many numbers were given: 2^50 are enough for 35 years of a million new keys a second. */
     private long given;
+
+    NodeTable(boolean ages) {
+        this.ages = ages;
+    }
 
     /**
      * The node of a key, or of the first key of the same hash with which it has to be compared; null if there is
@@ -45,7 +51,8 @@ final class NodeTable {
             growBuckets();
         }
         int slot = nextSlot();
-        Node node = new Node(key, hash, ++given << SLOT_BITS | slot);
+        long id = ++given << SLOT_BITS | slot;
+        Node node = ages ? new Node.Aging(key, hash, id) : new Node(key, hash, id);
         // Nothing is allocated from here on.
         if (slot == slotCount) {
             slotCount++;
@@ -143,11 +150,11 @@ final class NodeTable {
         }
     }
 
-    /** The keys that are cached. */
-    List<Object> cachedKeys() {
+    /** The keys that are cached, with those that are known to be absent, or without. */
+    List<Object> cachedKeys(boolean withAbsent) {
         List<Object> keys = new ArrayList<>(size());
         forEach(node -> {
-            if (node.isCached()) {
+            if (node.isCached() && (withAbsent || !node.isAbsent())) {
                 keys.add(node.key);
             }
         });

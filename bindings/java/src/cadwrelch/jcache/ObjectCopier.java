@@ -1,28 +1,64 @@
 package cadwrelch.jcache;
 
-import java.io.ByteArrayInputStream;
-import java.io.ByteArrayOutputStream;
 import java.io.IOException;
-import java.io.InputStream;
-import java.io.ObjectInputStream;
-import java.io.ObjectOutputStream;
-import java.io.ObjectStreamClass;
-import java.lang.reflect.Proxy;
 import java.util.function.Supplier;
+import java.util.function.UnaryOperator;
 import javax.cache.CacheException;
+import javax.cache.CacheManager;
+import javax.cache.configuration.Factory;
 
 /**
- * Keeps objects (JSR 107, "Store-By-Value and Store-By-Reference"): the references, or copies that are made by
- * serialization, but for those of the platform's immutable types.
+ * Keeps objects (JSR 107, "Store-By-Value and Store-By-Reference"): the references, or copies, but for what is {@link
+ * Immutable}. Copies are made by serialization, or by what the user has given for that.
  */
 final class ObjectCopier extends Copier {
     private final boolean isByValue;
-    /** The class loader of the cache manager, by which values are read back. */
+    /** What copies values and keys; null: serialization does. */
+    private final UnaryOperator<Object> values;
+    private final UnaryOperator<Object> keys;
+    /** The class loader of the cache manager. */
     private final Supplier<ClassLoader> loader;
+    private final ValueStreams streams;
 
-    ObjectCopier(boolean isByValue, Supplier<ClassLoader> loader) {
+    /** Keeps references, or copies that are made so. */
+    ObjectCopier(boolean isByValue, UnaryOperator<Object> values, UnaryOperator<Object> keys,
+            Supplier<ClassLoader> loader) {
         this.isByValue = isByValue;
+        this.values = values;
+        this.keys = keys;
         this.loader = loader;
+        streams = new ValueStreams(loader);
+    }
+
+    /**
+     * What a configuration and the settings of a cache say.
+     *
+     * @throws CacheException if a class that is to copy can't be used, or a cache by reference is to copy
+     */
+    static ObjectCopier of(CadwrelchConfiguration<?, ?> configuration, Settings settings, CacheManager manager) {
+        UnaryOperator<Object> values = copier(configuration.copierFactory, settings.copier, manager);
+        UnaryOperator<Object> keys = copier(configuration.keyCopierFactory, settings.keyCopier, manager);
+        if (!configuration.isStoreByValue() && (values != null || keys != null)) {
+            throw new CacheException("a cache that stores by reference is given a copier: setStoreByValue(true) or none");
+        }
+        return new ObjectCopier(configuration.isStoreByValue(), values, keys, manager::getClassLoader);
+    }
+
+    @SuppressWarnings("unchecked")
+    private static UnaryOperator<Object> copier(Factory<?> factory, Settings.Option named, CacheManager manager) {
+        if (factory != null) {
+            return (UnaryOperator<Object>) factory.create();
+        }
+        if (named == null) {
+            return null;
+        }
+        try {
+            Class<?> type = Class.forName(named.text, true, manager.getClassLoader());
+            return (UnaryOperator<Object>) type.getConstructor().newInstance();
+        } catch (ReflectiveOperationException | LinkageError | ClassCastException e) {
+            throw named.refused("it has to be the name of a public class of the manager's class loader, with a"
+                    + " constructor without parameters, that is a java.util.function.UnaryOperator", e);
+        }
     }
 
     /** A value that was serialized. */
@@ -34,24 +70,46 @@ final class ObjectCopier extends Copier {
         }
     }
 
+    private boolean isKeptItself(Object it) {
+        return !isByValue || it == null || Immutable.is(it);
+    }
+
     /**
      * What is kept of a value.
      *
-     * @throws CacheException if it isn't serializable, and has to be
+     * @throws CacheException if it isn't serializable, and has to be; or if the user's copy of it is null
      */
     @Override
     Object in(Object value) {
-        return !isByValue || value == null || isPlain(value) ? value : new Serialized(serialized(value));
+        if (isKeptItself(value)) {
+            return value;
+        }
+        return values == null ? new Serialized(serialized(value)) : copy(value, values);
     }
 
     @Override
     Object out(Object stored) {
-        return stored instanceof Serialized ? read(((Serialized) stored).bytes) : stored;
+        if (stored instanceof Serialized) {
+            return read(((Serialized) stored).bytes);
+        }
+        return values == null || isKeptItself(stored) ? stored : copy(stored, values);
     }
 
     @Override
     Object key(Object key) {
-        return !isByValue || isPlain(key) ? key : read(serialized(key));
+        if (isKeptItself(key)) {
+            return key;
+        }
+        return keys == null ? read(serialized(key)) : copy(key, keys);
+    }
+
+    private static Object copy(Object it, UnaryOperator<Object> copier) {
+        Object copy = copier.apply(it);
+        if (copy == null) {
+            throw new CacheException("the copier " + copier.getClass().getName() + " answers null for a "
+                    + it.getClass().getName());
+        }
+        return copy;
     }
 
     @Override
@@ -64,53 +122,20 @@ final class ObjectCopier extends Copier {
         return new KeyLookup(key, KeyLookup.hash(key), null);
     }
 
-    private static byte[] serialized(Object it) {
-        ByteArrayOutputStream bytes = new ByteArrayOutputStream();
-        try (ObjectOutputStream out = new ObjectOutputStream(bytes)) {
-            out.writeObject(it);
+    private byte[] serialized(Object it) {
+        try {
+            return streams.write(it);
         } catch (IOException e) {
             throw new CacheException("a " + it.getClass().getName() + " can't be serialized", e);
         }
-        return bytes.toByteArray();
     }
 
     private Object read(byte[] bytes) {
-        try (ObjectInputStream in = new LoaderInputStream(new ByteArrayInputStream(bytes), loader.get())) {
-            return in.readObject();
+        try {
+            return streams.read(bytes);
         } catch (IOException | ClassNotFoundException e) {
-            throw new CacheException("what was serialized can't be read back", e);
-        }
-    }
-
-    /** Reads objects of the classes of a loader. */
-    private static final class LoaderInputStream extends ObjectInputStream {
-        private final ClassLoader loader;
-
-        LoaderInputStream(InputStream in, ClassLoader loader) throws IOException {
-            super(in);
-            this.loader = loader;
-        }
-
-        @Override
-        protected Class<?> resolveClass(ObjectStreamClass description) throws IOException, ClassNotFoundException {
-            try {
-                return Class.forName(description.getName(), false, loader);
-            } catch (ClassNotFoundException e) {
-                return super.resolveClass(description);
-            }
-        }
-
-        @Override
-        protected Class<?> resolveProxyClass(String[] names) throws IOException, ClassNotFoundException {
-            try {
-                Class<?>[] interfaces = new Class<?>[names.length];
-                for (int i = 0; i < names.length; i++) {
-                    interfaces[i] = Class.forName(names[i], false, loader);
-                }
-                return Proxy.newProxyInstance(loader, interfaces, (proxy, method, arguments) -> null).getClass();
-            } catch (ClassNotFoundException | IllegalArgumentException e) {
-                return super.resolveProxyClass(names);
-            }
+            throw new CacheException("what was serialized can't be read back by the class loader of the cache manager, "
+                    + loader.get() + "; getCacheManager(uri, classLoader) takes another one", e);
         }
     }
 }

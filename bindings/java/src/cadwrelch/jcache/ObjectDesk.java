@@ -14,9 +14,9 @@ final class ObjectDesk extends KeyedDesk {
     private final Desk desk;
     private long lastVersion = NO_VALUE;
 
-    /** A stripe over a desk; the recorder keeps its events, if it isn't null. */
-    ObjectDesk(Desk desk, Counts counts, Recorder recorder) {
-        super(desk, counts, recorder);
+    /** A stripe over a desk, whose entries age or don't; the recorder keeps its events, if it isn't null. */
+    ObjectDesk(Desk desk, Counts counts, Recorder recorder, boolean ages) {
+        super(desk, counts, recorder, ages);
         this.desk = desk;
     }
 
@@ -133,8 +133,8 @@ final class ObjectDesk extends KeyedDesk {
     }
 
     @Override
-    List<Object> keys() {
-        return nodes().cachedKeys();
+    List<Object> keys(boolean withAbsent) {
+        return nodes().cachedKeys(withAbsent);
     }
 
     @Override

@@ -11,6 +11,7 @@ import java.util.concurrent.Callable;
 import javax.cache.Cache;
 import javax.cache.configuration.CompleteConfiguration;
 import javax.cache.integration.CacheLoader;
+import javax.cache.integration.CacheLoaderException;
 import javax.cache.integration.CacheWriter;
 import javax.cache.integration.CacheWriterException;
 
@@ -26,12 +27,18 @@ final class Outside<K, V> {
     private final CacheWriter<K, V> writer;
     private final boolean readsThrough;
     private final boolean writesThrough;
-    private final Copier copier;
+    private final CacheContext<K, V> context;
+    private final boolean keepsAbsent;
+    final LoaderCounts loaderCounts = new LoaderCounts();
 
-    /** A writer of super types is given keys and values of the cache's types, which it only reads. */
+    /**
+     * What a configuration names. A writer of super types is given keys and values of the cache's types, which it only
+     * reads. That a get has found nothing is kept, or isn't.
+     */
     @SuppressWarnings("unchecked")
-    Outside(CompleteConfiguration<K, V> configuration, Copier copier) {
-        this.copier = copier;
+    Outside(CompleteConfiguration<K, V> configuration, CacheContext<K, V> context, boolean keepsAbsent) {
+        this.context = context;
+        this.keepsAbsent = keepsAbsent;
         loader = Closing.create(configuration.getCacheLoaderFactory());
         writer = (CacheWriter<K, V>) Closing.create(configuration.getCacheWriterFactory(), loader);
         readsThrough = configuration.isReadThrough() && loader != null;
@@ -86,7 +93,7 @@ final class Outside<K, V> {
     void load(Call call) {
         try {
             K key = key(call);
-            call.setLoaded(copier.in(ask(() -> loader.load(key))), null);
+            call.setLoaded(kept(call, askLoader(() -> loader.load(key))), null);
         } catch (Throwable e) {
             call.setLoaded(null, e);
         }
@@ -111,6 +118,16 @@ final class Outside<K, V> {
         }
     }
 
+    private <T> T askLoader(Callable<T> question) throws Exception {
+        return ask(context.hasStatistics ? () -> loaderCounts.count(question) : question);
+    }
+
+    /** What is kept of what the loader has found; null: nothing is. */
+    private Object kept(Call call, V found) {
+        return found == null && keepsAbsent && call.op == Native.GET ? Node.ABSENT
+                : context.valueIn(call.key(), found);
+    }
+
     // Many keys.
 
     /** Asks the loader once, for the keys of all these calls. Returns what it threw, or null. */
@@ -118,9 +135,14 @@ final class Outside<K, V> {
         try {
             Set<K> keys = new LinkedHashSet<>();
             calls.forEach(call -> keys.add(key(call)));
-            Map<K, V> found = ask(() -> loader.loadAll(keys));
+            Map<K, V> found = askLoader(() -> loader.loadAll(keys));
+            if (found == null) {
+                throw new CacheLoaderException("loadAll of the loader " + loader.getClass().getName()
+                        + " has answered null: it has to be a map, which may be empty"
+                        + Texts.at(context.cache.getName(), calls));
+            }
             for (Call call : calls) {
-                noteLoaded(call, found == null ? null : found.get(key(call)));
+                noteLoaded(call, found.get(key(call)));
             }
             return null;
         } catch (Throwable e) {
@@ -134,7 +156,7 @@ final class Outside<K, V> {
     /** A value that can't be copied fails its own key. */
     private void noteLoaded(Call call, V found) {
         try {
-            call.setLoaded(copier.in(found), null);
+            call.setLoaded(kept(call, found), null);
         } catch (RuntimeException e) {
             call.setLoaded(null, e);
         }
@@ -191,6 +213,6 @@ final class Outside<K, V> {
     }
 
     private static CacheWriterException hasLeft(Call call) {
-        return new CacheWriterException("the writer has left the key " + call.key());
+        return new CacheWriterException("the writer has left it in its collection" + call.where());
     }
 }

@@ -34,7 +34,7 @@ final class ProcessorEntry<K, V> implements MutableEntry<K, V> {
         try {
             result = Outside.ask(() -> processor.process(this, arguments));
             if (!hasFailedToLoad() && effect == Native.SET) {
-                call.set = context.copier.in(set);
+                call.set = context.valueIn(key, set);
                 call.value = set;
             }
             call.effect = hasFailedToLoad() ? Native.PROCESS_FAILED : effect;
@@ -74,7 +74,7 @@ final class ProcessorEntry<K, V> implements MutableEntry<K, V> {
             context.outside.load(call);
         }
         if (hasFailedToLoad()) {
-            throw Faults.ofLoader(call.cause);
+            throw Faults.ofLoader(call.cause, call.where());
         }
         return context.valueOut(call.loaded);
     }

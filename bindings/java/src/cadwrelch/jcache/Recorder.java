@@ -87,13 +87,13 @@ final class Recorder {
         String name = URLEncoder.encode(cacheName, StandardCharsets.UTF_8) + "-" + stripe + FILE_END;
         ByteCopier bytes = copier instanceof ByteCopier ? (ByteCopier) copier : null;
         try {
-            Recorder recorder = new Recorder(realFolder(settings.record).resolve(name), stripe, bytes == null);
+            Recorder recorder = new Recorder(realFolder(Path.of(settings.record.text)).resolve(name), stripe, bytes == null);
             recorder.claimFile();
             recorder.writeOpening(bytes);
             return recorder;
         } catch (IOException e) {
-            throw new CacheException("no record can be written to " + settings.record + ", which the property "
-                    + Settings.RECORD + " names", e);
+            throw new CacheException("no record can be written to " + settings.record.text + ", which "
+                    + settings.record.name + " names", e);
         }
     }
 
@@ -196,7 +196,7 @@ final class Recorder {
             for (Node node : generation.named) {
                 out.writeByte(KEY);
                 out.writeLong(node.id);
-                out.writeUTF(textOf(node.key));
+                out.writeUTF(Texts.of(node.key, TEXT_MAX));
             }
             out.writeByte(EVENTS);
             out.writeInt(generation.events.size());
@@ -208,16 +208,5 @@ final class Recorder {
                 out.writeByte(CLOSED);
             }
         }
-    }
-
-    /** A key whose {@code toString} throws is called by its type. */
-    private static String textOf(Object key) {
-        String text;
-        try {
-            text = String.valueOf(key).replace('\n', ' ');
-        } catch (RuntimeException e) {
-            text = key.getClass().getName();
-        }
-        return text.length() <= TEXT_MAX ? text : text.substring(0, TEXT_MAX);
     }
 }

@@ -1,10 +1,9 @@
 package cadwrelch.jcache;
 
 import java.util.function.ToLongFunction;
-import javax.cache.management.CacheStatisticsMXBean;
 
 /** The statistics of a cache (JSR 107, "Management"). The times are the means of those calls whose time was taken. */
-final class StatisticsBean implements CacheStatisticsMXBean {
+final class StatisticsBean implements CadwrelchStatisticsMXBean {
     private static final float NANOS_A_MICRO = 1000;
 
     private final JcacheCache<?, ?> cache;
@@ -35,6 +34,7 @@ final class StatisticsBean implements CacheStatisticsMXBean {
         for (Stripe stripe : cache.stripes()) {
             stripe.clearCounts();
         }
+        cache.loaderCounts().clear();
     }
 
     @Override
@@ -75,6 +75,36 @@ final class StatisticsBean implements CacheStatisticsMXBean {
     @Override
     public long getCacheEvictions() {
         return sum(it -> it.evictions);
+    }
+
+    @Override
+    public long getCacheSize() {
+        long size = 0;
+        for (Stripe stripe : cache.stripes()) {
+            size += stripe.keys(false).size();
+        }
+        return size;
+    }
+
+    @Override
+    public long getCacheExpirations() {
+        return sum(it -> it.expirations);
+    }
+
+    @Override
+    public long getLoaderCalls() {
+        return cache.loaderCounts().calls.sum();
+    }
+
+    @Override
+    public long getLoaderFailures() {
+        return cache.loaderCounts().failures.sum();
+    }
+
+    @Override
+    public float getAverageLoadTime() {
+        long calls = getLoaderCalls();
+        return calls == 0 ? 0 : cache.loaderCounts().nanos.sum() / NANOS_A_MICRO / calls;
     }
 
     @Override

@@ -1,7 +1,6 @@
 package cadwrelch.jcache;
 
 import java.util.List;
-import java.util.concurrent.locks.Condition;
 import java.util.concurrent.locks.ReentrantLock;
 import java.util.function.ToLongFunction;
 import javax.cache.event.EventType;
@@ -19,37 +18,65 @@ final class Stripe {
     private final KeyedDesk desk;
     private final Recorder recorder;
     private final EventQueue<?, ?> events;
-    /** Those who wait for any commit, withdrawal or pick-up; null until somebody does. */
-    private Condition room;
-    private int waitingForRoom;
+    /** Those who wait for any commit, withdrawal or pick-up. */
+    private final WaitingRoom room = new WaitingRoom(lock);
     private boolean isClosed;
 
-    /** A stripe, whose events the recorder keeps, if it isn't null. */
-    Stripe(CacheContext<?, ?> context, Settings settings, Recorder recorder) {
+    /** The stripe of an index, whose events the recorder keeps, if it isn't null. */
+    Stripe(CacheContext<?, ?> context, Settings settings, int index, Recorder recorder) {
         this.context = context;
         this.recorder = recorder;
         events = new EventQueue<>(context, lock);
-        desk = context.openDesk(lock, settings, counts, recorder);
+        desk = context.openDesk(lock, settings, index, counts, recorder);
+    }
+
+    String cacheName() {
+        return context.cache.getName();
     }
 
     // First phases.
 
-    /** A get that finds its entry: what is cached of it; or null, and nothing was done. */
+    /**
+     * A get that finds its entry: what is cached of it, which may be {@link Node#ABSENT}; or null, and nothing was
+     * done.
+     */
     Object hit(KeyLookup sought) {
-        if (context.expiry != null) {
-            return null;
-        }
         long began = context.hasStatistics ? counts.begin() : 0;
+        Expiry.Access access = Expiry.Access.DONE;
+        Node node;
+        Object stored;
+        long version;
         lock.lock();
         try {
             checkOpen();
-            Object stored = desk.hit(sought, sought.bytes == null ? find(sought) : null);
-            if (stored != null && context.hasStatistics) {
-                counts.hit(began);
+            node = sought.bytes == null ? find(sought) : null;
+            if (context.expiry != null) {
+                access = node == null || !node.isCached() ? Expiry.Access.EXPIRED : context.expiry.access(node);
+                if (access == Expiry.Access.EXPIRED) {
+                    return null;
+                }
             }
-            return stored;
+            stored = desk.hit(sought, node);
+            if (stored != null && context.hasStatistics) {
+                counts.hit(began, stored != Node.ABSENT);
+            }
+            version = access == Expiry.Access.DONE ? 0 : node.version;
         } finally {
             lock.unlock();
+        }
+        if (access != Expiry.Access.DONE) {
+            accessed(node, version, access, stored != null);
+        }
+        return stored;
+    }
+
+    /** What a get leads to that has found its entry. */
+    private void accessed(Node node, long version, Expiry.Access access, boolean isHit) {
+        if (access.asks() && isHit) {
+            renew(node, version, Expiry.Due.ACCESS);
+        }
+        if (access.refreshes()) {
+            context.refresh(node.key);
         }
     }
 
@@ -80,19 +107,30 @@ final class Stripe {
         }
     }
 
+    /** Sleeps until it may be tried again what a first phase has refused. Nothing of the caller's may be out. */
+    void awaitTurn(Call call) {
+        lock.lock();
+        try {
+            await(call);
+        } finally {
+            lock.unlock();
+        }
+    }
+
     /** False: it was refused, and nothing was done. */
     private boolean tryBegin(Call call) {
         Node node = locate(call);
         try {
             refuseOwnKey(call, node);
-            if (!expire(call, node)) {
+            if (expire(call, node)) {
+                desk.begin(call, node);
+            } else {
                 call.next = Native.REFUSED;
-                return false;
             }
-            desk.begin(call, node);
             if (call.next == Native.DONE) {
                 stepped(call);
             }
+            room.note(call);
             return call.next != Native.REFUSED;
         } finally {
             desk.nodes().dropUnused(node);
@@ -102,8 +140,8 @@ final class Stripe {
     private void refuseOwnKey(Call call, Node node) {
         boolean isOwn = node.owner != null && node.owner.thread == call.thread;
         if (isOwn && !call.isAtOnce(desk.isCached(call.lookup, node), context.outside.readsThrough())) {
-            throw new IllegalStateException(
-                    "a loader, writer or processor calls the cache at the key that it was called for");
+            throw new WouldWait("a loader, writer or processor calls the cache at the key that it was called for",
+                    call);
         }
     }
 
@@ -129,7 +167,7 @@ final class Stripe {
             lock.unlock();
             try {
                 if (node == null) {
-                    sought.copy(context.copier);
+                    context.copyKey(sought);
                 } else {
                     call.compare(context.copier, cached, version);
                 }
@@ -219,6 +257,7 @@ final class Stripe {
     private void pickUpAnswer(Call call) {
         try {
             desk.pickUp(call);
+            call.hideAbsent();
             if (call.next == Native.DONE && context.hasStatistics) {
                 counts.joined(call.began);
             }
@@ -229,17 +268,10 @@ final class Stripe {
 
     private void awaitLoad(Call call) {
         try {
-            Waits.enter(call.joined);
-        } catch (IllegalStateException e) {
+            call.joined.awaitEnd(lock, call, () -> false);
+        } catch (WouldWait e) {
             call.joined.abandon(call);
             throw e;
-        }
-        try {
-            while (!call.joined.isOver()) {
-                call.joined.sleep(lock);
-            }
-        } finally {
-            Waits.leave();
         }
     }
 
@@ -260,9 +292,7 @@ final class Stripe {
 
     /** A call has left: there is room, and perhaps nobody is left. */
     private void left() {
-        if (waitingForRoom > 0) {
-            room.signalAll();
-        }
+        room.wake();
         if (isClosed) {
             desk.freeIfIdle();
         }
@@ -273,32 +303,9 @@ final class Stripe {
     /** Sleeps until it may be tried again what was refused. */
     private void await(Call call) {
         if (call.blocker == null) {
-            awaitRoom();
-            return;
-        }
-        Waits.enter(call.blocker);
-        try {
-            while (!call.blocker.isOver() && !isClosed) {
-                call.blocker.sleep(lock);
-            }
-        } finally {
-            Waits.leave();
-        }
-    }
-
-    private void awaitRoom() {
-        if (Outside.isAsked()) {
-            throw new IllegalStateException("a loader, writer or processor calls the cache at a key of a stripe without"
-                    + " room: 64 keys of it are reserved, or as many calls are under way as its history has room for");
-        }
-        if (room == null) {
-            room = lock.newCondition();
-        }
-        waitingForRoom++;
-        try {
-            room.awaitUninterruptibly();
-        } finally {
-            waitingForRoom--;
+            room.await(call);
+        } else {
+            call.blocker.awaitEnd(lock, call, () -> isClosed);
         }
     }
 
@@ -306,6 +313,10 @@ final class Stripe {
 
     /** Counts a step and notes its event, with the lock held. */
     private void stepped(Call call) {
+        if (context.expiry != null) {
+            call.isStale = context.expiry.stepped(call);
+            call.hideAbsent();
+        }
         if (context.hasStatistics) {
             counts.step(call);
         }
@@ -314,7 +325,7 @@ final class Stripe {
             events.add(typeOf(call), call.node.key, kept, call.before);
         }
         if (context.expiry != null) {
-            call.due = Expiry.due(call);
+            call.due = context.expiry.due(call);
             call.dueVersion = call.node.version;
         }
     }
@@ -329,7 +340,12 @@ final class Stripe {
     /** What is done with the lock free: the expiry policy is asked, and events that were taken are written. */
     private void afterwards(Call call) {
         if (call.due != Expiry.Due.NOTHING) {
-            renew(call);
+            Expiry.Due due = call.due;
+            call.due = Expiry.Due.NOTHING;
+            renew(call.node, call.dueVersion, due);
+        }
+        if (call.isStale) {
+            context.refresh(call.node.key);
         }
         flushRecord();
     }
@@ -341,20 +357,18 @@ final class Stripe {
         }
     }
 
-    private void renew(Call call) {
-        Expiry.Due due = call.due;
-        call.due = Expiry.Due.NOTHING;
+    /** Asks the expiry policy for an entry, which may have another version by now. */
+    private void renew(Node node, long version, Expiry.Due due) {
         Duration duration = context.expiry.ask(due);
         if (duration == null) {
             return;
         }
         lock.lock();
         try {
-            Node node = call.node;
-            if (node.version != call.dueVersion) {
+            if (node.version != version) {
                 return;
             }
-            Expiry.set(node, duration);
+            context.expiry.set(node, duration);
             if (duration.isZero() && node.owner == null && !isClosed) {
                 clearExpired(node, due != Expiry.Due.CREATION);
                 desk.nodes().dropUnused(node);
@@ -365,11 +379,12 @@ final class Stripe {
     }
 
     /**
-     * Takes the entry out if it has expired. False: somebody has reserved its key, or there is no room; and the call's
-     * blocker says which.
+     * Takes the entry out if it has expired, or, for a call that may change it, is known to be absent. False: somebody
+     * has reserved its key, or there is no room; and the call's blocker says which.
      */
     private boolean expire(Call call, Node node) {
-        if (context.expiry == null || !Expiry.hasExpired(node)) {
+        boolean isAbsent = node.isAbsent() && !call.isLook();
+        if (context.expiry == null || !isAbsent && !context.expiry.hasExpired(node)) {
             return true;
         }
         call.blocker = node.owner;
@@ -381,8 +396,11 @@ final class Stripe {
         if (!desk.clear(node)) {
             return false;
         }
-        if (isTold && context.hasListeners()) {
-            events.add(EventType.EXPIRED, node.key, before, before);
+        if (isTold && before != Node.ABSENT) {
+            counts.expirations++;
+            if (context.hasListeners()) {
+                events.add(EventType.EXPIRED, node.key, before, before);
+            }
         }
         return true;
     }
@@ -396,7 +414,7 @@ final class Stripe {
 
     private void checkOpen() {
         if (isClosed) {
-            throw new IllegalStateException("the cache is closed");
+            throw new IllegalStateException("the cache " + cacheName() + " is closed");
         }
     }
 
@@ -407,9 +425,7 @@ final class Stripe {
         lock.lock();
         try {
             isClosed = true;
-            if (room != null) {
-                room.signalAll();
-            }
+            room.wake();
             desk.nodes().forEach(node -> {
                 if (node.owner != null) {
                     node.owner.wake();
@@ -422,12 +438,12 @@ final class Stripe {
         flushRecord();
     }
 
-    /** The keys that are cached at the moment. */
-    List<Object> keys() {
+    /** The keys that are cached at the moment, with those that are known to be absent, or without. */
+    List<Object> keys(boolean withAbsent) {
         lock.lock();
         try {
             checkOpen();
-            return desk.keys();
+            return desk.keys(withAbsent);
         } finally {
             lock.unlock();
         }

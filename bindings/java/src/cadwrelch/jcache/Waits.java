@@ -14,16 +14,16 @@ final class Waits {
     }
 
     /**
-     * Lists this thread as one that waits for a call.
+     * Lists this thread as one that waits for a call, with one of its own.
      *
      * @throws IllegalStateException if that call's thread waits for this one, or is it; then nothing is listed
      */
-    static synchronized void enter(Call owner) {
+    static synchronized void enter(Call owner, Call own) {
         Thread me = Thread.currentThread();
         for (Call call = owner; call != null && !call.isOver(); call = WAITS.get(call.thread)) {
             if (call.thread == me) {
-                throw new IllegalStateException("a loader, writer or processor calls the cache at a key that its own"
-                        + " call, or one that waits for it, has reserved: it would wait for itself");
+                throw new WouldWait("a loader, writer or processor calls the cache at a key that its own call, or one"
+                        + " that waits for it, has reserved: it would wait for itself", own);
             }
         }
         WAITS.put(me, owner);

@@ -12,7 +12,7 @@
  * a {@code ByteDesk} it has their bytes. {@code Desk} and {@code DeskOfBytes} cross to the native library by {@code
  * Native}.
  *
- * <p>Above the core: {@code Expiry}, {@code Listeners} with an {@code EventQueue} for each stripe, {@code Counts}.
+ * <p>Above the core: {@code Expiry} and {@code Refresher}, {@code Listeners} with an {@code EventQueue} for each stripe, {@code Counts}.
  * Beside it, {@code Recorder} keeps the core's own events, which {@link cadwrelch.jcache.Records} prints.
  *
  * <p>Locks: a stripe's, and, under it, that of {@code Waits}. Whoever tells listeners or writes a record has the turn

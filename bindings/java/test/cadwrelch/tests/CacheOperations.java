@@ -206,9 +206,7 @@ final class CacheOperations {
         equal("two keys of one hash have a value each", "first second", cache.get("Aa") + " " + cache.get("BB"));
     }
 
-    @Test
-    static void refusesNull() {
-        Cache<String, String> cache = strings();
+    private static Map<String, Use> usesWithNull() {
         Map<String, Use> uses = new LinkedHashMap<>();
         uses.put("get(null)", it -> it.get(null));
         uses.put("getAll(null)", it -> it.getAll(null));
@@ -244,7 +242,13 @@ final class CacheOperations {
         uses.put("invokeAll with null", it -> it.invokeAll(Collections.singleton(null), (entry, arguments) -> null));
         uses.put("invokeAll(keys, null)", it -> it.invokeAll(Set.of("k"), null));
         uses.put("deregisterCacheEntryListener(null)", it -> it.deregisterCacheEntryListener(null));
-        uses.forEach((name, use) ->
+        return uses;
+    }
+
+    @Test
+    static void refusesNull() {
+        Cache<String, String> cache = strings();
+        usesWithNull().forEach((name, use) ->
                 thrown(name + " is NullPointerException", NullPointerException.class, () -> use.of(cache)));
         equal("and nothing is cached", contents(), contents(cache));
     }
@@ -272,6 +276,7 @@ final class CacheOperations {
         uses.put("invoke", it -> it.invoke("k", (entry, arguments) -> null));
         uses.put("invokeAll", it -> it.invokeAll(Set.of("k"), (entry, arguments) -> null));
         uses.put("iterator", Cache::iterator);
+        uses.putAll(usesWithNull());
         uses.forEach((name, use) -> {
             Cache<String, String> cache = strings();
             cache.close();

@@ -23,7 +23,7 @@ final class Caches {
     static CacheManager manager(int stripes, int capacity) {
         Properties properties = new Properties();
         properties.setProperty("cadwrelch.stripes", String.valueOf(stripes));
-        properties.setProperty("cadwrelch.capacity", String.valueOf(capacity));
+        properties.setProperty("cadwrelch.capacity", String.valueOf(stripes * capacity));
         return manager(properties);
     }
 

@@ -220,12 +220,19 @@ final class Managers {
     static void wrongPropertiesAreNamed() {
         checkRefused("stripes", "0", "1 to 4096");
         checkRefused("stripes", "4097", "1 to 4096");
-        checkRefused("capacity", "0", "1 to 4096");
-        checkRefused("capacity", "4097", "1 to 4096");
-        checkRefused("capacity", "many", "1 to 4096");
+        checkRefused("capacity", "0", "1 to 16777216");
+        checkRefused("capacity", "16777217", "1 to 16777216");
+        checkRefused("capacity", "many", "1 to 16777216");
         checkRefused("history", "15", "16 to 65536");
         checkRefused("history", "65537", "16 to 65536");
         checkRefused("stripe", "1", "cadwrelch.stripes");
+        checkRefused("refresh_after", "10", "one of ms, s, m, h and d");
+        checkRefused("absent_for", "0s", "from 1 to");
+        checkRefused("bytes", "yes", "true or false");
+        checkRefused("titles.capacity", "many", "1 to 16777216");
+        checkRefused("titles.capacty", "1", "cadwrelch.NAME.capacity");
+        checkRefused("copier", "no.Copier", "UnaryOperator");
+        checkRefused("copier", String.class.getName(), "UnaryOperator");
         checkRefused("stripes", 16, "a String");
     }
 
@@ -243,7 +250,7 @@ final class Managers {
     @Test
     static void propertiesAtTheirLimits() {
         checkTaken(1, 1, 16);
-        checkTaken(4096, 1, 16);
+        checkTaken(4096, 4096, 16);
         checkTaken(1, 4096, 16);
         checkTaken(1, 1, 65536);
     }
@@ -263,9 +270,8 @@ final class Managers {
     @Test
     static void theDefaultPropertiesAreWhatCachesHave() {
         Properties defaults = PROVIDER.getDefaultProperties();
-        equal("the default properties say how many stripes a cache has", "16",
-                defaults.getProperty("cadwrelch.stripes"));
-        equal("how many entries a stripe has", "4096", defaults.getProperty("cadwrelch.capacity"));
+        equal("the default properties say how many entries a cache has", "65536",
+                defaults.getProperty("cadwrelch.capacity"));
         equal("and how many events a history has", "260", defaults.getProperty("cadwrelch.history"));
     }
 

@@ -7,9 +7,11 @@ import java.util.ArrayList;
 import java.util.Collections;
 import java.util.HashMap;
 import java.util.LinkedHashMap;
+import java.util.LinkedHashSet;
 import java.util.List;
 import java.util.Map;
 import java.util.Set;
+import java.util.function.BiConsumer;
 import javax.cache.Cache;
 import javax.cache.CacheManager;
 import cadwrelch.tests.Background.Work;
@@ -102,6 +104,99 @@ final class ManyKeys {
         return squares(count).keySet();
     }
 
+    /** Calls of many keys that write, by their names. Each does the same at each of its keys. */
+    private static final Map<String, BiConsumer<Cache<Integer, Integer>, List<Integer>>> WRITES = Map.of(
+            "putAll", (cache, keys) -> {
+                Map<Integer, Integer> entries = new LinkedHashMap<>();
+                keys.forEach(key -> entries.put(key, -key));
+                cache.putAll(entries);
+            },
+            "removeAll", (cache, keys) -> cache.removeAll(new LinkedHashSet<>(keys)),
+            "invokeAll", (cache, keys) -> cache.invokeAll(new LinkedHashSet<>(keys), (entry, arguments) -> {
+                entry.setValue(-entry.getKey());
+                return null;
+            }));
+
+    private static final List<List<Integer>> ORDERS =
+            List.of(List.of(42, 1, 2), List.of(42, 43, 44), List.of(43, 42, 44), List.of(42, 43, 58));
+
+    @Test
+    static void noRoundWaitsForAKey() throws Exception {
+        for (boolean isCached : new boolean[] {false, true}) {
+            for (Map.Entry<String, BiConsumer<Cache<Integer, Integer>, List<Integer>>> write : WRITES.entrySet()) {
+                for (List<Integer> keys : ORDERS) {
+                    writeBesideASlowPut(write.getKey(), write.getValue(), keys, isCached);
+                }
+            }
+        }
+    }
+
+    private static void writeBesideASlowPut(String name, BiConsumer<Cache<Integer, Integer>, List<Integer>> write,
+            List<Integer> keys, boolean isCached) throws Exception {
+        Store<Integer, Integer> store = new Store<>();
+        Cache<Integer, Integer> cache = Caches.through(store, Integer.class, Integer.class);
+        keys.forEach(key -> store.map.put(key, 0));
+        if (isCached) {
+            cache.getAll(new LinkedHashSet<>(keys));
+        }
+        Store.Gate gate = store.shut();
+        Work<Void> slow = Background.start(() -> cache.put(42, 1));
+        gate.awaitCall();
+        store.passBy();
+        Work<Void> all = Background.start(() -> write.accept(cache, keys));
+        all.awaitSleep();
+        List<Integer> others = new ArrayList<>(keys);
+        others.remove(Integer.valueOf(42));
+        String rule = name + " of " + keys + (isCached ? ", which are cached," : "") + " beside a slow put of 42";
+        equal(rule + " tells the writer of all others, in one call, in their order", others, store.lastBatch);
+        gate.open();
+        slow.result();
+        all.result();
+        equal(rule + " writes that key when it is free", List.of(42), store.lastBatch);
+        equal(rule + " leaves the same in cache and store", store.map, cache.getAll(new LinkedHashSet<>(keys)));
+        cache.close();
+    }
+
+    @Test
+    static void clearTakesOutWhatItCanBeforeItWaits() throws Exception {
+        Store<Integer, Integer> store = new Store<>();
+        Cache<Integer, Integer> cache = Caches.through(store, Integer.class, Integer.class);
+        cache.putAll(squares(20));
+        Store.Gate gate = store.shut();
+        Work<Void> slow = Background.start(() -> cache.put(3, 1));
+        gate.awaitCall();
+        store.passBy();
+        Work<Void> clear = Background.start(cache::clear);
+        clear.awaitSleep();
+        List<Integer> left = new ArrayList<>();
+        cache.forEach(entry -> left.add(entry.getKey()));
+        equal("clear waits for the key that is written when all others are out", List.of(3), left);
+        gate.open();
+        slow.result();
+        clear.result();
+        holds("and takes that out, too", !cache.iterator().hasNext());
+        cache.close();
+    }
+
+    @Test
+    static void theCallersOrderIsKept() {
+        Store<Integer, Integer> store = new Store<>();
+        Cache<Integer, Integer> cache = Caches.through(store, Integer.class, Integer.class);
+        List<Integer> order = List.of(7, 100, 3, 55, 16, 1, 2);
+        WRITES.forEach((name, write) -> {
+            write.accept(cache, order);
+            equal(name + " tells the writer of the keys in the caller's order", order, store.lastBatch);
+        });
+        cache.clear();
+        order.forEach(key -> store.map.put(key, key));
+        Map<Integer, Integer> found = cache.getAll(new LinkedHashSet<>(order));
+        equal("getAll tells the loader so, too", order, store.lastBatch);
+        equal("and answers in that order", order, new ArrayList<>(found.keySet()));
+        equal("as invokeAll does", order, new ArrayList<>(cache.invokeAll(new LinkedHashSet<>(order),
+                (entry, arguments) -> entry.getKey()).keySet()));
+        cache.close();
+    }
+
     @Test
     static void aCallOfManyKeysWaitsForAKeyThatIsReserved() throws Exception {
         Store<Integer, Integer> store = new Store<>();
@@ -111,7 +206,6 @@ final class ManyKeys {
         Store.Gate gate = store.shut();
         Work<Void> slow = Background.start(() -> cache.put(1, 10));
         gate.awaitCall();
-        // The other keys come first: they are written in a round of their own.
         Map<Integer, Integer> entries = new LinkedHashMap<>();
         entries.put(2, 20);
         entries.put(1, 11);

@@ -16,8 +16,8 @@ final class Script {
     /** The words of calls of many keys. */
     private static final Set<String> BULK =
             Set.of("getall", "putall", "removeall", "removeevery", "clear", "loadall", "invokeall");
-    /** Lines for which a provider has no call: what gives a call up, retries it, or opens a cache again. */
-    private static final Set<String> INSIDE = Set.of("drop", "more", "reopen");
+    /** Lines for which a provider has no call: what gives a call up, retries it, opens a cache again, or names untold keys. */
+    private static final Set<String> INSIDE = Set.of("drop", "more", "reopen", "untold");
     /**
      * A processor that creates an entry and removes it: by JCache's reference implementation nothing happens, here it
      * is a delete.
@@ -58,7 +58,7 @@ final class Script {
     }
 
     private static boolean isForNoProvider(String[] line) {
-        return INSIDE.contains(line[0]) || line[0].equals("begin") && BULK.contains(line[3]);
+        return INSIDE.contains(line[0]) || line[0].equals("begin") && (BULK.contains(line[3]) || line[3].equals("forget"));
     }
 
     /** All scripts of examples/ and the cases of tests/cases, by their files' names. */

@@ -2,18 +2,23 @@ package cadwrelch.tests;
 
 import static cadwrelch.tests.Check.equal;
 import static cadwrelch.tests.Check.holds;
+import static cadwrelch.tests.Check.thrown;
 
 import java.lang.management.ManagementFactory;
+import java.time.Duration;
 import java.util.Iterator;
 import java.util.List;
 import java.util.Map;
 import java.util.Set;
+import java.util.concurrent.TimeUnit;
 import javax.cache.Cache;
 import javax.cache.CacheException;
 import javax.cache.CacheManager;
 import javax.cache.configuration.MutableConfiguration;
+import javax.cache.expiry.CreatedExpiryPolicy;
 import javax.management.MBeanServer;
 import javax.management.ObjectName;
+import cadwrelch.jcache.CadwrelchConfiguration;
 import cadwrelch.jcache.Inside;
 import cadwrelch.tests.Check.Test;
 
@@ -188,6 +193,34 @@ final class Statistics {
         } catch (CacheException e) {
             scene.check("nor is a remove that fails a removal", 0, 1, 0, 0);
         }
+    }
+
+    @Test
+    static void countsWhatTheStandardDoesNot() throws Exception {
+        Store<Long, String> store = new Store<>();
+        store.map.put(1L, "one");
+        long[] now = new long[1];
+        CadwrelchConfiguration<Long, String> configuration =
+                new CadwrelchConfiguration<Long, String>().setClock(() -> now[0]).setAbsentFor(Duration.ofSeconds(30));
+        configuration.setReadThrough(true)
+                .setCacheLoaderFactory(() -> store)
+                .setExpiryPolicyFactory(CreatedExpiryPolicy.factoryOf(javax.cache.expiry.Duration.ONE_MINUTE));
+        Scene scene = new Scene(configuration);
+        scene.cache.get(1L);
+        scene.cache.getAll(Set.of(1L, 2L));
+        scene.cache.get(2L);
+        scene.check("what is known to be absent is a miss", 1, 3, 0, 0);
+        equal("the size is without it", 1L, scene.count("CacheSize"));
+        now[0] += TimeUnit.MINUTES.toNanos(1);
+        scene.cache.containsKey(2L);
+        store.fault = new IllegalStateException("down");
+        thrown("a load that fails", CacheException.class, () -> scene.cache.get(1L));
+        equal("an entry that a call has found expired is counted", 1L, scene.count("CacheExpirations"));
+        equal("and each call of the loader", 3L, scene.count("LoaderCalls"));
+        equal("also those that fail", 1L, scene.count("LoaderFailures"));
+        holds("with the time that they took", (Float) BEANS.getAttribute(scene.bean("CacheStatistics"),
+                "AverageLoadTime") > 0);
+        equal("so the cache is empty", 0L, scene.count("CacheSize"));
     }
 
     @Test

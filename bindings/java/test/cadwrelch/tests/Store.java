@@ -1,14 +1,17 @@
 package cadwrelch.tests;
 
 import java.io.Closeable;
+import java.util.ArrayList;
 import java.util.Collection;
 import java.util.HashMap;
 import java.util.Iterator;
+import java.util.List;
 import java.util.Map;
 import java.util.Set;
 import java.util.concurrent.ConcurrentHashMap;
 import java.util.concurrent.CountDownLatch;
 import java.util.concurrent.atomic.AtomicInteger;
+import java.util.stream.Collectors;
 import javax.cache.Cache;
 import javax.cache.integration.CacheLoader;
 import javax.cache.integration.CacheWriter;
@@ -27,7 +30,11 @@ final class Store<K, V> implements CacheLoader<K, V>, CacheWriter<K, V>, Closeab
     volatile Throwable fault;
     /** The keys that a writer of many keys leaves, and then throws. */
     volatile Set<K> refused = Set.of();
+    /** Whether {@code loadAll} answers null, as no loader should. */
+    volatile boolean answersNull;
     volatile boolean closed;
+    /** The keys of the last call of many keys, in its order. */
+    volatile List<Object> lastBatch = List.of();
     private volatile Gate gate;
 
     /** A gate at which calls of a store wait. */
@@ -65,6 +72,11 @@ final class Store<K, V> implements CacheLoader<K, V>, CacheWriter<K, V>, Closeab
         old.open();
     }
 
+    /** Later calls don't wait; those that do stay at their gate. */
+    void passBy() {
+        gate = null;
+    }
+
     private void pass() {
         Gate here = gate;
         if (here != null) {
@@ -92,9 +104,12 @@ final class Store<K, V> implements CacheLoader<K, V>, CacheWriter<K, V>, Closeab
     public Map<K, V> loadAll(Iterable<? extends K> keys) {
         loadAlls.incrementAndGet();
         pass();
+        List<Object> batch = new ArrayList<>();
+        keys.forEach(batch::add);
+        lastBatch = batch;
         Map<K, V> found = new HashMap<>();
         keys.forEach(key -> found.put(key, map.get(key)));
-        return found;
+        return answersNull ? null : found;
     }
 
     @Override
@@ -108,6 +123,7 @@ final class Store<K, V> implements CacheLoader<K, V>, CacheWriter<K, V>, Closeab
     public void writeAll(Collection<Cache.Entry<? extends K, ? extends V>> entries) {
         writeAlls.incrementAndGet();
         pass();
+        lastBatch = entries.stream().map(Cache.Entry::getKey).collect(Collectors.toList());
         for (Iterator<Cache.Entry<? extends K, ? extends V>> each = entries.iterator(); each.hasNext();) {
             Cache.Entry<? extends K, ? extends V> entry = each.next();
             if (!refused.contains(entry.getKey())) {
@@ -129,6 +145,7 @@ final class Store<K, V> implements CacheLoader<K, V>, CacheWriter<K, V>, Closeab
     public void deleteAll(Collection<?> keys) {
         deleteAlls.incrementAndGet();
         pass();
+        lastBatch = List.copyOf(keys);
         for (Iterator<?> each = keys.iterator(); each.hasNext();) {
             Object key = each.next();
             if (!refused.contains(key)) {

@@ -3,6 +3,7 @@ package cadwrelch.tests;
 import static cadwrelch.tests.Check.equal;
 import static cadwrelch.tests.Check.holds;
 
+import java.time.Duration;
 import java.util.ArrayList;
 import java.util.Collection;
 import java.util.HashMap;
@@ -13,16 +14,21 @@ import java.util.Random;
 import java.util.Set;
 import java.util.concurrent.ConcurrentHashMap;
 import java.util.concurrent.ExecutionException;
+import java.util.concurrent.ExecutorService;
+import java.util.concurrent.Executors;
 import java.util.concurrent.ThreadLocalRandom;
 import java.util.concurrent.TimeUnit;
+import java.util.concurrent.atomic.AtomicBoolean;
 import java.util.concurrent.atomic.AtomicInteger;
 import java.util.concurrent.atomic.AtomicLong;
 import javax.cache.Cache;
 import javax.cache.CacheException;
 import javax.cache.CacheManager;
+import javax.cache.expiry.CreatedExpiryPolicy;
 import javax.cache.integration.CacheLoader;
 import javax.cache.integration.CacheWriter;
 import javax.cache.integration.CompletionListenerFuture;
+import cadwrelch.jcache.CadwrelchConfiguration;
 import cadwrelch.jcache.Inside;
 import cadwrelch.tests.Background.Work;
 import cadwrelch.tests.Check.Test;
@@ -208,9 +214,14 @@ final class Stress {
         final AtomicInteger faults = new AtomicInteger();
 
         Scene(int capacity) {
+            this(capacity, new CadwrelchConfiguration<>());
+        }
+
+        Scene(int capacity, CadwrelchConfiguration<Integer, Long> configuration) {
             manager = Caches.manager(2, capacity);
-            cache = Caches.create(manager, Caches.<Integer, Long>over(new Store<>())
-                    .setTypes(Integer.class, Long.class)
+            cache = Caches.create(manager, configuration.setTypes(Integer.class, Long.class)
+                    .setReadThrough(true)
+                    .setWriteThrough(true)
                     .setCacheLoaderFactory(() -> store)
                     .setCacheWriterFactory(() -> store)
                     .setStatisticsEnabled(true));
@@ -235,6 +246,15 @@ final class Stress {
                 move.play(cache, key, value);
             } catch (CacheException e) {
                 faults.incrementAndGet();
+            }
+        }
+
+        /** A get, which is made again if the store fails. */
+        Long getAtLast(int key) {
+            try {
+                return cache.get(key);
+            } catch (CacheException e) {
+                return cache.get(key);
             }
         }
 
@@ -271,6 +291,32 @@ final class Stress {
         Scene scene = new Scene(3);
         scene.play(16, allMoves());
         scene.check();
+    }
+
+    @Test
+    static void eightThreadsBesideReloadsExpiryAndAbsentKeys() throws Exception {
+        // Time goes on by a tenth of a millisecond each time that somebody looks, until all calls have ended.
+        AtomicLong now = new AtomicLong();
+        AtomicBoolean isFrozen = new AtomicBoolean();
+        ExecutorService threads = Executors.newFixedThreadPool(3);
+        CadwrelchConfiguration<Integer, Long> configuration = new CadwrelchConfiguration<Integer, Long>()
+                .setClock(() -> isFrozen.get() ? now.get() : now.addAndGet(100_000))
+                .setRefreshAfter(Duration.ofMillis(2))
+                .setAbsentFor(Duration.ofMillis(6))
+                .setExecutor(threads);
+        configuration.setExpiryPolicyFactory(CreatedExpiryPolicy.factoryOf(
+                new javax.cache.expiry.Duration(TimeUnit.MILLISECONDS, 30)));
+        Scene scene = new Scene(6, configuration);
+        scene.play(8, allMoves());
+        threads.shutdown();
+        holds("reloads end", threads.awaitTermination(30, TimeUnit.SECONDS));
+        isFrozen.set(true);
+        for (int key = 0; key < KEYS; key++) {
+            equal("each get answers what the store has", scene.store.map.get(key), scene.getAtLast(key));
+        }
+        equal("loader and writer were never called twice at once at a key", 0, scene.store.collisions.get());
+        holds("host and core agree", Inside.compare(scene.cache) <= KEYS);
+        scene.manager.close();
     }
 
     @Test

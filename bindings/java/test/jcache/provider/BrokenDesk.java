@@ -7,7 +7,7 @@ final class BrokenDesk extends KeyedDesk {
     private final RuntimeException fault;
 
     BrokenDesk(RuntimeException fault) {
-        super(null, new Counts(), null);
+        super(null, new Counts(), null, false);
         this.fault = fault;
     }
 
@@ -46,7 +46,7 @@ final class BrokenDesk extends KeyedDesk {
     void noteStep(Call call, int result) {}
 
     @Override
-    List<Object> keys() {
+    List<Object> keys(boolean withAbsent) {
         return List.of();
     }
 

@@ -5,15 +5,15 @@ use Rattle.jc_c.specs.declared.layouts.InlineValue.{InlineValue}
 use Rattle.jc_c.specs.Exports.{HitsForC}
 use Rattle.jc_c.proofs.phases.jc_hit.Goals as goal
 
-carried : (old given : DeskState) (session : ℕ) (key bytes : Bytes) (out : InlineValue) (new left : DeskState) → given ≡ old → key ≡ bytes → left ≡ new
-    → HitsForC given session key out left → HitsForC old session bytes out new
-carried old given session key bytes out new left same is kept hits =
-    subst (λ (d : DeskState). HitsForC d session bytes out new) same
-    (subst (λ (b : Bytes). HitsForC given session b out new) is
-    (subst (λ (d : DeskState). HitsForC given session key out d) kept hits))
+carried : (old given : DeskState) (session : ℕ) (key bytes : Bytes) (before out : InlineValue) (new left : DeskState) → given ≡ old → key ≡ bytes → left ≡ new
+    → HitsForC given session key before out left → HitsForC old session bytes before out new
+carried old given session key bytes before out new left same is kept hits =
+    subst (λ (d : DeskState). HitsForC d session bytes before out new) same
+    (subst (λ (b : Bytes). HitsForC given session b before out new) is
+    (subst (λ (d : DeskState). HitsForC given session key before out d) kept hits))
 
 pub returns-clause-hit : goal.returns-clause-hit
 returns-clause-hit c = λ ok.
-    let before : c.deref_mut.result.now ≡ c.args.h.now.desk = search rules in
+    let given : c.deref_mut.result.now ≡ c.args.h.now.desk = search rules in
     let after : c.hit-code.new.self ≡ c.put.new.self.desk = search rules in
-    carried c.args.h.now.desk _ c.args.session _ c.args.key.now c.hit-code.new.out c.put.new.self.desk _ before c.in-Some.ensures.key after (c.hit-code.ensures.hit ok)
+    carried c.args.h.now.desk _ c.args.session _ c.args.key.now c.args.out.now c.hit-code.new.out c.put.new.self.desk _ given c.in-Some.ensures.key after (c.hit-code.ensures.hit ok)

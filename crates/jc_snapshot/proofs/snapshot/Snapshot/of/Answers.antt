@@ -23,7 +23,7 @@ returns-clause-snapshot c =
     in (
       record { own = ow.0; stripes = st.0; calls = ca.0 },
       record {
-        own = record { config_is = ow.2.config_is; premises_are = ow.2.premises_are; store_is = ow.2.store_is; parts_are = ow.2.parts_are; joins_are = ow.2.joins_are };
+        own = record { config_is = ow.2.config_is; premises_are = ow.2.premises_are; store_is = ow.2.store_is; parts_are = ow.2.parts_are; joins_are = ow.2.joins_are; foreign_are = ow.2.foreign_are };
         stripes_are = subst (λ ss. AreRows (IsStripeRow u) (map essence_of ss) st.0) c.stripe_list.ensures.stripes stripes;
         calls_are = subst (λ us. AreRows (IsOpenCallRow u) us ca.0) c.calls.ensures calls;
         rest_is = refl;

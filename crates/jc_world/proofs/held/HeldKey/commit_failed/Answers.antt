@@ -1,6 +1,7 @@
-use Rattle.jc_world.proofs.Common.{refl, sym, ap, ◌∙◌, subst, Commits, IsOut, Reservation, Part, IsDue, is_all_answered, out_of_part}
+use Rattle.jc_world.proofs.Common.{refl, sym, ap, ◌∙◌, subst, Commits, IsOut, Reservation, Part, IsDue, is_all_answered, out_of_part, with_report, is_misled, is_true_report, has_changed}
 use Rattle.jc_stripe.specs.Phases.{with_reply}
-use Rattle.jc_world.proofs.Committing.{answered_failed, due_told}
+use Rattle.jc_model.specs.declared.event.WriteAnswer.TheVariants.{Failed}
+use Rattle.jc_world.proofs.Committing.{answered_failed, due_told, due_heard}
 use Rattle.jc_world.proofs.held.HeldKey.commit_failed.Goals as goal
 
 pub report-is_changed-requires-clause-waits : goal.report-is_changed-requires-clause-waits
@@ -16,7 +17,8 @@ commit-step-requires c =
       out = subst (λ (p : Part). IsOut c.args.stripe.now p.reservation) (sym told) c.requires.out;
       answered = ap is_all_answered told ∙ answered_failed c.args.self 0;
       origin = c.requires.origin;
-      due = subst (IsDue c.args.stripe.now.config) (sym told) (due_told c.args.stripe.now.config c.args.self.reservation.first c.args.self.progress _ c.requires.due);
+      due = subst (IsDue c.args.stripe.now.config) (sym told) (due_heard c.args.stripe.now.config c.args.self.reservation.first (with_report c.args.self.progress (Failed 0)) (is_misled c.args.self) (is_true_report (Failed 0) (has_changed c.args.self))
+          (due_told c.args.stripe.now.config c.args.self.reservation.first c.args.self.progress (Failed 0) c.requires.due));
     }
 
 pub returns : goal.returns

@@ -1,7 +1,7 @@
-use Rattle.jc_world.proofs.Common.{◌≡◌, length, None, refl, ap, ◌∙◌, entries, IsCache, differing, found_after, WorldState}
+use Rattle.jc_world.proofs.Common.{◌≡◌, length, None, refl, ap, ◌∙◌, entries, list_all, IsCache, differing, found_after, WorldState, is_untold}
 use Rattle.jc_world.proofs.Callers.{order_is}
 use Rattle.jc_world.proofs.Kept.{coherent}
-use Rattle.jc_world.proofs.Homes.{gathered, none_differ}
+use Rattle.jc_world.proofs.Homes.{gathered, all_untold}
 use Rattle.jc_world.proofs.machine.Machine.audit.Goals as goal
 
 -- what is gathered is what the world caches
@@ -29,4 +29,4 @@ returns-clause-audit c = record {
 pub returns-clause-coherent : goal.returns-clause-coherent
 returns-clause-coherent c hold =
     let is = coherent c.args.self.now c.requires hold in
-    (is, keys_are c ∙ ap (differing c.args.self.now) c.in_ok-cache.ensures ∙ none_differ c.args.self.now c.in_ok-all.all (cache_is c) is)
+    (is, ap (list_all (is_untold c.args.self.now)) (keys_are c ∙ ap (differing c.args.self.now) c.in_ok-cache.ensures) ∙ all_untold c.args.self.now c.in_ok-all.all (cache_is c) is)

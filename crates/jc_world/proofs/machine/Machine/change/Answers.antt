@@ -18,6 +18,6 @@ returns-clause-ok c =
     let said = c.in_ok-change.ensures.ok in
     let part = said.0 in
     let there : part_of v c.args.call key ≡ Some part = of.1 ∙ sym of.2 ∙ said.2 in
-    let next = world_of (record c.self.inside { store = c.change.new.store; held = c.change.new.held }) in
-    let is : next ≡ after_change v key part said.1 = λ i. record v { store = said.5 i; parts = said.4 i } in
+    let next = world_of (record c.self.inside { store = c.change.new.store; held = c.change.new.held; foreign = c.forget.new.foreign }) in
+    let is : next ≡ after_change v key part said.1 = λ i. record v { store = said.5 i; parts = said.4 i; foreign = c.forget.ensures i } in
     (part, said.1, sym (ap (λ (x : WorldState). part_of x c.args.call key) c.self.view_is) ∙ there, said.3, c.show.ensures, is ∙ ap (λ (x : WorldState). after_change x key part said.1) c.self.view_is)

@@ -1,4 +1,4 @@
-use Rattle.jc_world.proofs.Common.{◌≡◌, is_some, IsSomeAnd, slice_get, sym, ap, subst, Played, IsOut, Outcome, WorldEvent, Happens, parts_of, world_of, IsDue, IsSoundWorld, OrderedStripes, WorldState}
+use Rattle.jc_world.proofs.Common.{◌∙◌, has_progress, is_misled, without_foreign, ◌≡◌, is_some, IsSomeAnd, slice_get, sym, ap, subst, Played, IsOut, Outcome, WorldEvent, Happens, parts_of, world_of, IsDue, IsSoundWorld, OrderedStripes, WorldState}
 use Rattle.jc_stripe.specs.Phases.{with_reply}
 use Rattle.jc_world.proofs.Holding.{fits_commit, may_commit}
 use Rattle.jc_world.proofs.Phased.{phased_from, CommitsAs, ended, may_end_at}
@@ -29,8 +29,10 @@ returns-clause-ok c =
     let same = c.in_ok-reserve.ensures.same in
     let p = phased_from v c.reserve.new.self c.commit-done.new.self c.stripe_of-number.result (CommitsAs part done) (ap (λ (s : OrderedStripes). s.stripes) same) (ap (λ (s : OrderedStripes). s.order) same) c.commit-done.ensures in
     let number = c.stripe_of-number.result in
-    let next = world_of (record c.self.inside { stripes = c.commit-done.new.self; calls = c.settle-over.new.calls; held = c.take-held.new.held }) in
+    let next = world_of (record c.self.inside { stripes = c.commit-done.new.self; calls = c.settle-over.new.calls; held = c.take-held.new.held; foreign = c.forget.new.foreign }) in
+    let misled : c.is_misled.result ≡ is_misled part = c.is_misled.ensures ∙ ap (has_progress is_misled) c.take-held.ensures.one in
+    let foreign = c.forget.ensures ∙ ap (λ m. without_foreign m key c.is_agreed-agrees.result) c.in_ok-doubt.ensures.ok in
     let R : WorldState → Type 0 = λ x. Happens x (WorldEvent.Commit c.args.call key) (record { outcome = Outcome.Stepped c.shown_of.result; over = c.settle-over.result }) next in
-    subst R c.self.view_is (ended v next c.args.call key part number done c.shown_of.result c.fault_in.result c.settle-over.result _ _ _ own.0 c.stripe_of-number.ensures p c.shown_of.ensures.step c.shown_of.ensures.stripe c.take-held.ensures.parts
-    c.fault_in.ensures c.settle-over.ensures.over
-    (λ i. record v { stripes = c.commit-done.new.self.stripes; order = c.commit-done.new.self.order; calls = c.settle-over.ensures.calls i; parts = parts_of c.take-held.new.held }))
+    subst R c.self.view_is (ended v next c.args.call key part number done c.shown_of.result c.fault_in.result c.settle-over.result _ _ _ c.forget.new.foreign c.is_misled.result c.is_agreed-agrees.result own.0 c.stripe_of-number.ensures p c.shown_of.ensures.step c.shown_of.ensures.stripe c.take-held.ensures.parts
+    c.fault_in.ensures c.settle-over.ensures.over misled c.is_agreed-agrees.ensures foreign
+    (λ i. record v { stripes = c.commit-done.new.self.stripes; order = c.commit-done.new.self.order; calls = c.settle-over.ensures.calls i; parts = parts_of c.take-held.new.held; foreign = c.forget.new.foreign }))

@@ -1,4 +1,4 @@
-use Rattle.jc_world.proofs.Common.{◌≡◌, ℕ, true, cond, IsSomeAnd, slice_get, Some, find, option_copied, sym, refl, ap, ◌∙◌, subst, subst₂, get, insert, stripe_of, Caller, MayBegin, TicketClaim, new_part, new_progress, Outcome, WorldEvent, keeps_open, has_number, settle, over_settled, not_over, BeginsAs, fits, world_of, IsSoundWorld, OrderedStripes, IsPhase, join_key, WorldState, open_call, rules}
+use Rattle.jc_world.proofs.Common.{◌≡◌, ℕ, true, cond, is_none, entry_in, cached_entry, without_foreign, IsSomeAnd, slice_get, Some, find, option_copied, sym, refl, ap, ◌∙◌, subst, subst₂, get, insert, stripe_of, Caller, MayBegin, TicketClaim, new_part, new_progress, Outcome, WorldEvent, keeps_open, has_number, settle, over_settled, not_over, BeginsAs, fits, world_of, IsSoundWorld, OrderedStripes, IsPhase, join_key, WorldState, open_call, rules}
 use Rattle.jc_stripe.specs.Phases.{begun_with, with_reply}
 use Rattle.jc_stripe.specs.declared.begun.Started.{Started}
 use Rattle.jc_stripe.specs.declared.begun.Started.TheVariants as started
@@ -117,8 +117,12 @@ returns-in-Asks-clause-ok c =
     let key = c.args.key.now in
     let ticket = c.in-Asks.ticket in
     let p = ran (goal.at.returns-in-Asks-clause-ok c).After-begin (started.Asks ticket) c.in-Asks.is in
-    let next = world_of (record c.self.inside { stripes = c.begin.new.self; held = c.hold.new.held; joins = c.make_join_room.new.joins }) in
+    let next = world_of (record c.self.inside { stripes = c.begin.new.self; held = c.hold.new.held; joins = c.make_join_room.new.joins; foreign = c.forget.new.foreign }) in
+    let missing : c.is_missing-is_new.result ≡ is_none (cached_entry v key) =
+    c.is_missing-is_new.ensures ∙ (λ i. is_none (entry_in (slice_get (c.in_ok-reserve.ensures.same i).stripes (c.stripe_of-number.ensures i)) key))
+    in
+    let forgotten = c.forget.ensures ∙ ap (without_foreign v.foreign key) missing in
     let put = c.hold.ensures.parts ∙ ap (λ parts. insert parts ticket.reservation.key (new_part (new_progress ticket.reservation.first) ticket.reservation)) c.in_ok-make_room.ensures.parts in
     shown_as _ v next (WorldEvent.Start c.args.call key) _ _ c.self.view_is refl
     (started_ticket v next c.args.call key _ _ ticket c.hold.new.seen _ _ next.parts p c.hold.ensures.shown put
-    (λ i. record v { stripes = c.begin.new.self.stripes; order = c.begin.new.self.order; parts = next.parts; joins = c.in_ok-make_join_room.ensures.joins i }))
+    (λ i. record v { stripes = c.begin.new.self.stripes; order = c.begin.new.self.order; parts = next.parts; joins = c.in_ok-make_join_room.ensures.joins i; foreign = forgotten i }))

@@ -1,0 +1,423 @@
+/* One phase of a call: at the core, and in the table. */
+#include "host.h"
+#include <time.h>
+
+void *refuse(uint32_t code) {
+    switch (code) {
+    case JC_NO_MEMORY: return PyErr_NoMemory();
+    case JC_WRONG_HANDLE: return closed();
+    default: PyErr_Format(PyExc_AssertionError, "the core refused a phase with code %u", (unsigned)code);
+    }
+    return NULL;
+}
+
+void *closed(void) { PyErr_SetString(the.closed_error, "the cache is closed"); return NULL; }
+void *other_value(void) { PyErr_SetString(PyExc_AssertionError, "the core has another value"); return NULL; }
+
+/* Time. */
+
+bool read_clock(Stripes *self, int64_t *now) {
+    *now = 0;
+    if (!self->may_expire) return true;
+    if (self->timer == NULL) {
+        struct timespec time;
+        clock_gettime(CLOCK_MONOTONIC, &time);
+        *now = time.tv_sec * INT64_C(1000000000) + time.tv_nsec;
+        return true;
+    }
+    PyObject *said = PyObject_CallNoArgs(self->timer);
+    if (said == NULL) return false;
+    double seconds = PyFloat_AsDouble(said);
+    Py_DECREF(said);
+    if (seconds == -1.0 && PyErr_Occurred()) return false;
+    if (!(seconds > -4e9 && seconds < 4e9)) { PyErr_SetString(PyExc_ValueError, "the timer says no seconds"); return false; }
+    *now = (int64_t)(seconds * 1e9);
+    return true;
+}
+
+/* Seconds as nanoseconds; None: for ever. */
+bool as_life(PyObject *seconds, int64_t *life) {
+    *life = ETERNAL;
+    if (seconds == NULL || seconds == Py_None) return true;
+    double span = PyFloat_AsDouble(seconds);
+    if (span == -1.0 && PyErr_Occurred()) return false;
+    if (!(span >= 0)) { PyErr_Format(PyExc_ValueError, "a time to live is not negative: %R was given", seconds); return false; }
+    if (span < 9e9) *life = (int64_t)(span * 1e9);
+    return true;
+}
+
+/* A given life of an argument: None says that it is the cache's. */
+bool given_life(PyObject *seconds, int64_t *life) {
+    *life = AS_THE_CACHE_SAYS;
+    return seconds == NULL || seconds == Py_None || as_life(seconds, life);
+}
+
+static void start_life(const Stripes *self, node *n, int64_t life, int64_t now) {
+    if (life == AS_THE_CACHE_SAYS) life = self->life;
+    bool is_eternal = life == ETERNAL || (now > 0 && life >= ETERNAL - now);
+    n->dies = is_eternal ? ETERNAL : now + life;
+    n->used = now;
+}
+
+/* What came and went. */
+
+static bool empty(node *n, const jc_value *version, leavings *left) {
+    if (n == NULL || !n->version || n->version != number_in(version)) return false;
+    n->version = 0;
+    n->is_doubtful = false;
+    drop(left, take(&n->value));
+    return true;
+}
+
+/* Does what the core says came and went with a step of the node's key, which brought this value. */
+static bool follow(Stripes *self, stripe *s, node *n, uint64_t version, PyObject *value, int64_t life, int64_t now, leavings *left) {
+    uint32_t moves = s->out.moves;
+    if (moves & JC_EVICTED) {
+        uint64_t number = 0;
+        memcpy(&number, s->out.victim.bytes, EIGHT);
+        node *victim = has_node(s, number) ? s->nodes[slot_of(number)] : NULL;
+        if (!empty(victim, &s->out.evicted, left)) return false;
+        if (victim != n) release(s, victim, left);
+    }
+    if (moves & JC_LEFT && !empty(n, &s->out.left, left)) return false;
+    if (moves & JC_KEPT) {
+        n->value = added(value);
+        n->version = version;
+        if (self->may_expire) start_life(self, n, life, now);
+    }
+    return true;
+}
+
+/* What the core's reply stands for: the value is the node's, before the step, or the loaded one. */
+static bool replied(const stripe *s, const node *n, uint64_t loaded_version, PyObject *loaded, answer *to) {
+    to->reply = s->out.reply;
+    to->value = NULL;
+    if (s->out.reply != JC_VALUE) return true;
+    uint64_t version = number_in(&s->out.value);
+    if (version != 0 && version == n->version) to->value = added(n->value);
+    else if (version != 0 && version == loaded_version) to->value = added(loaded);
+    return to->value != NULL;
+}
+
+/* Sessions: one for each call that is out. */
+
+static uint32_t free_session(stripe *s) { return s->session_count > 0 ? s->sessions[s->session_count - 1] : s->last_session + 1; }
+
+static bool has_session_room(stripe *s) {
+    if (s->out_count + s->session_count < s->sessions_room) return true;
+    size_t room = s->sessions_room == 0 ? 16 : s->sessions_room * 2;
+    uint32_t *sessions = PyMem_Realloc(s->sessions, room * sizeof *sessions);
+    if (sessions == NULL) return false;
+    s->sessions = sessions;
+    s->sessions_room = room;
+    return true;
+}
+
+static Call *take_out(Stripes *self, stripe *s, node *n, uint32_t session, uint64_t version, PyObject *value, int64_t life) {
+    Call *call = self->spare;
+    self->spare = NULL;
+    if (s->session_count > 0) s->session_count--; else s->last_session = session;
+    s->out_count++;
+    n->pins++;
+    call->cache = (Stripes *)added((PyObject *)self);
+    call->seat = (seat){.at = s, .node = n, .number = s->out.call, .session = session};
+    call->next = s->out.next;
+    call->version = version;
+    call->life = life;
+    call->may_load = s->out.next == JC_RUN_PROCESSOR && s->out.code == 1;
+    call->key = added(n->key);
+    call->value = added(value);
+    if (n->version) call->cached = added(n->value);
+    call->flight->number = s->out.number;
+    if (call->next != JC_JOINED) n->flight = (Flight *)added((PyObject *)call->flight);
+    return call;
+}
+
+/* First phases. */
+
+/* Uncaches what has expired. False: it is blocked. */
+bool expire(Stripes *self, stripe *s, node *n, int64_t now, leavings *left) {
+    uint64_t number = n->number;
+    const uint8_t *key = (const uint8_t *)&number;
+    if (n->flight != NULL) return false;
+    if (jc_begin(&s->desk, free_session(s), JC_CLEAR_KEY, key, EIGHT, key, 0, key, 0, &s->out) != JC_OK || s->out.next != JC_DONE) return false;
+    return follow(self, s, n, 0, NULL, 0, now, left);
+}
+
+static void blocked(ended *end, stripe *s, Flight *flight) {
+    end->kind = BLOCKED;
+    end->at = s;
+    end->flight = (Flight *)added((PyObject *)flight);
+    end->changes = s->changes;
+}
+
+static uint32_t begin_in_core(stripe *s, const node *n, uint32_t op, bool has_value, uint64_t version, uint64_t expected) {
+    uint64_t number = n->number;
+    const uint8_t *key = (const uint8_t *)&number, *brought = (const uint8_t *)&version, *old = (const uint8_t *)&expected;
+    size_t length = has_value ? EIGHT : 0;
+    if (op == JC_REMOVE_IF || op == JC_REPLACE_IF)
+        return jc_begin(&s->desk, free_session(s), op, key, EIGHT, old, EIGHT, brought, length, &s->out);
+    return jc_begin(&s->desk, free_session(s), op, key, EIGHT, brought, length, key, 0, &s->out);
+}
+
+/* The first phase of a call of an operation, at a node that was found. */
+static void begin_at(Stripes *self, stripe *s, node *n, uint32_t op, PyObject *value, uint64_t expected, int64_t life, int64_t now,
+                     leavings *left, ended *end) {
+    uint32_t session = free_session(s);
+    uint64_t version = value != NULL ? ++s->last_version : 0;
+    uint32_t code = begin_in_core(s, n, op, value != NULL, version, expected);
+    if (code != JC_OK) {
+        refuse(code);
+    } else if (s->out.next == JC_DONE) {
+        if (replied(s, n, 0, NULL, &end->answer) && follow(self, s, n, version, value, life, now, left)) end->kind = DONE;
+        else other_value();
+        if (end->kind == DONE && self->idle && op == JC_GET && n->version) n->used = now;
+    } else if (s->out.next == JC_REFUSED) {
+        if (s->out.reply == JC_HISTORY_FULL) PyErr_SetString(PyExc_AssertionError, "the cache has counted 2^64 calls");
+        else blocked(end, s, s->out.reply == JC_BUSY || s->out.reply == JC_TOO_MANY_JOINERS ? n->flight : NULL);
+    } else {
+        Flight *flight = n->flight;
+        end->call = take_out(self, s, n, session, version, value, life);
+        end->kind = OUT;
+        if (end->call->next == JC_JOINED) {
+            drop(left, end->call->flight);
+            end->call->flight = (Flight *)added((PyObject *)flight);
+        }
+    }
+    release(s, n, left);
+}
+
+/* Whether the cached value of a node is the old one that a call names. 1: the node has to be sought anew, since a comparison ran. -1: it
+ * raised. */
+static int compare(node *n, PyObject *old, uint64_t *compared, bool *is_equal) {
+    if (n->version == *compared) return 0;
+    PyObject *cached = added(n->value);
+    *compared = n->version;
+    int said = PyObject_RichCompareBool(cached, old, Py_EQ);
+    Py_DECREF(cached);
+    *is_equal = said > 0;
+    return said < 0 ? -1 : 1;
+}
+
+/* The first phase of a call. */
+void begin(Stripes *self, uint32_t op, PyObject *key, uint64_t hash, PyObject *value, PyObject *old, int64_t life, ended *end) {
+    stripe *s = stripe_of(self, hash);
+    uint64_t compared = 0;
+    bool is_equal = false;
+    leavings left = {.count = 0};
+    memset(end, 0, sizeof *end);
+    for (;;) {
+        int64_t now;
+        node *n;
+        if (!has_spare(self) || !read_clock(self, &now) || !find(s, key, hash, &n)) return;
+        if (self->spare == NULL) continue;   /* what ran meanwhile has taken it */
+        if (s->is_closed) { closed(); return; }
+        bool is_dead = n != NULL && has_expired(self, n, now);
+        if (old != NULL && n != NULL && n->version && !is_dead) {
+            int said = compare(n, old, &compared, &is_equal);
+            if (said < 0) return;
+            if (said > 0) continue;
+        }
+        if (!has_session_room(s) || (n == NULL && (n = add_node(s, key, hash)) == NULL)) { PyErr_NoMemory(); return; }
+        if (!is_dead || expire(self, s, n, now, &left)) begin_at(self, s, n, op, value, is_equal ? compared : 0, life, now, &left, end);
+        else if (op == JC_CONTAINS_KEY) *end = (ended){.kind = DONE, .answer = {.reply = JC_NO}};   /* it waits for nobody */
+        else blocked(end, s, n->flight);
+        drop_all(&left);
+        return;
+    }
+}
+
+/* A get that finds its entry: a new reference; or NULL, and nothing was done. */
+PyObject *hit(Stripes *self, PyObject *key, uint64_t hash) {
+    stripe *s = stripe_of(self, hash);
+    int64_t now;
+    node *n;
+    if (!read_clock(self, &now) || !find(s, key, hash, &n)) return NULL;
+    if (s->is_closed) return closed();
+    if (n == NULL || !n->version || has_expired(self, n, now)) return NULL;
+    if (jc_hit(&s->desk, AT_ONCE, (const uint8_t *)&n->number, EIGHT, &s->hit) != JC_OK) return NULL;
+    if (number_in(&s->hit) != n->version) return other_value();
+    n->used = now;
+    return added(n->value);
+}
+
+/* Last phases. */
+
+static void leave(seat *seat, leavings *left, node **all) {
+    stripe *s = seat->at;
+    node *n = seat->node;
+    seat->node = NULL;
+    s->changes++;
+    s->out_count--;
+    s->sessions[s->session_count++] = seat->session;
+    n->pins--;
+    release(s, n, left);
+    shut_if_idle(s, all);
+}
+
+static uint32_t pick_up_now(const seat *seat, uint64_t load) {
+    uint64_t number = seat->node->number;
+    return jc_pick_up(&seat->at->desk, seat->session, seat->number, (const uint8_t *)&number, EIGHT, load, &seat->at->out);
+}
+
+/* Gives the key back, and wakes who waits for it. */
+static void end_reservation(Call *call) {
+    leavings left = {.count = 0};
+    node *all = NULL;
+    Flight *flight = call->flight;
+    call->seat.node->flight = NULL;
+    drop(&left, flight);
+    flight->is_over = true;
+    while (flight->abandoned != NULL) {
+        abandoned *joined = flight->abandoned;
+        flight->abandoned = joined->next;
+        pick_up_now(&joined->seat, flight->number);
+        leave(&joined->seat, &left, &all);
+        PyMem_Free(joined);
+    }
+    leave(&call->seat, &left, &all);
+    PyObject *waiters = take(&flight->waiters), *room = take(&call->seat.at->waiters);
+    drop_all(&left);
+    free_nodes(all);
+    wake(waiters);
+    wake(room);
+}
+
+bool is_out(const Call *call, uint32_t first, uint32_t last) {
+    if (call->seat.node != NULL && call->next >= first && call->next <= last) return true;
+    PyErr_SetString(PyExc_RuntimeError, "the call is over, or is to be ended otherwise");
+    return false;
+}
+
+/* What a last phase brings in. */
+typedef struct brought { uint64_t version; PyObject *value; int64_t life, now; bool is_unknown; } brought;
+
+/* The end of a last phase which the core has answered: what it replied, and what came and went. */
+static bool end_call(Call *call, uint32_t code, const brought *with, uint64_t loaded_version, PyObject *loaded, answer *to) {
+    leavings left = {.count = 0};
+    stripe *s = call->seat.at;
+    node *n = call->seat.node;
+    if (code != JC_OK) return refuse(code);
+    bool is_right = replied(s, n, loaded_version, loaded, to);
+    is_right = follow(call->cache, s, n, with->version, with->value, with->life, with->now, &left) && is_right;
+    if (with->is_unknown && n->version) n->is_doubtful = true;
+    Stripes *cache = (Stripes *)added((PyObject *)call->cache);
+    end_reservation(call);
+    drop_all(&left);
+    Py_DECREF(cache);
+    if (is_right) return true;
+    Py_CLEAR(to->value);
+    return other_value();
+}
+
+/* The last phase of a call whose loader was asked: NULL as the value says that it found nothing. */
+bool commit_load(Call *call, PyObject *value, PyObject *error, int64_t life, answer *to) {
+    brought with = {.value = value, .life = life};
+    if (!read_clock(call->cache, &with.now) || !is_out(call, JC_ASK_LOADER, JC_ASK_LOADER)) return false;
+    stripe *s = call->seat.at;
+    Flight *flight = call->flight;
+    if (value != NULL && error == NULL) with.version = ++s->last_version;
+    flight->version = with.version;
+    flight->value = with.version ? added(value) : NULL;
+    flight->error = added(error);
+    uint32_t answer = error != NULL ? JC_FAILED : with.version ? JC_FOUND : JC_NOTHING;
+    uint32_t code = jc_commit_load(&s->desk, flight->number, answer, 1, (const uint8_t *)&with.version, with.version ? EIGHT : 0, &s->out);
+    if (code != JC_OK) {
+        Py_CLEAR(flight->value);
+        Py_CLEAR(flight->error);
+    }
+    return end_call(call, code, &with, with.version, value, to);
+}
+
+/* The last phase of a call whose writer was asked: JC_WRITTEN, JC_FAILED or UNKNOWN. */
+bool commit_write(Call *call, uint32_t outcome, answer *to) {
+    brought with = {.version = call->version, .value = call->value, .life = call->life, .is_unknown = outcome == UNKNOWN};
+    if (!read_clock(call->cache, &with.now) || !is_out(call, JC_HAVE_WRITTEN, JC_HAVE_DELETED)) return false;
+    stripe *s = call->seat.at;
+    uint32_t code = jc_commit_write(&s->desk, call->flight->number, outcome == UNKNOWN ? JC_FAILED : outcome, 1, &s->out);
+    return end_call(call, code, &with, 0, NULL, to);
+}
+
+bool commit_process(Call *call, const jc_processed *done, PyObject *value, uint64_t version, int64_t life, bool is_unknown, answer *to) {
+    brought with = {.version = version, .value = value, .life = life, .is_unknown = is_unknown};
+    if (!read_clock(call->cache, &with.now) || !is_out(call, JC_RUN_PROCESSOR, JC_RUN_PROCESSOR)) return false;
+    stripe *s = call->seat.at;
+    uint32_t code = jc_commit_process(&s->desk, call->flight->number, done, &s->out);
+    return end_call(call, code, &with, 0, NULL, to);
+}
+
+bool withdraw(Call *call) {
+    if (!is_out(call, JC_ASK_LOADER, JC_RUN_PROCESSOR)) return false;
+    uint32_t code = jc_withdraw(&call->seat.at->desk, call->flight->number);
+    if (code != JC_OK) return refuse(code);
+    end_reservation(call);
+    return true;
+}
+
+/* Ends a call that nobody ends: it has failed, and what its writer or its processor has done to the store is unknown. No clock is read. */
+void commit_forgotten(Call *call) {
+    const brought nothing = {.is_unknown = call->next != JC_ASK_LOADER};
+    answer said = {0, NULL};
+    stripe *s = call->seat.at;
+    uint64_t ticket = call->flight->number;
+    uint32_t code;
+    jc_processed failed;
+    switch (call->next) {
+    case JC_ASK_LOADER:
+        code = jc_commit_load(&s->desk, ticket, JC_FAILED, 1, (const uint8_t *)&ticket, 0, &s->out);
+        break;
+    case JC_RUN_PROCESSOR:
+        memset(&failed, 0, sizeof failed);
+        failed.effect = JC_PROCESS_FAILED;
+        failed.code = 1;
+        code = jc_commit_process(&s->desk, ticket, &failed, &s->out);
+        break;
+    default:
+        code = jc_commit_write(&s->desk, ticket, JC_FAILED, 1, &s->out);
+    }
+    if (end_call(call, code, &nothing, 0, NULL, &said)) Py_XDECREF(said.value);
+}
+
+/* Joins. */
+
+static void leave_alone(Call *call) {
+    leavings left = {.count = 0};
+    node *all = NULL;
+    leave(&call->seat, &left, &all);
+    PyObject *room = take(&call->seat.at->waiters);
+    drop_all(&left);
+    free_nodes(all);
+    wake(room);
+}
+
+/* Of a load that was joined and is over: what it replies, or that it is to begin anew. */
+bool pick_up(Call *call, bool *is_done, answer *to) {
+    if (!is_out(call, JC_JOINED, JC_JOINED)) return false;
+    if (!call->flight->is_over) { PyErr_SetString(PyExc_RuntimeError, "the load is not over"); return false; }
+    uint32_t code = pick_up_now(&call->seat, call->flight->number);
+    if (code != JC_OK) return refuse(code);
+    const jc_out *out = &call->seat.at->out;
+    *is_done = out->next == JC_DONE;
+    *to = (answer){.reply = out->reply};
+    bool has_value = *is_done && out->reply == JC_VALUE;
+    bool is_right = !has_value || number_in(&out->value) == call->flight->version;
+    leave_alone(call);
+    if (!is_right) return other_value();
+    if (has_value) to->value = added(call->flight->value);
+    return true;
+}
+
+/* Nobody waits for a load that was joined: it is picked up when the load is over. False: out of memory. */
+bool abandon(Call *call) {
+    if (call->flight->is_over) {
+        pick_up_now(&call->seat, call->flight->number);
+        leave_alone(call);
+        return true;
+    }
+    abandoned *joined = PyMem_Malloc(sizeof *joined);
+    if (joined == NULL) return false;
+    *joined = (abandoned){.seat = call->seat, .next = call->flight->abandoned};
+    call->flight->abandoned = joined;
+    call->seat.node = NULL;
+    return true;
+}
