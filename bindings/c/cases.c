@@ -128,27 +128,27 @@ static void call(void) {
     snprintf(found, TEXT, "%.*s", out.reply == JC_VALUE ? (int)out.value.len : TEXT, out.reply == JC_VALUE ? (char *)out.value.bytes : REPLIES[out.reply]);
 }
 
+/* What has been counted. */
 static void count(void) {
+    static const char *const NAMES[] = {"hits", "misses", "puts", "removals", "evictions"};
     jc_statistics it;
     CHECK(jc_statistics_of(&desk, &it) == JC_OK);
-    const char *const names[] = {"hits", "misses", "puts", "removals", "evictions"};
     const uint64_t counts[] = {it.hits, it.misses, it.puts, it.removals, it.evictions};
     for (size_t i = 0; i < 5; i++) {
-        char number[TEXT];
-        snprintf(number, TEXT, "%s %u", names[i], (unsigned)counts[i]);
-        if (counts[i]) {
-            append(found, " ", number, NULL);
-        }
+        char text[TEXT];
+        snprintf(text, TEXT, "%s %u", NAMES[i], (unsigned)counts[i]);
+        append(found, counts[i] ? " " : "", counts[i] ? text : "", NULL);
     }
 }
 
 /* The entries of the store, or of the cache. */
 static void look(bool is_store) {
     for (char key[2] = "a"; *key <= 'z'; ++*key) {
-        char text[JC_VALUE_MAX + 1] = "";
+        char text[TEXT] = "";
         jc_value value = {0};
-        if (is_store ? *store[*key - 'a'] != 0 : jc_peek(&desk, BYTES(key), &value) == JC_OK) {
-            snprintf(text, sizeof text, "%.*s", (int)value.len, (const char *)value.bytes);
+        bool is_cached = jc_peek(&desk, BYTES(key), &value) == JC_OK;
+        snprintf(text, TEXT, "%.*s", (int)value.len, (const char *)value.bytes);
+        if (is_store ? *store[*key - 'a'] : is_cached) {
             append(found, " ", key, is_store ? store[*key - 'a'] : text);
         }
     }
@@ -183,8 +183,13 @@ static bool step(const char *line) {
     return is_count || is_look;
 }
 
-/* Plays the lines of a case up to the first difference. */
-static void play(const char *path, size_t from, size_t to) {
+/* Plays the lines of a case up to the first difference: LEFT_OUT, or the place of what keeps it from being played. */
+static size_t play(const char *path, size_t from, size_t to) {
+    for (size_t i = from * LEFT_OUT; i < to * LEFT_OUT; i++) {
+        if (strstr(lines[i / LEFT_OUT], left_out[i % LEFT_OUT].text)) {
+            return i % LEFT_OUT;
+        }
+    }
     const char *options = strncmp(lines[from], "with ", 5) == 0 ? lines[from] : "", *capacity = find(options, "capacity ");
     memset(store, 0, sizeof store);
     desk = (jc_desk){0};
@@ -212,33 +217,27 @@ static void play(const char *path, size_t from, size_t to) {
         }
     }
     CHECK(!*load_next && !*write_next && jc_close(&desk) == JC_OK);
+    return LEFT_OUT;
 }
 
 /* Plays what it can of a file, and says how many cases that were. */
 static unsigned play_file(const char *path) {
     unsigned played = 0;
-    size_t len = 0, from = 0, lack = LEFT_OUT;
+    size_t len = 0, from = 0;
     FILE *file = fopen(path, "r");
     CHECK(file);
-    for (char line[TEXT]; fgets(line, TEXT, file);) {
+    for (char line[TEXT]; fgets(line, TEXT, file); len++) {
         CHECK(len < LINES - 1);
         line[strcspn(line, "\n")] = 0;
-        strcpy(lines[len++], line + strspn(line, " "));
+        strcpy(lines[len], line + strspn(line, " "));
     }
     fclose(file);
     strcpy(lines[len], "case ");
     for (size_t at = 0; at <= len; at++) {
-        for (size_t i = 0; from && lack == LEFT_OUT && i < LEFT_OUT; i++) {
-            lack = strstr(lines[at], left_out[i].text) && strncmp(lines[at], "case ", 5) != 0 ? i : lack;
-        }
         if (strncmp(lines[at], "case ", 5) == 0) {
-            if (lack < LEFT_OUT) {
-                left_out[lack].cases++;
-            } else if (from) {
-                play(path, from, at);
-                played++;
-            }
-            lack = LEFT_OUT;
+            size_t lack = from ? play(path, from, at) : LEFT_OUT;
+            played += from && lack == LEFT_OUT;
+            left_out[lack % LEFT_OUT].cases += lack < LEFT_OUT;
             from = at + 1;
         }
     }

@@ -73,7 +73,7 @@ class Player:
     sleeps_in = waiting
 
     def __init__(self, options):
-        self.stored, self.load_next, self.write_next, self.before, self.now = {}, [], [], None, 0
+        self.stored, self.load_next, self.write_next, self.now = {}, [], [], 0
         self.own, self.workers, self.mine = Worker(), {}, threading.local()
         numbers = {name: int(number) for name, number in zip(options, options[1:]) if number.isdigit()}
         self.cache = self.make_cache(stripes=1, read_through='read' in options, write_through='write' in options, timer=lambda: self.now,
@@ -93,8 +93,6 @@ class Player:
         return self.load_many([key]).get(key)
 
     def load_many(self, keys):
-        if self.before is not None:
-            return self.before
         answer, self.load_next = self.load_next, []
         found = pairs(answer) if answer else dict(self.stored)
         self.ask('load ' + ' '.join(keys))
@@ -162,10 +160,10 @@ class Player:
         self.stored.update(pairs(words))
 
     def do_cache(self, *words):
-        for key, value in pairs(words).items():
-            self.before = {key: value}
-            self.call('load_many', [key])
-        self.before = None
+        for word in words:
+            self.load_next = ['finds', word]
+            self.call('load_many', [word[0]])
+        self.own.asks = []
 
     def do_load(self, *words):
         self.load_next = list(words)

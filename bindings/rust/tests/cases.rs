@@ -104,8 +104,6 @@ struct Store {
     /// What they answer next.
     load_next: Mutex<Vec<Word>>,
     write_next: Mutex<Vec<Word>>,
-    /// What is loaded before the case begins.
-    before: Mutex<Option<Word>>,
 }
 
 #[derive(Debug)]
@@ -119,9 +117,6 @@ impl Loader<Word, Word> for Store {
     }
 
     fn load_all(&self, keys: &[&Word]) -> Result<Vec<Option<Word>>, Broken> {
-        if let Some(value) = self.before.lock().unwrap().take() {
-            return Ok(vec![Some(value)]);
-        }
         let answer = std::mem::take(&mut *self.load_next.lock().unwrap());
         let found = match answer.as_slice() {
             [] => self.stored.lock().unwrap().clone(),
@@ -206,54 +201,37 @@ trait Shown {
     fn shown(self) -> String;
 }
 
-impl Shown for () {
-    fn shown(self) -> String {
-        "ok".to_string()
-    }
+macro_rules! shown {
+    ($($kind:ty, $it:ident => $text:expr;)*) => {
+        $(impl Shown for $kind {
+            fn shown(self) -> String {
+                let $it = self;
+                $text
+            }
+        })*
+    };
 }
 
-impl Shown for bool {
-    fn shown(self) -> String {
-        self.to_string()
-    }
-}
-
-impl Shown for Option<Arc<Word>> {
-    fn shown(self) -> String {
-        self.map_or("none".to_string(), |value| value.to_string())
-    }
-}
-
-impl Shown for HashMap<Word, Arc<Word>> {
-    fn shown(self) -> String {
-        shown(
-            &self.into_iter().map(|(key, value)| (key, *value)).collect(),
-            "none",
-        )
-    }
-}
-
-impl Shown for Failed {
-    fn shown(self) -> String {
-        match self {
-            Error::Loader(_) => "loader failed".to_string(),
-            Error::Writer(_) => "writer failed".to_string(),
-            Error::Processor(error) => error.to_string(),
-            Error::Closed => "closed".to_string(),
-            other => format!("{other:?}"),
-        }
-    }
-}
-
-impl Shown for BulkError<Arc<Word>, Broken, Broken> {
-    fn shown(self) -> String {
-        let mut failed: Vec<_> = self.failed.iter().map(|key| key.to_string()).collect();
+shown! {
+    (), _done => "ok".to_string();
+    bool, flag => flag.to_string();
+    Option<Arc<Word>>, value => value.map_or("none".to_string(), |value| value.to_string());
+    HashMap<Word, Arc<Word>>, found => shown(&found.into_iter().map(|(key, value)| (key, *value)).collect(), "none");
+    Failed, error => match error {
+        Error::Loader(_) => "loader failed".to_string(),
+        Error::Writer(_) => "writer failed".to_string(),
+        Error::Processor(error) => error.to_string(),
+        Error::Closed => "closed".to_string(),
+        other => format!("{other:?}"),
+    };
+    BulkError<Arc<Word>, Broken, Broken>, stopped => {
+        let mut failed: Vec<_> = stopped.failed.iter().map(|key| key.to_string()).collect();
         failed.sort();
-        match self.error {
+        match stopped.error {
             Error::Closed => "closed".to_string(),
             error => format!("{} at {}", error.shown(), or(&failed, "no key")),
         }
-    }
+    };
 }
 
 impl<T: Shown, E: Shown> Shown for Result<T, E> {
@@ -363,10 +341,10 @@ impl Player {
             "clock" => self.now.store(rest[0].parse().unwrap(), SeqCst),
             "cache" => {
                 for pair in rest {
-                    let (key, value) = pair.split_once('=').unwrap();
-                    *self.store.before.lock().unwrap() = Some(value);
-                    self.cache.load_all([key], false).unwrap();
+                    *self.store.load_next.lock().unwrap() = vec!["finds", pair];
+                    self.cache.load_all([&pair[..1]], false).unwrap();
                 }
+                WORKER.with_borrow(|own| own.asks.lock().unwrap().clear());
             }
             "stored" => return Some(shown(&self.store.stored.lock().unwrap(), "nothing")),
             "cached" => {

@@ -17,14 +17,12 @@ import java.util.LinkedHashMap;
 import java.util.LinkedHashSet;
 import java.util.List;
 import java.util.Map;
-import java.util.Objects;
 import java.util.Set;
 import java.util.TreeMap;
 import java.util.concurrent.TimeUnit;
 import java.util.stream.Collectors;
 import javax.cache.Cache;
 import javax.cache.expiry.Duration;
-import javax.cache.expiry.EternalExpiryPolicy;
 import javax.cache.expiry.ModifiedExpiryPolicy;
 import javax.cache.expiry.TouchedExpiryPolicy;
 import javax.cache.integration.CacheLoader;
@@ -33,7 +31,6 @@ import javax.cache.integration.CacheWriter;
 import javax.cache.integration.CacheWriterException;
 import javax.cache.integration.CompletionListenerFuture;
 import javax.cache.processor.EntryProcessorException;
-import javax.cache.processor.EntryProcessorResult;
 import javax.cache.processor.MutableEntry;
 import javax.management.ObjectName;
 
@@ -106,10 +103,9 @@ final class Cases {
         final ThreadLocal<Worker> mine = new ThreadLocal<>();
         /** Whose loadAll it is that threads of the cache's own make. */
         Worker loading = own;
-        /** What they answer next, and what is loaded before the case begins. */
+        /** What they answer next. */
         List<String> loadNext = List.of();
         List<String> writeNext = List.of();
-        Map<String, String> before;
         long now;
 
         Player(List<String> options) {
@@ -146,9 +142,6 @@ final class Cases {
 
         @Override
         public Map<String, String> loadAll(Iterable<? extends String> keys) {
-            if (before != null) {
-                return before;
-            }
             List<String> answer = loadNext;
             loadNext = List.of();
             Map<String, String> found = answer.isEmpty() ? new HashMap<>(held) : pairs(answer);
@@ -313,11 +306,11 @@ final class Cases {
                 case "with": return "";
                 case "store": held.putAll(pairs(rest)); return "";
                 case "cache":
-                    for (Map.Entry<String, String> entry : pairs(rest).entrySet()) {
-                        before = Map.of(entry.getKey(), entry.getValue());
-                        loadMany(new HashSet<>(before.keySet()));
+                    for (String entry : rest) {
+                        loadNext = List.of("finds", entry);
+                        loadMany(new HashSet<>(pairs(List.of(entry)).keySet()));
                     }
-                    before = null;
+                    own.asks.clear();
                     return "";
                 case "load": loadNext = rest; return "";
                 case "write": writeNext = rest; return "";
