@@ -79,7 +79,7 @@ HasLengths f = (is_inline_value f.value ≡ true) × (is_inline_value f.other �
 abbrev pub ShowsEvent : Event → FlatEvent → Type 0
 ShowsEvent (Step caller op key out shared reply) f =
     (f.kind ≡ JC_EVENT_STEP) × (f.session ≡ caller.session) × (f.call ≡ caller.call)
-        × (op_of_number f.op (inline_value f.value) (inline_value f.other) ≡ op)
+    × (op_of_number f.op (inline_value f.value) (inline_value f.other) ≡ op)
     × HoldsKey f.key key × (read_outside f.outside ≡ out) × (shared_in f ≡ shared)
     × ShowsReply reply f.reply f.reply_code f.replied × HasKnownNumbers f
 ShowsEvent (Evict key cause) f = (f.kind ≡ JC_EVENT_EVICTION) × HoldsKey f.key key × (read_cause f.cause ≡ cause)
@@ -138,7 +138,7 @@ KeepsBesideEvent (Evict key cause) old new =
 abbrev pub read_reply : ℕ → ℕ → Bytes → Reply
 read_reply n code value =
     if n == JC_REPLY_UNIT then reply.Unit else (if n == JC_REPLY_NO then reply.Flag false
-        else (if n == JC_REPLY_YES then reply.Flag true
+    else (if n == JC_REPLY_YES then reply.Flag true
     else (if n == JC_REPLY_NULL then reply.Value None else (if n == JC_REPLY_VALUE then reply.Value (Some value)
     else (if n == JC_REPLY_LOADER_FAILED then reply.Fault (refusal.LoaderFailed code)
     else (if n == JC_REPLY_WRITER_FAILED then reply.Fault (refusal.WriterFailed code)
@@ -158,7 +158,7 @@ outside_fits p = ((p.effect == JC_EFFECT_NOT_RUN) || process_fits p) && others_f
 abbrev pub step_fits : FlatEvent → Bool
 step_fits f =
     is_inline_value f.value && is_inline_value f.other && op_fits f.op (inline_value f.value) (inline_value f.other)
-        && outside_fits f.outside && is_inline_value f.replied
+    && outside_fits f.outside && is_inline_value f.replied
     && nat_le f.reply JC_REPLY_PROCESSOR_FAILED
 
 abbrev pub event_fits : FlatEvent → Bool

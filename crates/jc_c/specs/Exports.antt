@@ -74,13 +74,18 @@ pub record PicksUpForC (old : DeskState) (join : JoinClaim) (before out : PhaseO
 -- 2. The contents of a desk.
 
 abbrev pub counts_written : Statistics → CountsOut
-counts_written counts = record { hits = counts.hits; misses = counts.misses; puts = counts.puts; removals = counts.removals;
-    evictions = counts.evictions }
+counts_written counts = record {
+  hits = counts.hits;
+  misses = counts.misses;
+  puts = counts.puts;
+  removals = counts.removals;
+  evictions = counts.evictions;
+}
 
 abbrev pub opens_fit : CacheShape → ℕ → List InlineEntry → Bool
 opens_fit shape number entries =
     (shape.out_size == JC_OUT_SIZE) && list_all entry_fits entries && is_open_shape (config_of shape) number
-        && are_contents (config_of shape) number (inline_entries entries)
+    && are_contents (config_of shape) number (inline_entries entries)
 
 pub record ListsEntries (entries : List (Bytes × Bytes)) (old new : List InlineEntry) : Type 0 where
   pub written : map inline_entry (take (length entries) new) ≡ take (length new) entries

@@ -54,7 +54,7 @@ value_fits bytes = nat_le (length bytes) VALUE_MAX
 abbrev pub takes_no_value : ℕ → Bool
 takes_no_value n =
     (n == JC_OP_GET) || (n == JC_OP_CONTAINS_KEY) || (n == JC_OP_REMOVE) || (n == JC_OP_GET_AND_REMOVE)
-        || (n == JC_OP_CLEAR_KEY) || (n == JC_OP_LOAD) || (n == JC_OP_RELOAD) || (n == JC_OP_INVOKE)
+    || (n == JC_OP_CLEAR_KEY) || (n == JC_OP_LOAD) || (n == JC_OP_RELOAD) || (n == JC_OP_INVOKE)
 
 abbrev pub takes_value : ℕ → Bool
 takes_value n = (n == JC_OP_PUT) || (n == JC_OP_GET_AND_PUT) || (n == JC_OP_PUT_IF_ABSENT) || (n == JC_OP_REMOVE_IF)
@@ -82,7 +82,7 @@ op_of_number n value other =
 abbrev pub load_of_number : ℕ → ℕ → Bytes → LoadAnswer
 load_of_number n code value =
     if n == JC_ANSWER_FOUND then load.Found value else (if n == JC_ANSWER_NOTHING then load.Nothing
-        else (if n == JC_ANSWER_FAILED then load.Failed code else load.NotAsked))
+    else (if n == JC_ANSWER_FAILED then load.Failed code else load.NotAsked))
 
 abbrev pub load_number_fits : ℕ → Bool
 load_number_fits n = (n == JC_ANSWER_FOUND) || (n == JC_ANSWER_NOTHING) || (n == JC_ANSWER_FAILED)
@@ -116,8 +116,11 @@ abbrev pub process_fits : ProcessorAnswers → Bool
 process_fits p = is_inline_value p.set && (not p.has_outcome || is_inline_value p.outcome) && effect_number_fits p.effect
 
 abbrev pub answers_beside : ProcessorAnswers → ProcessAnswer → Out
-answers_beside p process = record { load = load_of_number p.load p.load_code (inline_value p.loaded);
-    write = write_of_number p.write p.write_code; process = process }
+answers_beside p process = record {
+  load = load_of_number p.load p.load_code (inline_value p.loaded);
+  write = write_of_number p.write p.write_code;
+  process = process;
+}
 
 abbrev pub others_fit : ProcessorAnswers → Bool
 others_fit p = is_inline_value p.loaded && ((p.load == JC_ANSWER_NOT_ASKED) || load_number_fits p.load)
