@@ -156,8 +156,8 @@ static PyObject *take(PyObject **place) { PyObject *it = *place; *place = NULL; 
 
 static void *refuse(uint32_t code) {
     switch (code) {
-    case JC_NO_MEMORY: return PyErr_NoMemory();
-    case JC_WRONG_HANDLE: PyErr_SetString(the.closed_error, "the cache is closed"); break;
+    case JC_CODE_NO_MEMORY: return PyErr_NoMemory();
+    case JC_CODE_WRONG_HANDLE: PyErr_SetString(the.closed_error, "the cache is closed"); break;
     default: PyErr_Format(PyExc_AssertionError, "the core refused a phase with code %u", (unsigned)code);
     }
     return NULL;
@@ -340,15 +340,15 @@ static bool empty(node *n, const jc_value *version, leavings *left) {
 /* Does what the core says came and went with a step of the node's key, which brought this value. */
 static bool follow(Stripes *self, stripe *s, node *n, uint64_t version, PyObject *value, int64_t life, int64_t now, leavings *left) {
     uint32_t moves = s->out.moves;
-    if (moves & JC_EVICTED) {
+    if (moves & JC_MOVE_EVICTED) {
         uint64_t number = 0;
         memcpy(&number, s->out.victim.bytes, EIGHT);
         node *victim = has_node(s, number) ? s->nodes[slot_of(number)] : NULL;
         if (!empty(victim, &s->out.evicted, left)) return false;
         if (victim != n) release(s, victim, left);
     }
-    if (moves & JC_LEFT && !empty(n, &s->out.left, left)) return false;
-    if (moves & JC_KEPT) {
+    if (moves & JC_MOVE_REMOVED && !empty(n, &s->out.left, left)) return false;
+    if (moves & JC_MOVE_STORED) {
         Py_INCREF(value);
         n->value = value;
         n->version = version;
@@ -360,7 +360,7 @@ static bool follow(Stripes *self, stripe *s, node *n, uint64_t version, PyObject
 /* What the core's reply stands for, a new reference or NULL: the value is the node's, before the step, or the loaded one. */
 static bool replied(const stripe *s, const node *n, uint64_t loaded_version, PyObject *loaded, PyObject **value) {
     *value = NULL;
-    if (s->out.reply != JC_VALUE) return true;
+    if (s->out.reply != JC_REPLY_VALUE) return true;
     uint64_t version = number_in(&s->out.value);
     if (version != 0 && version == n->version) *value = n->value;
     else if (version != 0 && version == loaded_version) *value = loaded;
@@ -406,7 +406,7 @@ static Call *take_out(Stripes *self, stripe *s, node *n, uint32_t session, uint6
     call->next = s->out.next;
     call->version = version;
     call->life = life;
-    call->may_load = s->out.next == JC_RUN_PROCESSOR && s->out.code == 1;
+    call->may_load = s->out.next == JC_ASK_PROCESS && s->out.code == 1;
     Py_INCREF(n->key);
     call->key = n->key;
     Py_XINCREF(value);
@@ -414,7 +414,7 @@ static Call *take_out(Stripes *self, stripe *s, node *n, uint32_t session, uint6
     if (n->version) { Py_INCREF(n->value); call->cached = n->value; }
     call->flight->number = s->out.number;
     call->flight->thread = PyThread_get_thread_ident();
-    if (call->next != JC_JOINED) {
+    if (call->next != JC_NEXT_JOINED) {
         Py_INCREF(call->flight);
         n->flight = call->flight;
     }
@@ -431,7 +431,7 @@ static bool expire(Stripes *self, stripe *s, node *n, int64_t now, leavings *lef
     uint64_t number = n->number;
     const uint8_t *key = (const uint8_t *)&number;
     if (n->flight != NULL) return false;
-    if (jc_begin(&s->desk, free_session(s), JC_CLEAR_KEY, key, EIGHT, key, 0, key, 0, &s->out) != JC_OK || s->out.next != JC_DONE) return false;
+    if (jc_begin(&s->desk, free_session(s), JC_OP_CLEAR_KEY, key, EIGHT, key, 0, key, 0, &s->out) != JC_OK || s->out.next != JC_NEXT_DONE) return false;
     return follow(self, s, n, 0, NULL, 0, now, left);
 }
 
@@ -449,25 +449,25 @@ static void begin_at(Stripes *self, stripe *s, node *n, uint32_t op, PyObject *v
     uint32_t session = free_session(s);
     uint64_t version = value != NULL ? ++s->last_version : 0, number = n->number;
     const uint8_t *key = (const uint8_t *)&number, *brought = (const uint8_t *)&version, *old = (const uint8_t *)&expected;
-    bool is_if = op == JC_REMOVE_IF || op == JC_REPLACE_IF;
+    bool is_if = op == JC_OP_REMOVE_IF || op == JC_OP_REPLACE_IF;
     size_t brought_len = value != NULL ? EIGHT : 0;
     uint32_t code = is_if ? jc_begin(&s->desk, session, op, key, EIGHT, old, EIGHT, brought, brought_len, &s->out)
                           : jc_begin(&s->desk, session, op, key, EIGHT, brought, brought_len, key, 0, &s->out);
     if (code != JC_OK) {
         refuse(code);
-    } else if (s->out.next == JC_DONE) {
+    } else if (s->out.next == JC_NEXT_DONE) {
         end->reply = s->out.reply;
         if (replied(s, n, 0, NULL, &end->value) && follow(self, s, n, version, value, life, now, left)) end->kind = DONE;
         else other_value();
-        if (end->kind == DONE && self->idle && op == JC_GET && n->version) n->used = now;
-    } else if (s->out.next == JC_REFUSED) {
-        if (s->out.reply == JC_HISTORY_FULL) PyErr_SetString(PyExc_AssertionError, "the cache has counted 2^64 calls");
-        else blocked(end, s, s->out.reply == JC_BUSY || s->out.reply == JC_TOO_MANY_JOINERS ? n->flight : NULL);
+        if (end->kind == DONE && self->idle && op == JC_OP_GET && n->version) n->used = now;
+    } else if (s->out.next == JC_NEXT_REFUSED) {
+        if (s->out.reply == JC_REFUSAL_HISTORY_FULL) PyErr_SetString(PyExc_AssertionError, "the cache has counted 2^64 calls");
+        else blocked(end, s, s->out.reply == JC_REFUSAL_BUSY || s->out.reply == JC_REFUSAL_TOO_MANY_JOINERS ? n->flight : NULL);
     } else {
         Flight *flight = n->flight;
         end->call = take_out(self, s, n, session, version, value, life);
         end->kind = OUT;
-        if (end->call->next == JC_JOINED) {
+        if (end->call->next == JC_NEXT_JOINED) {
             Py_INCREF(flight);
             drop(left, end->call->flight);
             end->call->flight = flight;
@@ -636,7 +636,7 @@ static PyObject *call_commit_load(Call *call, PyObject *arguments) {
     PyObject *value, *error = Py_None, *span = Py_None;
     int64_t now, life;
     if (!PyArg_ParseTuple(arguments, "O|OO", &value, &error, &span) || !given_life(span, &life) || !now_of(call, &now) ||
-        !is_out(call, JC_ASK_LOADER, JC_ASK_LOADER)) return NULL;
+        !is_out(call, JC_ASK_LOAD, JC_ASK_LOAD)) return NULL;
     value = none_as_null(value);
     error = none_as_null(error);
     stripe *s = call->seat.at;
@@ -648,7 +648,7 @@ static PyObject *call_commit_load(Call *call, PyObject *arguments) {
     Py_XINCREF(error);
     flight->error = error;
     flight->version = version;
-    uint32_t answer = error != NULL ? JC_FAILED : version ? JC_FOUND : JC_NOTHING;
+    uint32_t answer = error != NULL ? JC_ANSWER_FAILED : version ? JC_ANSWER_FOUND : JC_ANSWER_NOTHING;
     uint32_t code = jc_commit_load(&s->desk, flight->number, answer, 1, (const uint8_t *)&version, version ? EIGHT : 0, &s->out);
     return ended_call(call, code, version, value, life, now, version, value);
 }
@@ -656,9 +656,9 @@ static PyObject *call_commit_load(Call *call, PyObject *arguments) {
 static PyObject *call_commit_write(Call *call, PyObject *is_written) {
     int64_t now;
     int said = PyObject_IsTrue(is_written);
-    if (said < 0 || !now_of(call, &now) || !is_out(call, JC_HAVE_WRITTEN, JC_HAVE_DELETED)) return NULL;
+    if (said < 0 || !now_of(call, &now) || !is_out(call, JC_ASK_WRITE, JC_ASK_DELETE)) return NULL;
     stripe *s = call->seat.at;
-    uint32_t code = jc_commit_write(&s->desk, call->flight->number, said ? JC_WRITTEN : JC_FAILED, 1, &s->out);
+    uint32_t code = jc_commit_write(&s->desk, call->flight->number, said ? JC_ANSWER_WRITTEN : JC_ANSWER_FAILED, 1, &s->out);
     return ended_call(call, code, call->version, call->value, call->life, now, 0, NULL);
 }
 
@@ -669,22 +669,22 @@ static PyObject *call_commit_process(Call *call, PyObject *arguments) {
     PyObject *loaded, *value, *brought = NULL, *span = Py_None;
     int64_t now, life;
     if (!PyArg_ParseTuple(arguments, "IOIOI|O", &load, &loaded, &effect, &value, &write, &span) || !given_life(span, &life) ||
-        !now_of(call, &now) || !is_out(call, JC_RUN_PROCESSOR, JC_RUN_PROCESSOR)) return NULL;
+        !now_of(call, &now) || !is_out(call, JC_ASK_PROCESS, JC_ASK_PROCESS)) return NULL;
     stripe *s = call->seat.at;
     uint64_t version = 0;
     jc_processed done;
     memset(&done, 0, sizeof done);
     done.load = load, done.effect = effect, done.write = write;
     done.load_code = done.code = done.write_code = 1;
-    if (load == JC_FOUND) { brought = loaded; give(&done.loaded, version = ++s->last_version); }
-    if (effect == JC_SET) { brought = value; give(&done.set, version = ++s->last_version); }
+    if (load == JC_ANSWER_FOUND) { brought = loaded; give(&done.loaded, version = ++s->last_version); }
+    if (effect == JC_EFFECT_SET) { brought = value; give(&done.set, version = ++s->last_version); }
     uint32_t code = jc_commit_process(&s->desk, call->flight->number, &done, &s->out);
     return ended_call(call, code, version, brought, life, now, 0, NULL);
 }
 
 static PyObject *call_withdraw(Call *call, PyObject *nothing) {
     (void)nothing;
-    if (!is_out(call, JC_ASK_LOADER, JC_RUN_PROCESSOR)) return NULL;
+    if (!is_out(call, JC_ASK_LOAD, JC_ASK_PROCESS)) return NULL;
     uint32_t code = jc_withdraw(&call->seat.at->desk, call->flight->number);
     if (code != JC_OK) return refuse(code);
     end_reservation(call);
@@ -705,13 +705,13 @@ static void leave_alone(Call *call) {
 /* Of a load that was joined and is over: what it replies, or None to begin anew. */
 static PyObject *call_pick_up(Call *call, PyObject *nothing) {
     (void)nothing;
-    if (!is_out(call, JC_JOINED, JC_JOINED)) return NULL;
+    if (!is_out(call, JC_NEXT_JOINED, JC_NEXT_JOINED)) return NULL;
     if (!call->flight->is_over) { PyErr_SetString(PyExc_RuntimeError, "the load is not over"); return NULL; }
     uint32_t code = pick_up_now(&call->seat, call->flight->number);
     if (code != JC_OK) return refuse(code);
     const jc_out *out = &call->seat.at->out;
     uint32_t reply = out->reply;
-    bool is_done = out->next == JC_DONE, has_value = is_done && reply == JC_VALUE;
+    bool is_done = out->next == JC_NEXT_DONE, has_value = is_done && reply == JC_REPLY_VALUE;
     bool is_right = !has_value || number_in(&out->value) == call->flight->version;
     leave_alone(call);
     if (!is_right) return other_value();
@@ -737,7 +737,7 @@ static bool abandon(Call *call) {
 /* Nobody waits for a load that was joined: it is picked up when the load is over. */
 static PyObject *call_abandon(Call *call, PyObject *nothing) {
     (void)nothing;
-    if (!is_out(call, JC_JOINED, JC_JOINED)) return NULL;
+    if (!is_out(call, JC_NEXT_JOINED, JC_NEXT_JOINED)) return NULL;
     if (!abandon(call)) return PyErr_NoMemory();
     Py_RETURN_NONE;
 }
@@ -752,21 +752,21 @@ static void call_finalize(Call *call) {
     uint32_t code = JC_OK;
     jc_processed failed;
     switch (call->next) {
-    case JC_JOINED: abandon(call); break;
-    case JC_ASK_LOADER:
+    case JC_NEXT_JOINED: abandon(call); break;
+    case JC_ASK_LOAD:
         call->flight->error = PyObject_CallFunction(PyExc_RuntimeError, "s", "the call that loads was forgotten");
-        code = jc_commit_load(&s->desk, ticket, JC_FAILED, 1, (const uint8_t *)&ticket, 0, &s->out);
+        code = jc_commit_load(&s->desk, ticket, JC_ANSWER_FAILED, 1, (const uint8_t *)&ticket, 0, &s->out);
         said = ended_call(call, code, 0, NULL, 0, 0, 0, NULL);
         break;
-    case JC_RUN_PROCESSOR:
+    case JC_ASK_PROCESS:
         memset(&failed, 0, sizeof failed);
-        failed.effect = JC_PROCESS_FAILED;
+        failed.effect = JC_EFFECT_FAILED;
         failed.code = 1;
         code = jc_commit_process(&s->desk, ticket, &failed, &s->out);
         said = ended_call(call, code, 0, NULL, 0, 0, 0, NULL);
         break;
     default:
-        code = jc_commit_write(&s->desk, ticket, JC_FAILED, 1, &s->out);
+        code = jc_commit_write(&s->desk, ticket, JC_ANSWER_FAILED, 1, &s->out);
         said = ended_call(call, code, 0, NULL, 0, 0, 0, NULL);
     }
     Py_XDECREF(said);
@@ -940,7 +940,7 @@ static bool open_stripe(stripe *s, const jc_shape *shape) {
     if (s->buckets == NULL) { PyErr_NoMemory(); return false; }
     s->bucket_count = FIRST_BUCKETS;
     uint32_t code = jc_open(&s->desk, shape, 0, &none, 0);
-    if (code == JC_BAD_ARGUMENT) PyErr_SetString(PyExc_ValueError, "capacity is 1 to 4,096, history 16 to 65,536");
+    if (code == JC_CODE_BAD_ARGUMENT) PyErr_SetString(PyExc_ValueError, "capacity is 1 to 4,096, history 16 to 65,536");
     else if (code != JC_OK) refuse(code);
     return code == JC_OK;
 }
@@ -1144,7 +1144,7 @@ static bool put(Stripes *self, PyObject *key, PyObject *value) {
     if (self->asks_life) {
         Py_INCREF(out);
     } else {
-        begin(self, JC_PUT, key, hash, value, NULL, AS_THE_CACHE_SAYS, &end);
+        begin(self, JC_OP_PUT, key, hash, value, NULL, AS_THE_CACHE_SAYS, &end);
         if (end.kind == DONE) { Py_XDECREF(end.value); return true; }
         out = begun(self, &end);
         if (out == NULL) return false;
@@ -1303,13 +1303,13 @@ static PyTypeObject *add_type(PyObject *module, const char *name, PyType_Spec *s
 }
 
 static const struct { const char *name; long value; } constants[] = {
-    {"GET", JC_GET}, {"CONTAINS_KEY", JC_CONTAINS_KEY}, {"PUT", JC_PUT}, {"GET_AND_PUT", JC_GET_AND_PUT}, {"PUT_IF_ABSENT", JC_PUT_IF_ABSENT},
-    {"REMOVE", JC_REMOVE}, {"REMOVE_IF", JC_REMOVE_IF}, {"GET_AND_REMOVE", JC_GET_AND_REMOVE}, {"REPLACE", JC_REPLACE},
-    {"REPLACE_IF", JC_REPLACE_IF}, {"GET_AND_REPLACE", JC_GET_AND_REPLACE}, {"CLEAR_KEY", JC_CLEAR_KEY}, {"LOAD", JC_LOAD},
-    {"RELOAD", JC_RELOAD}, {"INVOKE", JC_INVOKE}, {"ASK_LOADER", JC_ASK_LOADER}, {"HAVE_WRITTEN", JC_HAVE_WRITTEN},
-    {"HAVE_DELETED", JC_HAVE_DELETED}, {"RUN_PROCESSOR", JC_RUN_PROCESSOR}, {"JOINED", JC_JOINED}, {"YES", JC_YES},
-    {"LOADER_FAILED", JC_LOADER_FAILED}, {"NOT_ASKED", JC_NOT_ASKED}, {"FOUND", JC_FOUND}, {"WRITTEN", JC_WRITTEN}, {"NOTHING", JC_NOTHING},
-    {"FAILED", JC_FAILED}, {"KEEP", JC_KEEP}, {"SET", JC_SET}, {"TAKE_OUT", JC_TAKE_OUT}, {"PROCESS_FAILED", JC_PROCESS_FAILED},
+    {"GET", JC_OP_GET}, {"CONTAINS_KEY", JC_OP_CONTAINS_KEY}, {"PUT", JC_OP_PUT}, {"GET_AND_PUT", JC_OP_GET_AND_PUT}, {"PUT_IF_ABSENT", JC_OP_PUT_IF_ABSENT},
+    {"REMOVE", JC_OP_REMOVE}, {"REMOVE_IF", JC_OP_REMOVE_IF}, {"GET_AND_REMOVE", JC_OP_GET_AND_REMOVE}, {"REPLACE", JC_OP_REPLACE},
+    {"REPLACE_IF", JC_OP_REPLACE_IF}, {"GET_AND_REPLACE", JC_OP_GET_AND_REPLACE}, {"CLEAR_KEY", JC_OP_CLEAR_KEY}, {"LOAD", JC_OP_LOAD},
+    {"RELOAD", JC_OP_RELOAD}, {"INVOKE", JC_OP_INVOKE}, {"ASK_LOADER", JC_ASK_LOAD}, {"HAVE_WRITTEN", JC_ASK_WRITE},
+    {"HAVE_DELETED", JC_ASK_DELETE}, {"RUN_PROCESSOR", JC_ASK_PROCESS}, {"JOINED", JC_NEXT_JOINED}, {"YES", JC_REPLY_YES},
+    {"LOADER_FAILED", JC_REPLY_LOADER_FAILED}, {"NOT_ASKED", JC_ANSWER_NOT_ASKED}, {"FOUND", JC_ANSWER_FOUND}, {"WRITTEN", JC_ANSWER_WRITTEN}, {"NOTHING", JC_ANSWER_NOTHING},
+    {"FAILED", JC_ANSWER_FAILED}, {"KEEP", JC_EFFECT_KEEP}, {"SET", JC_EFFECT_SET}, {"TAKE_OUT", JC_EFFECT_REMOVE}, {"PROCESS_FAILED", JC_EFFECT_FAILED},
     {"STRIPES_MAX", STRIPES_MAX}, {"CAPACITY_MAX", JC_CAPACITY_MAX},
 };
 
