@@ -1,5 +1,6 @@
 import com.github.benmanes.caffeine.cache.Caffeine;
 import java.io.Serializable;
+import java.lang.management.ManagementFactory;
 import java.net.URI;
 import java.util.Arrays;
 import java.util.LinkedHashMap;
@@ -19,8 +20,8 @@ import net.sf.ehcache.config.CacheConfiguration;
 
 /**
  * What a get that finds its entry takes, with statistics and an expiry of an hour, and by value of an object of three fields, beside Caffeine
- * and Ehcache. Nanoseconds of the clock a call, of each thread; the best round of some, which take turns, so that what else the machine does
- * is the same for all.
+ * and Ehcache. Nanoseconds of a thread's processor time a call; of four threads, those of the clock, too. Of each the least of some rounds,
+ * which take turns, so that what else the machine does is the same for all.
  *
  * <p>usage: Hits [SECONDS], how long each round is, by default 0.3
  */
@@ -83,9 +84,9 @@ public final class Hits {
         return cache::get;
     }
 
-    /** The time that a call of each thread takes. */
-    private static double round(Function<Long, Object> get, int threads, double seconds) throws InterruptedException {
-        double[] each = new double[threads];
+    /** What a call of each thread takes: processor time, and time of the clock. */
+    private static double[] round(Function<Long, Object> get, int threads, double seconds) throws InterruptedException {
+        double[][] each = new double[threads][];
         Thread[] all = new Thread[threads];
         for (int t = 0; t < threads; t++) {
             int own = t;
@@ -95,11 +96,13 @@ public final class Hits {
         for (Thread thread : all) {
             thread.join();
         }
-        return Arrays.stream(each).average().getAsDouble();
+        return new double[] {Arrays.stream(each).mapToDouble(it -> it[0]).average().getAsDouble(),
+            Arrays.stream(each).mapToDouble(it -> it[1]).average().getAsDouble()};
     }
 
-    private static double timed(Function<Long, Object> get, int from, double seconds) {
+    private static double[] timed(Function<Long, Object> get, int from, double seconds) {
         long begun = System.nanoTime();
+        long processor = ManagementFactory.getThreadMXBean().getCurrentThreadCpuTime();
         long spent = 0;
         long calls = 0;
         while (spent < seconds * 1e9) {
@@ -113,7 +116,8 @@ public final class Hits {
             calls += KEYS;
             spent = System.nanoTime() - begun;
         }
-        return (double) spent / calls;
+        processor = ManagementFactory.getThreadMXBean().getCurrentThreadCpuTime() - processor;
+        return new double[] {(double) processor / calls, (double) spent / calls};
     }
 
     public static void main(String[] words) throws Exception {
@@ -126,13 +130,15 @@ public final class Hits {
         all.put("Ehcache, statistics, expiry", ehcache());
         all.put("the provider by value, statistics, expiry", provider(true, true)::get);
         for (int threads : new int[] {1, 4}) {
-            Map<String, Double> best = new LinkedHashMap<>();
+            Map<String, double[]> least = new LinkedHashMap<>();
             for (int i = 0; i < ROUNDS; i++) {
                 for (Map.Entry<String, Function<Long, Object>> one : all.entrySet()) {
-                    best.merge(one.getKey(), round(one.getValue(), threads, seconds), Math::min);
+                    least.merge(one.getKey(), round(one.getValue(), threads, seconds),
+                            (a, b) -> new double[] {Math.min(a[0], b[0]), Math.min(a[1], b[1])});
                 }
             }
-            best.forEach((name, nanos) -> System.out.printf("%d thread(s), %s: %.0f%n", threads, name, nanos));
+            least.forEach((name, nanos) -> System.out.printf("%d thread(s), %s: %.0f%s%n", threads, name, nanos[0],
+                    threads == 1 ? "" : String.format(", by the clock %.0f", nanos[1])));
         }
         System.exit(0);
     }

@@ -68,7 +68,7 @@ final class Counts {
     /** A step was made. */
     void step(Call call) {
         boolean existed = call.before != null;
-        boolean isGet = isGet(call.op);
+        boolean isGet = isGet(call.op) && (call.op == Native.INVOKE || call.reply != Native.WRITER_FAILED);
         boolean isPut = isPut(call, existed);
         boolean isRemoval = isRemoval(call, existed);
         if (isGet && existed) {

@@ -93,8 +93,12 @@ final class Expiry {
         }
     }
 
-    /** Sets the time at which an entry expires. */
+    /** Sets the time at which an entry expires; null: it is as before. */
     void set(Node node, Duration duration) {
+        node.isBeingRenewed = false;
+        if (duration == null) {
+            return;
+        }
         node.expires = !duration.isEternal();
         if (node.expires) {
             node.deadline = now() + nanos(duration);
@@ -102,7 +106,11 @@ final class Expiry {
     }
 
     boolean hasExpired(Node node) {
-        return node.expires && node.isCached() && now() - node.deadline >= 0;
+        return node.expires && node.isCached() && hasExpired(node, now());
+    }
+
+    private static boolean hasExpired(Node node, long now) {
+        return node.expires && !node.isBeingRenewed && now - node.deadline >= 0;
     }
 
     /**
@@ -141,7 +149,7 @@ final class Expiry {
             return isAskedOfAccess ? Access.ASK : Access.DONE;
         }
         long now = now();
-        if (node.expires && now - node.deadline >= 0) {
+        if (hasExpired(node, now)) {
             return Access.EXPIRED;
         }
         if (node.isAbsent()) {

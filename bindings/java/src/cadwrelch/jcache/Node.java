@@ -30,6 +30,8 @@ class Node {
     short pins;
     /** Whether the entry expires. */
     boolean expires;
+    /** Whether the expiry policy is being asked for an update: the deadline is that of what was cached before. */
+    boolean isBeingRenewed;
 
     /** A node of a key of which nothing is cached. */
     Node(Object key, int hash, long id) {
@@ -53,6 +55,7 @@ class Node {
         stored = newStored;
         version = newVersion;
         expires &= newVersion != 0;
+        isBeingRenewed &= newVersion != 0;
     }
 
     boolean isCached() {

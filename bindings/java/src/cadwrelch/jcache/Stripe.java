@@ -326,6 +326,7 @@ final class Stripe {
         }
         if (context.expiry != null) {
             call.due = context.expiry.due(call);
+            call.node.isBeingRenewed |= call.due == Expiry.Due.UPDATE;
             call.dueVersion = call.node.version;
         }
     }
@@ -359,17 +360,25 @@ final class Stripe {
 
     /** Asks the expiry policy for an entry, which may have another version by now. */
     private void renew(Node node, long version, Expiry.Due due) {
-        Duration duration = context.expiry.ask(due);
-        if (duration == null) {
-            return;
+        Duration duration = null;
+        try {
+            duration = context.expiry.ask(due);
+        } finally {
+            if (duration != null || due == Expiry.Due.UPDATE) {
+                renew(node, version, due, duration);
+            }
         }
+    }
+
+    /** Notes what the policy has said; null: the entry expires as before. */
+    private void renew(Node node, long version, Expiry.Due due, Duration duration) {
         lock.lock();
         try {
             if (node.version != version) {
                 return;
             }
             context.expiry.set(node, duration);
-            if (duration.isZero() && node.owner == null && !isClosed) {
+            if (duration != null && duration.isZero() && node.owner == null && !isClosed) {
                 clearExpired(node, due != Expiry.Due.CREATION);
                 desk.nodes().dropUnused(node);
             }

@@ -23,6 +23,7 @@ import javax.cache.event.CacheEntryRemovedListener;
 import javax.cache.event.CacheEntryUpdatedListener;
 import javax.cache.expiry.AccessedExpiryPolicy;
 import javax.cache.expiry.CreatedExpiryPolicy;
+import javax.cache.expiry.ExpiryPolicy;
 import cadwrelch.jcache.CadwrelchConfiguration;
 import cadwrelch.jcache.Inside;
 import cadwrelch.tests.Background.Work;
@@ -177,6 +178,50 @@ final class Aging {
         equal("each hit of an accessed policy lets an entry live on", 1, scene.store.loads.get());
         scene.seconds += 30;
         holds("and without one it expires, by the clock of the configuration", !scene.cache.containsKey(1));
+    }
+
+    /** A policy whose entries live for ten seconds from their creation, and which is asked of updates at a gate. */
+    private static final class Gated implements ExpiryPolicy {
+        final Store.Gate gate = new Store.Gate();
+
+        @Override
+        public javax.cache.expiry.Duration getExpiryForCreation() {
+            return new javax.cache.expiry.Duration(TimeUnit.SECONDS, 10);
+        }
+
+        @Override
+        public javax.cache.expiry.Duration getExpiryForAccess() {
+            return null;
+        }
+
+        @Override
+        public javax.cache.expiry.Duration getExpiryForUpdate() {
+            gate.pass();
+            return null;
+        }
+    }
+
+    @Test
+    static void anOldDeadlineIsNotThatOfANewValue() throws Exception {
+        Scene scene = new Scene();
+        Gated policy = new Gated();
+        scene.configuration.setExpiryPolicyFactory(() -> policy);
+        scene.open();
+        scene.cache.get(1);
+        List<Work<Void>> puts = new ArrayList<>();
+        for (String value : List.of("new", "newer")) {
+            puts.add(Background.start(() -> scene.cache.put(1, value)));
+            policy.gate.awaitCall();
+            puts.get(puts.size() - 1).awaitSleep();
+        }
+        scene.seconds += 11;
+        equal("a value is there until its policy has been asked, though the one before it would have expired", "newer",
+                scene.cache.get(1));
+        holds("for containsKey, too", scene.cache.containsKey(1));
+        equal("so nobody was asked for it", 1, scene.store.loads.get());
+        policy.gate.open();
+        Background.results(puts);
+        holds("a policy that answers null leaves the deadline as it was", !scene.cache.containsKey(1));
     }
 
     @Test

@@ -41,6 +41,9 @@ final class Cases {
             "expire", "the standard has no such call",
             "the time to live counts beside the time to idle", "an ExpiryPolicy answers one time",
             "a new entry that is removed again is deleted", "the standard's reference asks for nothing",
+            "a processor removes a missing key", "here only an entry that was there counts as removed",
+            "a processor removes what it has loaded", "here only an entry that was there counts as removed",
+            "the failure of a load comes before that of the processor", "JCache wraps what a processor throws",
             "a load_many whose first key is being written", "its thread is the cache's own, and can't be seen to wait");
 
     private Cases() {}

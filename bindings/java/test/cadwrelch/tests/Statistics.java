@@ -188,6 +188,9 @@ final class Statistics {
         } catch (CacheException e) {
             scene.check("a put that fails is none", 0, 1, 0, 0);
         }
+        thrown("a getAndPut that fails", CacheException.class, () -> scene.cache.getAndPut(1L, "x"));
+        thrown("and a replace", CacheException.class, () -> scene.cache.replace(1L, "x"));
+        scene.check("a call whose writer fails is no get either", 0, 1, 0, 0);
         try {
             scene.cache.remove(1L);
         } catch (CacheException e) {

@@ -232,6 +232,9 @@ final class StoreByValue {
         cache.put(loader.point(1), loader.figure());
         same("and a proxy's", loader, cache.get(loader.point(1)).getClass().getClassLoader());
         manager.close();
+        Cache<Object, Object> others = Caches.create(new MutableConfiguration<>());
+        others.put(1, loader.point(3));
+        equal("also of a value whose class is of another loader", new Point(3), others.get(1));
     }
 
     @Test
