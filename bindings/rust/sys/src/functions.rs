@@ -16,7 +16,7 @@ unsafe extern "C" {
         count: usize,
     ) -> u32;
 
-    /// Frees the desk. [`IN_USE`](crate::IN_USE), and it stays open, while a ticket or a join is out.
+    /// Frees the desk. [`CODE_IN_USE`](crate::CODE_IN_USE), and it stays open, while a ticket or a join is out.
     pub fn jc_close(h: *mut Handle) -> u32;
 
     /// The first phase of the session's next call.
@@ -33,7 +33,7 @@ unsafe extern "C" {
         out: *mut Out,
     ) -> u32;
 
-    /// A `get` that finds its entry, and nothing else: after [`NONE`](crate::NONE) `jc_begin` says why.
+    /// A `get` that finds its entry, and nothing else: after [`CODE_NONE`](crate::CODE_NONE) `jc_begin` says why.
     pub fn jc_hit(
         h: *mut Handle,
         session: u32,
@@ -73,7 +73,7 @@ unsafe extern "C" {
     /// Gives a ticket back whose loader, writer or processor was not asked.
     pub fn jc_withdraw(h: *mut Handle, ticket: u64) -> u32;
 
-    /// Picks up the answer of a load that was joined. Until it says [`DONE`](crate::DONE) or [`AGAIN`](crate::AGAIN), the join is out.
+    /// Picks up the answer of a load that was joined. Until it says [`NEXT_DONE`](crate::NEXT_DONE) or [`NEXT_AGAIN`](crate::NEXT_AGAIN), the join is out.
     pub fn jc_pick_up(
         h: *mut Handle,
         session: u32,

@@ -67,11 +67,11 @@ pub struct Entry {
 #[repr(C)]
 #[derive(Clone, Copy, Debug)]
 pub struct Out {
-    /// What the host does next: [`DONE`](crate::DONE) to [`FULL`](crate::FULL).
+    /// What the host does next: [`NEXT_DONE`](crate::NEXT_DONE) to [`NEXT_FULL`](crate::NEXT_FULL).
     pub next: u32,
     /// What the call is answered, or why it was refused.
     pub reply: u32,
-    /// Of a failure; with [`RUN_PROCESSOR`](crate::RUN_PROCESSOR): 1 if the loader may be asked.
+    /// Of a failure; with [`ASK_PROCESS`](crate::ASK_PROCESS): 1 if the loader may be asked.
     pub code: u32,
     /// The place of the call's step in the present generation.
     pub place: u32,
@@ -85,11 +85,11 @@ pub struct Out {
     pub call: u64,
     /// The value that is answered, or to be written.
     pub value: Value,
-    /// With [`LEFT`](crate::LEFT): the value that the key's entry had.
+    /// With [`MOVE_REMOVED`](crate::MOVE_REMOVED): the value that the key's entry had.
     pub left: Value,
-    /// With [`EVICTED`](crate::EVICTED): the key that was evicted.
+    /// With [`MOVE_EVICTED`](crate::MOVE_EVICTED): the key that was evicted.
     pub victim: Key,
-    /// With [`EVICTED`](crate::EVICTED): the value that it had.
+    /// With [`MOVE_EVICTED`](crate::MOVE_EVICTED): the value that it had.
     pub evicted: Value,
 }
 
@@ -101,7 +101,7 @@ pub struct Processed {
     pub load: u32,
     /// Why it failed.
     pub load_code: u32,
-    /// The net effect: [`KEEP`](crate::KEEP) to [`PROCESS_FAILED`](crate::PROCESS_FAILED).
+    /// The net effect: [`EFFECT_KEEP`](crate::EFFECT_KEEP) to [`EFFECT_FAILED`](crate::EFFECT_FAILED).
     pub effect: u32,
     /// Why the processor failed.
     pub code: u32,
@@ -123,7 +123,7 @@ pub struct Processed {
 #[repr(C)]
 #[derive(Clone, Copy, Debug)]
 pub struct FlatEvent {
-    /// [`STEP`](crate::STEP) or [`EVICTION`](crate::EVICTION).
+    /// [`EVENT_STEP`](crate::EVENT_STEP) or [`EVENT_EVICTION`](crate::EVENT_EVICTION).
     pub kind: u32,
     /// The call's session.
     pub session: u32,
