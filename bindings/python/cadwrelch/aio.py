@@ -129,8 +129,7 @@ class _Calls(rounds.Round):
     async def run(self):
         """All rounds: what was found."""
         while self.items:
-            with waiting.in_round():
-                blocked = await self._round()
+            blocked = await self._round()
             if blocked is not None:
                 await self._wait(blocked)
         return self.result()
@@ -141,10 +140,11 @@ class _Calls(rounds.Round):
         if not reserved and not joined:
             return blocked
         try:
-            if reserved and reserved[0].call.next == _core.ASK_LOADER:
-                await self._load(reserved)
-            elif reserved:
-                await self._cache._to_its_end(self._write(reserved))
+            with waiting.joining(*[item.call for item in joined]):
+                if reserved and reserved[0].call.next == _core.ASK_LOADER:
+                    await self._load(reserved)
+                elif reserved:
+                    await self._cache._to_its_end(self._write(reserved))
             for item in joined:
                 await self._pick_up(item)
         finally:

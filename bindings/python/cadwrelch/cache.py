@@ -140,8 +140,7 @@ class _Calls(rounds.Round):
     def run(self):
         """All rounds: what was found."""
         while self.items:
-            with waiting.in_round():
-                blocked = self._round()
+            blocked = self._round()
             if blocked is not None:
                 self._wait(blocked)
         return self.result()
@@ -152,7 +151,7 @@ class _Calls(rounds.Round):
         if not reserved and not joined:
             return blocked
         try:
-            with waiting.holding(*[item.call.flight for item in reserved]):
+            with waiting.holding(*[item.call.flight for item in reserved]), waiting.joining(*[item.call for item in joined]):
                 if reserved and reserved[0].call.next == _core.ASK_LOADER:
                     self._load(reserved)
                     self.commit_loads(reserved)

@@ -10,8 +10,8 @@ from .errors import DeadlockError
 
 HELD = contextvars.ContextVar('held', default=())
 """The flights of the calls that run outside."""
-_ROUNDS = contextvars.ContextVar('rounds', default=0)
-"""How many rounds of calls of many keys run. Such a one has calls out at several keys, and waits for no room with them."""
+_JOINS = contextvars.ContextVar('joins', default=())
+"""The loads that were joined by calls of many keys that run outside for other keys. They take room."""
 _LOCK = threading.Lock()
 """Of all waits_for."""
 
@@ -37,18 +37,18 @@ class _Restored:
 
 
 def holding(*flights):
-    """What runs with it is asked for the calls of these flights."""
+    """What runs with it is asked for the calls of these flights. (An interrupt may have left those of calls that are over.)"""
     return _Restored(HELD, HELD.get() + flights)
 
 
-def in_round():
-    """What runs with it is a round of a call of many keys."""
-    return _Restored(_ROUNDS, _ROUNDS.get() + 1)
+def joining(*calls):
+    """What runs with it is asked while these loads are joined."""
+    return _Restored(_JOINS, _JOINS.get() + calls)
 
 
 def check_outside():
     """Who waits for room may not be inside a call, whose end may be what makes room."""
-    if _ROUNDS.get() or any(not flight.is_over for flight in HELD.get()):
+    if not all(out.is_over for out in HELD.get() + _JOINS.get()):
         raise DeadlockError('a call inside another one needs a stripe that has no room: give the cache more stripes, or a history of up to 260')
 
 

@@ -158,6 +158,11 @@ static PyObject *call_forget(Call *call, PyObject *nothing) {
     Py_RETURN_NONE;
 }
 
+static PyObject *call_is_over(Call *call, void *nothing) {
+    (void)nothing;
+    return PyBool_FromLong(call->seat.node == NULL);
+}
+
 static int call_traverse(Call *call, visitproc visit, void *arg) {
     Py_VISIT(Py_TYPE(call));
     Py_VISIT(call->cache);
@@ -204,9 +209,13 @@ static PyMemberDef call_members[] = {
     {"flight", T_OBJECT, offsetof(Call, flight), READONLY, "Its reservation, or that of the load that it has joined."},
     {NULL, 0, 0, 0, NULL},
 };
+static PyGetSetDef call_getset[] = {
+    {"is_over", (getter)call_is_over, NULL, "Whether it has nothing out any more.", NULL},
+    {NULL, NULL, NULL, NULL, NULL},
+};
 static PyType_Slot call_slots[] = {
     {Py_tp_doc, "A call that has something out: a reservation, or a load that it has joined."},
-    {Py_tp_methods, call_methods}, {Py_tp_members, call_members}, {Py_tp_traverse, call_traverse}, {Py_tp_clear, call_clear},
+    {Py_tp_methods, call_methods}, {Py_tp_members, call_members}, {Py_tp_getset, call_getset}, {Py_tp_traverse, call_traverse}, {Py_tp_clear, call_clear},
     {Py_tp_finalize, call_finalize}, {Py_tp_dealloc, call_dealloc}, {0, NULL},
 };
 PyType_Spec call_spec = {"cadwrelch._core.Call", sizeof(Call), 0,

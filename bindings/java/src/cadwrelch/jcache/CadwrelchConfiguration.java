@@ -29,16 +29,23 @@ import javax.cache.configuration.MutableConfiguration;
 public class CadwrelchConfiguration<K, V> extends MutableConfiguration<K, V> {
     private static final long serialVersionUID = 1;
 
-    /** How many stripes, how many entries in all, and how long a history; 0: it isn't set. */
+    /** 0: it isn't set. */
     int stripes;
+    /** Of the whole cache; 0: it isn't set. */
     int capacity;
+    /** 0: it isn't set. */
     int history;
     /** Null: it isn't set. */
     Duration refreshAfter;
+    /** Null: it isn't set. */
     Duration absentFor;
+    /** Null: serialization copies values. */
     Factory<? extends UnaryOperator<V>> copierFactory;
+    /** Null: serialization copies keys. */
     Factory<? extends UnaryOperator<K>> keyCopierFactory;
+    /** Null: the cache's own threads. */
     transient Executor executor;
+    /** Null: {@link System#nanoTime}. */
     transient LongSupplier clock;
 
     /** A configuration that sets nothing but what {@link MutableConfiguration} sets. */
@@ -47,30 +54,79 @@ public class CadwrelchConfiguration<K, V> extends MutableConfiguration<K, V> {
     }
 
     /**
-     * A copy of a configuration of the standard, which sets nothing of this provider's.
+     * A copy. Of a configuration of another class it has what the standard says, and sets nothing of this provider's.
      *
      * @param from what is copied
      */
     public CadwrelchConfiguration(CompleteConfiguration<K, V> from) {
         super(from);
+        if (from instanceof CadwrelchConfiguration) {
+            CadwrelchConfiguration<K, V> own = (CadwrelchConfiguration<K, V>) from;
+            stripes = own.stripes;
+            capacity = own.capacity;
+            history = own.history;
+            refreshAfter = own.refreshAfter;
+            absentFor = own.absentFor;
+            copierFactory = own.copierFactory;
+            keyCopierFactory = own.keyCopierFactory;
+            executor = own.executor;
+            clock = own.clock;
+        }
+    }
+
+    /** Notes what a cache has, whatever says so. */
+    void note(Settings settings) {
+        stripes = settings.stripes;
+        capacity = settings.capacity;
+        history = settings.history;
+        boolean isReloaded = settings.refreshAfter != 0 && getCacheLoaderFactory() != null;
+        refreshAfter = isReloaded ? Duration.ofNanos(settings.refreshAfter) : null;
+        absentFor = settings.absentFor != 0 && isReadThrough() ? Duration.ofNanos(settings.absentFor) : null;
     }
 
     /**
-     * A copy.
+     * How many entries the whole cache has room for.
      *
-     * @param from what is copied
+     * @return of a cache's configuration, what it has, whatever says so; else what was set, or 0
      */
-    public CadwrelchConfiguration(CadwrelchConfiguration<K, V> from) {
-        super(from);
-        stripes = from.stripes;
-        capacity = from.capacity;
-        history = from.history;
-        refreshAfter = from.refreshAfter;
-        absentFor = from.absentFor;
-        copierFactory = from.copierFactory;
-        keyCopierFactory = from.keyCopierFactory;
-        executor = from.executor;
-        clock = from.clock;
+    public int getCapacity() {
+        return capacity;
+    }
+
+    /**
+     * How many stripes the cache has.
+     *
+     * @return as {@link #getCapacity}
+     */
+    public int getStripes() {
+        return stripes;
+    }
+
+    /**
+     * How many events the history of a stripe has room for.
+     *
+     * @return as {@link #getCapacity}
+     */
+    public int getHistory() {
+        return history;
+    }
+
+    /**
+     * The age at which an entry is loaded again.
+     *
+     * @return null: none is
+     */
+    public Duration getRefreshAfter() {
+        return refreshAfter;
+    }
+
+    /**
+     * For how long it is remembered that the loader has found nothing.
+     *
+     * @return null: it isn't
+     */
+    public Duration getAbsentFor() {
+        return absentFor;
     }
 
     /**
@@ -112,7 +168,8 @@ public class CadwrelchConfiguration<K, V> extends MutableConfiguration<K, V> {
     /**
      * Sets the age at which an entry is loaded again: a {@code get} that finds an older one answers it at once, and has
      * it reloaded in the background by {@code load} of the cache's loader. Puts of that key wait for the reload, so it
-     * never overwrites a newer value. A reload that fails is logged, and one that finds nothing leaves the entry.
+     * never overwrites a newer value. A reload that fails is logged, and one that finds nothing leaves the entry. The
+     * cache has to have a loader; a property says nothing to one without.
      *
      * @param age longer than 0
      * @return this configuration
@@ -125,7 +182,8 @@ public class CadwrelchConfiguration<K, V> extends MutableConfiguration<K, V> {
     /**
      * Sets for how long it is remembered that the loader has found nothing at a key. Meanwhile {@code get}, {@code
      * getAll} and {@code containsKey} answer that there is nothing, and nobody is asked. Any other call at the key
-     * forgets it first. It takes the room of an entry.
+     * forgets it first. It takes the room of an entry. Read-through has to be on; a property says nothing to a cache
+     * without.
      *
      * @param time longer than 0
      * @return this configuration

@@ -48,7 +48,7 @@ final class Faults {
 
     /** What a caller gets if a copy of a value can't be made. */
     static CacheException ofCopy(CacheException cause, String where) {
-        return new CacheException(cause.getMessage() + where, cause.getCause());
+        return new CacheException(cause.getMessage() + where, cause.getCause() == null ? cause : cause.getCause());
     }
 
     /** Throws what a call of one key ended in, if its loader or its writer failed. */

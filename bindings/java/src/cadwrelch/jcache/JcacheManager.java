@@ -87,7 +87,8 @@ final class JcacheManager implements CacheManager {
      * @throws UnsupportedOperationException if there is no native library for this platform
      * @throws CacheException if there is a cache of this name, if what its configuration and its properties say doesn't
      *     go together, or if its native library or its record can't be opened
-     * @throws IllegalArgumentException if read-through or write-through is on without a factory
+     * @throws IllegalArgumentException if its configuration has read-through, write-through or reloads without a
+     *     factory, or remembers what is absent without read-through
      * @throws OutOfMemoryError if the memory of the core can't be allocated
      */
     @Override
@@ -97,6 +98,7 @@ final class JcacheManager implements CacheManager {
         Objects.requireNonNull(configuration, "configuration");
         CadwrelchConfiguration<K, V> copy = copyOf(configuration);
         Settings settings = new Settings(own, cacheName, copy);
+        copy.note(settings);
         NativeLibrary.require(Settings.library(own));
         reserve(cacheName);
         JcacheCache<K, V> cache;
@@ -117,9 +119,7 @@ final class JcacheManager implements CacheManager {
 
     private static <K, V> CadwrelchConfiguration<K, V> copyOf(Configuration<K, V> configuration) {
         CadwrelchConfiguration<K, V> own;
-        if (configuration instanceof CadwrelchConfiguration) {
-            own = new CadwrelchConfiguration<>((CadwrelchConfiguration<K, V>) configuration);
-        } else if (configuration instanceof CompleteConfiguration) {
+        if (configuration instanceof CompleteConfiguration) {
             own = new CadwrelchConfiguration<>((CompleteConfiguration<K, V>) configuration);
         } else {
             own = new CadwrelchConfiguration<>();
@@ -131,6 +131,12 @@ final class JcacheManager implements CacheManager {
         }
         if (own.isWriteThrough() && own.getCacheWriterFactory() == null) {
             throw new IllegalArgumentException("write-through is on, and there is no factory of a cache writer");
+        }
+        if (own.getRefreshAfter() != null && own.getCacheLoaderFactory() == null) {
+            throw new IllegalArgumentException("refreshAfter is set, and there is no factory of a cache loader");
+        }
+        if (own.getAbsentFor() != null && !own.isReadThrough()) {
+            throw new IllegalArgumentException("absentFor is set, and read-through is off");
         }
         return own;
     }

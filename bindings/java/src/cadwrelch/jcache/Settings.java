@@ -176,11 +176,13 @@ final class Settings {
         }
     }
 
-    /** The default properties: those that system properties of the same names set, and the provider's. */
+    /**
+     * The default properties: those that system properties of the same names set, and the provider's, but for the
+     * capacity and the stripes, of which each goes by the other.
+     */
     static Properties defaults() {
         Settings made = new Settings(Map.of(), null, null);
         Properties defaults = new Properties();
-        defaults.setProperty(PREFIX + CAPACITY, Integer.toString(made.capacity));
         defaults.setProperty(PREFIX + HISTORY, Integer.toString(made.history));
         defaults.setProperty(BYTES, Boolean.toString(made.bytes));
         defaults.putAll(ofSystem());

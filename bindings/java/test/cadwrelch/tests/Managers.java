@@ -270,9 +270,12 @@ final class Managers {
     @Test
     static void theDefaultPropertiesAreWhatCachesHave() {
         Properties defaults = PROVIDER.getDefaultProperties();
-        equal("the default properties say how many entries a cache has", "65536",
-                defaults.getProperty("cadwrelch.capacity"));
-        equal("and how many events a history has", "260", defaults.getProperty("cadwrelch.history"));
+        equal("the default properties say how many events a history has", "260",
+                defaults.getProperty("cadwrelch.history"));
+        defaults.setProperty("cadwrelch.stripes", "1");
+        CacheManager manager = Caches.manager(defaults);
+        equal("and may be added to", "260", manager.getProperties().getProperty("cadwrelch.history"));
+        manager.close();
     }
 
     @Test

@@ -4,6 +4,8 @@ import static cadwrelch.tests.Check.equal;
 import static cadwrelch.tests.Check.holds;
 import static cadwrelch.tests.Check.thrown;
 
+import java.time.Duration;
+import java.util.List;
 import java.util.Properties;
 import javax.cache.Cache;
 import javax.cache.CacheException;
@@ -64,6 +66,18 @@ final class Sizes {
         }
     }
 
+    @Test
+    @SuppressWarnings("unchecked")
+    static void theDefaultsGoTogether() {
+        for (int[] it : new int[][] {{0, 16, 65_536}, {1, 1, 4096}, {20, 20, 65_536}, {4096, 4096, 65_536}}) {
+            CadwrelchConfiguration<Integer, Integer> configuration = new CadwrelchConfiguration<>();
+            CadwrelchConfiguration<Integer, Integer> of = Caches.create(it[0] == 0 ? configuration
+                    : configuration.setStripes(it[0])).getConfiguration(CadwrelchConfiguration.class);
+            equal("with " + it[0] + " stripes set a cache has", List.of(it[1], it[2]),
+                    List.of(of.getStripes(), of.getCapacity()));
+        }
+    }
+
     /** How many of 100 keys a new cache of this name keeps. */
     private static int sizeOf(CacheManager manager, String name, CadwrelchConfiguration<Integer, Integer> configuration) {
         Cache<Integer, Integer> cache = manager.createCache(name, configuration);
@@ -104,6 +118,15 @@ final class Sizes {
         equal("a cache has the size that its configuration had", 3, kept(cache, 20, 1));
         Cache<Integer, Integer> copy = Caches.create(cache.getConfiguration(CadwrelchConfiguration.class));
         equal("and its configuration makes another one of that size", 3, kept(copy, 20, 1));
+        CadwrelchConfiguration<Integer, Integer> of = manager("capacity", "1000", "absent_for", "2 m")
+                .createCache("told", new CadwrelchConfiguration<Integer, Integer>()
+                        .setRefreshAfter(Duration.ofHours(1))
+                        .setReadThrough(true)
+                        .setCacheLoaderFactory(Store::new))
+                .getConfiguration(CadwrelchConfiguration.class);
+        equal("a cache's configuration says what the cache has, whatever has said so",
+                List.of(1000, 3, 260, Duration.ofHours(1), Duration.ofMinutes(2)), List.of(of.getCapacity(),
+                        of.getStripes(), of.getHistory(), of.getRefreshAfter(), of.getAbsentFor()));
     }
 
     /** That a cache isn't made, and what the text says. */
@@ -124,8 +147,12 @@ final class Sizes {
                 "from 16 to 65536 with 16 stripes");
         thrown("and properties, when the manager is made", CacheException.class,
                 () -> manager("stripes", "16", "titles.capacity", "8"));
+        thrown("reloads without a loader are IllegalArgumentException", IllegalArgumentException.class,
+                () -> Caches.create(new CadwrelchConfiguration<>().setRefreshAfter(Duration.ofHours(1))));
+        thrown("and so is what is absent without read-through", IllegalArgumentException.class,
+                () -> Caches.create(new CadwrelchConfiguration<>().setAbsentFor(Duration.ofHours(1))));
         thrown("a setter refuses what is out of its limits", IllegalArgumentException.class, () -> none.setCapacity(0));
-        thrown("or of another kind", IllegalArgumentException.class, () -> none.setRefreshAfter(java.time.Duration.ZERO));
+        thrown("or of another kind", IllegalArgumentException.class, () -> none.setRefreshAfter(Duration.ZERO));
         System.setProperty("cadwrelch.capacty", "9");
         try {
             CacheException refused = thrown("a system property that isn't there is CacheException",
