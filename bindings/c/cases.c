@@ -54,7 +54,7 @@ static uint32_t ask_loader(const char *key, char *loaded) {
     append(asked, "\n", "load", NULL);
     append(asked, " ", key, NULL);
     load_next = "";
-    return has_failed ? JC_FAILED : *loaded ? JC_FOUND : JC_NOTHING;
+    return has_failed ? JC_ANSWER_FAILED : *loaded ? JC_ANSWER_FOUND : JC_ANSWER_NOTHING;
 }
 
 /* Has the writer write a value, or, without one, delete the key: jc_answer. */
@@ -66,38 +66,38 @@ static uint32_t ask_writer(const char *key, const char *value) {
     append(asked, "\n", value ? "write" : "delete", NULL);
     append(asked, " ", key, value);
     write_next = "";
-    return has_failed ? JC_FAILED : JC_WRITTEN;
+    return has_failed ? JC_ANSWER_FAILED : JC_ANSWER_WRITTEN;
 }
 
 /* Runs a processor, whose acts are words, and asks the writer for what it has done. */
 static jc_processed process(const char *key, const jc_out *out) {
     char answers[TEXT] = "", loaded[TEXT], cached[JC_VALUE_MAX + 1];
     const char *value = NULL;
-    jc_processed done = {.load = JC_NOT_ASKED};
-    if (out->reply == JC_VALUE) {
+    jc_processed done = {.load = JC_ANSWER_NOT_ASKED};
+    if (out->reply == JC_REPLY_VALUE) {
         snprintf(cached, sizeof cached, "%.*s", (int)out->value.len, (const char *)out->value.bytes);
         value = cached;
     }
-    for (size_t i = 3; i < words_len && done.effect != JC_PROCESS_FAILED; i++) {
+    for (size_t i = 3; i < words_len && done.effect != JC_EFFECT_FAILED; i++) {
         const char *act = words[i], *set = find(act, "set=");
-        if (strcmp(act, "get") == 0 && !value && out->code == 1 && done.load == JC_NOT_ASKED && done.effect == JC_KEEP) {
+        if (strcmp(act, "get") == 0 && !value && out->code == 1 && done.load == JC_ANSWER_NOT_ASKED && done.effect == JC_EFFECT_KEEP) {
             done.load = ask_loader(key, loaded);
-            value = done.load == JC_FOUND ? loaded : NULL;
+            value = done.load == JC_ANSWER_FOUND ? loaded : NULL;
             done.loaded = value_of(loaded);
         }
         if (strcmp(act, "get") == 0 || strcmp(act, "exists") == 0) {
             append(answers, " ", *act == 'g' ? (value ? value : "none") : value ? "true" : "false", NULL);
         } else if (strcmp(act, "fail") == 0) {
-            done.effect = JC_PROCESS_FAILED;
-        } else if (done.load != JC_FAILED) {
+            done.effect = JC_EFFECT_FAILED;
+        } else if (done.load != JC_ANSWER_FAILED) {
             value = set;
-            done.effect = set ? JC_SET : JC_TAKE_OUT;
+            done.effect = set ? JC_EFFECT_SET : JC_EFFECT_REMOVE;
         }
     }
     done.set = value_of(value ? value : "");
     done.has_outcome = true;
     done.outcome = value_of(*answers ? answers : "ok");
-    if (shape.write_through && (done.effect == JC_SET || done.effect == JC_TAKE_OUT) && done.load != JC_FAILED) {
+    if (shape.write_through && (done.effect == JC_EFFECT_SET || done.effect == JC_EFFECT_REMOVE) && done.load != JC_ANSWER_FAILED) {
         done.write = ask_writer(key, value);
     }
     return done;
@@ -109,23 +109,23 @@ static void call(void) {
     while (strcmp(VERBS[op], words[0]) != 0) {
         CHECK(++op < sizeof VERBS / sizeof *VERBS);
     }
-    const char *key = words[1], *value = op != JC_INVOKE && words_len > 2 ? words[2] : "", *other = op == JC_REPLACE_IF ? words[3] : "";
+    const char *key = words[1], *value = op != JC_OP_INVOKE && words_len > 2 ? words[2] : "", *other = op == JC_OP_REPLACE_IF ? words[3] : "";
     jc_out out = {0};
     CHECK(jc_begin(&desk, 0, op, BYTES(key), BYTES(value), BYTES(other), &out) == JC_OK);
     uint64_t ticket = out.number;
-    if (out.next == JC_ASK_LOADER) {
+    if (out.next == JC_ASK_LOAD) {
         char loaded[TEXT];
         uint32_t answer = ask_loader(key, loaded);
         CHECK(jc_commit_load(&desk, ticket, answer, 0, BYTES(loaded), &out) == JC_OK);
-    } else if (out.next == JC_HAVE_WRITTEN || out.next == JC_HAVE_DELETED) {
-        uint32_t answer = ask_writer(key, out.next == JC_HAVE_WRITTEN ? words[words_len - 1] : NULL);
+    } else if (out.next == JC_ASK_WRITE || out.next == JC_ASK_DELETE) {
+        uint32_t answer = ask_writer(key, out.next == JC_ASK_WRITE ? words[words_len - 1] : NULL);
         CHECK(jc_commit_write(&desk, ticket, answer, 0, &out) == JC_OK);
-    } else if (out.next == JC_RUN_PROCESSOR) {
+    } else if (out.next == JC_ASK_PROCESS) {
         jc_processed done = process(key, &out);
         CHECK(jc_commit_process(&desk, ticket, &done, &out) == JC_OK);
     }
-    CHECK(out.next == JC_DONE);
-    if (out.reply == JC_VALUE) {
+    CHECK(out.next == JC_NEXT_DONE);
+    if (out.reply == JC_REPLY_VALUE) {
         snprintf(found, TEXT, "%.*s", (int)out.value.len, (const char *)out.value.bytes);
     } else {
         append(found, "", REPLIES[out.reply], NULL);
@@ -180,8 +180,8 @@ static bool step(const char *line) {
         if (is_store) {
             strcpy(store[*key - 'a'], words[i] + 2);
         } else {
-            CHECK(jc_begin(&desk, 0, JC_LOAD, BYTES(key), NONE, NONE, &out) == JC_OK && out.next == JC_ASK_LOADER);
-            CHECK(jc_commit_load(&desk, out.number, JC_FOUND, 0, BYTES(words[i] + 2), &out) == JC_OK);
+            CHECK(jc_begin(&desk, 0, JC_OP_LOAD, BYTES(key), NONE, NONE, &out) == JC_OK && out.next == JC_ASK_LOAD);
+            CHECK(jc_commit_load(&desk, out.number, JC_ANSWER_FOUND, 0, BYTES(words[i] + 2), &out) == JC_OK);
         }
     }
     return is_count || is_look;

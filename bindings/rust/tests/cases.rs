@@ -477,7 +477,7 @@ fn the_table_of_cases() {
                 *left_out.entry(lack).or_insert(0) += 1;
             } else {
                 played += 1;
-                let file = path.display();
+                let file = path.file_name().unwrap().to_string_lossy();
                 let difference = |why| failed += &format!("{file}:{why} ({name})\n");
                 play(&lines).unwrap_or_else(difference);
             }

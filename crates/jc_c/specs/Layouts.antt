@@ -51,4 +51,5 @@ inline_entries entries = map inline_entry entries
 
 abbrev pub config_of : CacheShape → Config
 config_of shape =
-    record { stripes = shape.stripes; capacity = shape.capacity; history = shape.history; read_through = shape.read_through; write_through = shape.write_through }
+    record { stripes = shape.stripes; capacity = shape.capacity; history = shape.history; read_through = shape.read_through;
+        write_through = shape.write_through }

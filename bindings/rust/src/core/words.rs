@@ -95,45 +95,45 @@ pub enum Op<'a> {
 impl<'a> Op<'a> {
     pub(super) fn of(op: u32, value: &'a raw::Value, other: &'a raw::Value) -> Op<'a> {
         match op {
-            raw::GET => Op::Get,
-            raw::CONTAINS_KEY => Op::ContainsKey,
-            raw::PUT => Op::Put(value.get()),
-            raw::GET_AND_PUT => Op::GetAndPut(value.get()),
-            raw::PUT_IF_ABSENT => Op::PutIfAbsent(value.get()),
-            raw::REMOVE => Op::Remove,
-            raw::REMOVE_IF => Op::RemoveIf(value.get()),
-            raw::GET_AND_REMOVE => Op::GetAndRemove,
-            raw::REPLACE => Op::Replace(value.get()),
-            raw::REPLACE_IF => Op::ReplaceIf {
+            raw::OP_GET => Op::Get,
+            raw::OP_CONTAINS_KEY => Op::ContainsKey,
+            raw::OP_PUT => Op::Put(value.get()),
+            raw::OP_GET_AND_PUT => Op::GetAndPut(value.get()),
+            raw::OP_PUT_IF_ABSENT => Op::PutIfAbsent(value.get()),
+            raw::OP_REMOVE => Op::Remove,
+            raw::OP_REMOVE_IF => Op::RemoveIf(value.get()),
+            raw::OP_GET_AND_REMOVE => Op::GetAndRemove,
+            raw::OP_REPLACE => Op::Replace(value.get()),
+            raw::OP_REPLACE_IF => Op::ReplaceIf {
                 old: value.get(),
                 new: other.get(),
             },
-            raw::GET_AND_REPLACE => Op::GetAndReplace(value.get()),
-            raw::CLEAR_KEY => Op::Clear,
-            raw::LOAD => Op::Load,
-            raw::RELOAD => Op::Reload,
-            raw::INVOKE => Op::Invoke,
+            raw::OP_GET_AND_REPLACE => Op::GetAndReplace(value.get()),
+            raw::OP_CLEAR_KEY => Op::Clear,
+            raw::OP_LOAD => Op::Load,
+            raw::OP_RELOAD => Op::Reload,
+            raw::OP_INVOKE => Op::Invoke,
             op => unreachable!("the core answered operation {op}"),
         }
     }
 
     pub(super) fn parts(self) -> (u32, &'a [u8], &'a [u8]) {
         match self {
-            Op::Get => (raw::GET, b"", b""),
-            Op::ContainsKey => (raw::CONTAINS_KEY, b"", b""),
-            Op::Put(value) => (raw::PUT, value, b""),
-            Op::GetAndPut(value) => (raw::GET_AND_PUT, value, b""),
-            Op::PutIfAbsent(value) => (raw::PUT_IF_ABSENT, value, b""),
-            Op::Remove => (raw::REMOVE, b"", b""),
-            Op::RemoveIf(old) => (raw::REMOVE_IF, old, b""),
-            Op::GetAndRemove => (raw::GET_AND_REMOVE, b"", b""),
-            Op::Replace(value) => (raw::REPLACE, value, b""),
-            Op::ReplaceIf { old, new } => (raw::REPLACE_IF, old, new),
-            Op::GetAndReplace(value) => (raw::GET_AND_REPLACE, value, b""),
-            Op::Clear => (raw::CLEAR_KEY, b"", b""),
-            Op::Load => (raw::LOAD, b"", b""),
-            Op::Reload => (raw::RELOAD, b"", b""),
-            Op::Invoke => (raw::INVOKE, b"", b""),
+            Op::Get => (raw::OP_GET, b"", b""),
+            Op::ContainsKey => (raw::OP_CONTAINS_KEY, b"", b""),
+            Op::Put(value) => (raw::OP_PUT, value, b""),
+            Op::GetAndPut(value) => (raw::OP_GET_AND_PUT, value, b""),
+            Op::PutIfAbsent(value) => (raw::OP_PUT_IF_ABSENT, value, b""),
+            Op::Remove => (raw::OP_REMOVE, b"", b""),
+            Op::RemoveIf(old) => (raw::OP_REMOVE_IF, old, b""),
+            Op::GetAndRemove => (raw::OP_GET_AND_REMOVE, b"", b""),
+            Op::Replace(value) => (raw::OP_REPLACE, value, b""),
+            Op::ReplaceIf { old, new } => (raw::OP_REPLACE_IF, old, new),
+            Op::GetAndReplace(value) => (raw::OP_GET_AND_REPLACE, value, b""),
+            Op::Clear => (raw::OP_CLEAR_KEY, b"", b""),
+            Op::Load => (raw::OP_LOAD, b"", b""),
+            Op::Reload => (raw::OP_RELOAD, b"", b""),
+            Op::Invoke => (raw::OP_INVOKE, b"", b""),
         }
     }
 }
@@ -187,14 +187,14 @@ impl<'d> Reply<'d> {
     #[inline]
     pub(super) fn of(reply: u32, code: u32, value: &'d raw::Value) -> Reply<'d> {
         match reply {
-            raw::UNIT => Reply::Unit,
-            raw::NO => Reply::Flag(false),
-            raw::YES => Reply::Flag(true),
-            raw::NULL => Reply::Value(None),
-            raw::VALUE => Reply::Value(Some(value.get())),
-            raw::LOADER_FAILED => Reply::LoaderFailed(code),
-            raw::WRITER_FAILED => Reply::WriterFailed(code),
-            raw::PROCESSOR_FAILED => Reply::ProcessorFailed(code),
+            raw::REPLY_UNIT => Reply::Unit,
+            raw::REPLY_NO => Reply::Flag(false),
+            raw::REPLY_YES => Reply::Flag(true),
+            raw::REPLY_NULL => Reply::Value(None),
+            raw::REPLY_VALUE => Reply::Value(Some(value.get())),
+            raw::REPLY_LOADER_FAILED => Reply::LoaderFailed(code),
+            raw::REPLY_WRITER_FAILED => Reply::WriterFailed(code),
+            raw::REPLY_PROCESSOR_FAILED => Reply::ProcessorFailed(code),
             reply => unreachable!("the core answered reply {reply}"),
         }
     }
@@ -288,9 +288,9 @@ pub enum Loaded<'a> {
 impl<'a> Loaded<'a> {
     pub(super) fn parts(self) -> (u32, u32, &'a [u8]) {
         match self {
-            Loaded::Found(value) => (raw::FOUND, 0, value),
-            Loaded::Nothing => (raw::NOTHING, 0, b""),
-            Loaded::Failed(code) => (raw::FAILED, code, b""),
+            Loaded::Found(value) => (raw::ANSWER_FOUND, 0, value),
+            Loaded::Nothing => (raw::ANSWER_NOTHING, 0, b""),
+            Loaded::Failed(code) => (raw::ANSWER_FAILED, code, b""),
         }
     }
 }

@@ -236,7 +236,12 @@ fn bad_in_line(search: WordSearch, first: &[u8], words: &[&[u8]]) -> usize
         }
         _ if is(first, "set") => bad_among(search, &[First, Key, Value], Nothing, words),
         _ if is(first, "foreign") => bad_among(search, &[First, Key, ValueOrNone], Nothing, words),
-        _ if is(first, "audit") || is(first, "untold") => bad_among(search, &[First], Nothing, words),
+        _ if is(first, "audit") || is(first, "untold") => bad_among(
+            search,
+            &[First],
+            Nothing,
+            words,
+        ),
         _ if is(first, "say") => bad_among(search, &[First, Number], Pair, words),
         _ if is(first, "apply") => bad_among(search, &[First, Number, But], Key, words),
         _ if is(first, "applyfail") => bad_among(search, &[First, Number, Number, But], Key, words),
