@@ -27,154 +27,154 @@ pub const OUT_SIZE: u32 = 856;
 /// It was done.
 pub const OK: u32 = 0;
 /// The handle isn't open; of `jc_open`: it is open already.
-pub const WRONG_HANDLE: u32 = 1;
+pub const CODE_WRONG_HANDLE: u32 = 1;
 /// An allocation failed.
-pub const NO_MEMORY: u32 = 2;
+pub const CODE_NO_MEMORY: u32 = 2;
 /// A key of 0 or over 32 bytes, a value of over 256, an unknown operation or answer, or a shape out of its limits.
-pub const BAD_ARGUMENT: u32 = 3;
+pub const CODE_BAD_ARGUMENT: u32 = 3;
 /// The host broke a rule: see at each function.
-pub const MISUSE: u32 = 4;
+pub const CODE_MISUSE: u32 = 4;
 /// A ticket or a join is out; of `jc_end_generation`: it has no event, or an answer is parked.
-pub const IN_USE: u32 = 5;
+pub const CODE_IN_USE: u32 = 5;
 /// There is no entry, or no such event.
-pub const NONE: u32 = 6;
+pub const CODE_NONE: u32 = 6;
 
 // Operations of `jc_begin`.
 
 /// `get`.
-pub const GET: u32 = 0;
+pub const OP_GET: u32 = 0;
 /// `containsKey`.
-pub const CONTAINS_KEY: u32 = 1;
+pub const OP_CONTAINS_KEY: u32 = 1;
 /// `put`.
-pub const PUT: u32 = 2;
+pub const OP_PUT: u32 = 2;
 /// `getAndPut`.
-pub const GET_AND_PUT: u32 = 3;
+pub const OP_GET_AND_PUT: u32 = 3;
 /// `putIfAbsent`.
-pub const PUT_IF_ABSENT: u32 = 4;
+pub const OP_PUT_IF_ABSENT: u32 = 4;
 /// `remove`.
-pub const REMOVE: u32 = 5;
+pub const OP_REMOVE: u32 = 5;
 /// `remove` of a key that has this value.
-pub const REMOVE_IF: u32 = 6;
+pub const OP_REMOVE_IF: u32 = 6;
 /// `getAndRemove`.
-pub const GET_AND_REMOVE: u32 = 7;
+pub const OP_GET_AND_REMOVE: u32 = 7;
 /// `replace`.
-pub const REPLACE: u32 = 8;
+pub const OP_REPLACE: u32 = 8;
 /// `replace` of this value by another one.
-pub const REPLACE_IF: u32 = 9;
+pub const OP_REPLACE_IF: u32 = 9;
 /// `getAndReplace`.
-pub const GET_AND_REPLACE: u32 = 10;
+pub const OP_GET_AND_REPLACE: u32 = 10;
 /// One key of `clear`: no writer is asked.
-pub const CLEAR_KEY: u32 = 11;
+pub const OP_CLEAR_KEY: u32 = 11;
 /// One key of `loadAll`, if it has no entry.
-pub const LOAD: u32 = 12;
+pub const OP_LOAD: u32 = 12;
 /// One key of `loadAll`, in any case.
-pub const RELOAD: u32 = 13;
+pub const OP_RELOAD: u32 = 13;
 /// `invoke`.
-pub const INVOKE: u32 = 14;
+pub const OP_INVOKE: u32 = 14;
 
 // `Out::next`: what the host does next.
 
 /// Nothing: the call is over.
-pub const DONE: u32 = 0;
+pub const NEXT_DONE: u32 = 0;
 /// Ask the loader, then `jc_commit_load`.
-pub const ASK_LOADER: u32 = 1;
+pub const ASK_LOAD: u32 = 1;
 /// Have the writer write `Out::value`, then `jc_commit_write`.
-pub const HAVE_WRITTEN: u32 = 2;
+pub const ASK_WRITE: u32 = 2;
 /// Have the writer delete the key, then `jc_commit_write`.
-pub const HAVE_DELETED: u32 = 3;
+pub const ASK_DELETE: u32 = 3;
 /// Run the processor, then `jc_commit_process`.
-pub const RUN_PROCESSOR: u32 = 4;
+pub const ASK_PROCESS: u32 = 4;
 /// Another call loads this key: wait for its end, then `jc_pick_up`.
-pub const JOINED: u32 = 5;
+pub const NEXT_JOINED: u32 = 5;
 /// Nothing was done; `Out::reply` says why.
-pub const REFUSED: u32 = 6;
+pub const NEXT_REFUSED: u32 = 6;
 /// Of `jc_pick_up`: the load was withdrawn; begin anew.
-pub const AGAIN: u32 = 7;
+pub const NEXT_AGAIN: u32 = 7;
 /// Of `jc_pick_up`: the load isn't over; the join is still out.
-pub const NOT_YET: u32 = 8;
+pub const NEXT_NOT_YET: u32 = 8;
 /// With `keeps_events`: nothing was done; read the events, call `jc_end_generation`, begin anew.
-pub const FULL: u32 = 9;
+pub const NEXT_FULL: u32 = 9;
 
 // `Out::reply` of a call that is over.
 
 /// It was done.
-pub const UNIT: u32 = 0;
+pub const REPLY_UNIT: u32 = 0;
 /// No.
-pub const NO: u32 = 1;
+pub const REPLY_NO: u32 = 1;
 /// Yes.
-pub const YES: u32 = 2;
+pub const REPLY_YES: u32 = 2;
 /// No value.
-pub const NULL: u32 = 3;
+pub const REPLY_NULL: u32 = 3;
 /// `Out::value`.
-pub const VALUE: u32 = 4;
+pub const REPLY_VALUE: u32 = 4;
 /// The loader failed, with `Out::code`.
-pub const LOADER_FAILED: u32 = 5;
+pub const REPLY_LOADER_FAILED: u32 = 5;
 /// The writer failed, with `Out::code`.
-pub const WRITER_FAILED: u32 = 6;
+pub const REPLY_WRITER_FAILED: u32 = 6;
 /// The processor failed, with `Out::code`.
-pub const PROCESSOR_FAILED: u32 = 7;
+pub const REPLY_PROCESSOR_FAILED: u32 = 7;
 /// Never of a desk.
-pub const OTHER_FAULT: u32 = 8;
+pub const REPLY_OTHER_FAULT: u32 = 8;
 
 // `Out::reply` of a call that was refused.
 
 /// A number is at its end, after 2^64 calls.
-pub const HISTORY_FULL: u32 = 0;
+pub const REFUSAL_HISTORY_FULL: u32 = 0;
 /// The key is reserved, or the history has no room: retry after the next commit, withdrawal or pick-up.
-pub const BUSY: u32 = 1;
+pub const REFUSAL_BUSY: u32 = 1;
 /// 64 keys are reserved.
-pub const TOO_MANY_IN_FLIGHT: u32 = 2;
+pub const REFUSAL_TOO_MANY_IN_FLIGHT: u32 = 2;
 /// 64 calls have joined a load.
-pub const TOO_MANY_JOINERS: u32 = 3;
+pub const REFUSAL_TOO_MANY_JOINERS: u32 = 3;
 /// Never of a desk.
-pub const OTHER: u32 = 4;
+pub const REFUSAL_OTHER: u32 = 4;
 
 // `Out::moves`: which values came and went with a step.
 
 /// The key's entry has a value that it hadn't before: the one that this call brought.
-pub const KEPT: u32 = 1;
+pub const MOVE_STORED: u32 = 1;
 /// `Out::left` is the value that the key's entry had, and hasn't now.
-pub const LEFT: u32 = 2;
+pub const MOVE_REMOVED: u32 = 2;
 /// `Out::victim` had `Out::evicted`, and was evicted for this step.
-pub const EVICTED: u32 = 4;
+pub const MOVE_EVICTED: u32 = 4;
 /// The step's own new entry was evicted at once: all others are reserved.
-pub const OWN_EVICTED_FULL: u32 = 8;
+pub const MOVE_OWN_EVICTED_FULL: u32 = 8;
 /// The same: there was no memory for it.
-pub const OWN_EVICTED_MEMORY: u32 = 16;
+pub const MOVE_OWN_EVICTED_MEMORY: u32 = 16;
 
 // What a loader and a writer answer.
 
 /// It wasn't asked.
-pub const NOT_ASKED: u32 = 0;
+pub const ANSWER_NOT_ASKED: u32 = 0;
 /// The loader found a value.
-pub const FOUND: u32 = 1;
+pub const ANSWER_FOUND: u32 = 1;
 /// The writer wrote or deleted.
-pub const WRITTEN: u32 = 1;
+pub const ANSWER_WRITTEN: u32 = 1;
 /// The loader found that the key has no value.
-pub const NOTHING: u32 = 2;
+pub const ANSWER_NOTHING: u32 = 2;
 /// It failed.
-pub const FAILED: u32 = 3;
+pub const ANSWER_FAILED: u32 = 3;
 
 // The net effect of a processor.
 
 /// It changed nothing.
-pub const KEEP: u32 = 0;
+pub const EFFECT_KEEP: u32 = 0;
 /// It set `Processed::set`.
-pub const SET: u32 = 1;
+pub const EFFECT_SET: u32 = 1;
 /// It removed the entry.
-pub const TAKE_OUT: u32 = 2;
+pub const EFFECT_REMOVE: u32 = 2;
 /// It failed, with `Processed::code`.
-pub const PROCESS_FAILED: u32 = 3;
+pub const EFFECT_FAILED: u32 = 3;
 /// Of an event alone: no processor ran.
-pub const NOT_RUN: u32 = 4;
+pub const EFFECT_NOT_RUN: u32 = 4;
 
 // Kinds of events, and why an entry was evicted.
 
 /// A call's step.
-pub const STEP: u32 = 0;
+pub const EVENT_STEP: u32 = 0;
 /// An eviction.
-pub const EVICTION: u32 = 1;
+pub const EVENT_EVICTION: u32 = 1;
 /// The stripe was full.
-pub const FOR_ROOM: u32 = 0;
+pub const CAUSE_ROOM: u32 = 0;
 /// An allocation for the entry failed.
-pub const FOR_MEMORY: u32 = 1;
+pub const CAUSE_MEMORY: u32 = 1;
