@@ -125,7 +125,11 @@ static void call(void) {
         CHECK(jc_commit_process(&desk, ticket, &done, &out) == JC_OK);
     }
     CHECK(out.next == JC_NEXT_DONE);
-    snprintf(found, TEXT, "%.*s", out.reply == JC_REPLY_VALUE ? (int)out.value.len : TEXT, out.reply == JC_REPLY_VALUE ? (char *)out.value.bytes : REPLIES[out.reply]);
+    if (out.reply == JC_REPLY_VALUE) {
+        snprintf(found, TEXT, "%.*s", (int)out.value.len, (const char *)out.value.bytes);
+    } else {
+        append(found, "", REPLIES[out.reply], NULL);
+    }
 }
 
 /* What has been counted. */

@@ -257,5 +257,6 @@ class Cases(unittest.TestCase):
                     played += 1
                     with self.subTest(file=os.path.basename(path), case=name):
                         self.player(steps[0][1] if steps[0][1][0] == 'with' else []).play(steps)
-        print(f'{self.player.__name__}: {played} cases played' + ''.join(f', {count} left out: {lack} ({LEFT_OUT[lack]})' for lack, count in left_out.items()))
+        reasons = [f', {count} left out: {lack} ({LEFT_OUT[lack]})' for lack, count in left_out.items()]
+        print(f'{self.player.__name__}: {played} cases played' + ''.join(reasons))
         self.assertGreater(played, 0)

@@ -16,9 +16,11 @@ import java.util.HashSet;
 import java.util.LinkedHashMap;
 import java.util.LinkedHashSet;
 import java.util.List;
+import java.util.Locale;
 import java.util.Map;
 import java.util.Set;
 import java.util.TreeMap;
+import java.util.concurrent.ExecutionException;
 import java.util.concurrent.TimeUnit;
 import java.util.stream.Collectors;
 import javax.cache.Cache;
@@ -85,12 +87,14 @@ final class Cases {
 
     private static Map<String, String> pairs(List<String> words) {
         Map<String, String> pairs = new LinkedHashMap<>();
-        words.stream().filter(word -> word.contains("=")).forEach(word -> pairs.put(word.split("=")[0], word.split("=")[1]));
+        words.stream().map(word -> word.split("=")).filter(pair -> pair.length == 2)
+                .forEach(pair -> pairs.put(pair[0], pair[1]));
         return pairs;
     }
 
     private static String shown(Map<?, ?> entries, String between) {
-        return entries.entrySet().stream().map(it -> it.getKey() + "=" + it.getValue()).collect(Collectors.joining(between));
+        return entries.entrySet().stream().map(it -> it.getKey() + "=" + it.getValue())
+                .collect(Collectors.joining(between));
     }
 
     private static String or(String text, String none) {
@@ -113,7 +117,8 @@ final class Cases {
 
         Player(List<String> options) {
             CadwrelchConfiguration<String, String> configuration = new CadwrelchConfiguration<>();
-            configuration.setStripes(1).setCapacity(number(options, "capacity", 100)).setClock(() -> now * 1_000_000_000);
+            configuration.setStripes(1).setCapacity(number(options, "capacity", 100))
+                    .setClock(() -> now * 1_000_000_000);
             configuration.setTypes(String.class, String.class).setStatisticsEnabled(true)
                     .setReadThrough(options.contains("read")).setCacheLoaderFactory(() -> this)
                     .setWriteThrough(options.contains("write")).setCacheWriterFactory(() -> this);
@@ -200,8 +205,10 @@ final class Cases {
 
         /** A key, or an entry. */
         private static String word(Object entry) {
-            return entry instanceof Cache.Entry<?, ?>
-                    ? ((Cache.Entry<?, ?>) entry).getKey() + "=" + ((Cache.Entry<?, ?>) entry).getValue() : (String) entry;
+            if (!(entry instanceof Cache.Entry<?, ?>)) {
+                return (String) entry;
+            }
+            return ((Cache.Entry<?, ?>) entry).getKey() + "=" + ((Cache.Entry<?, ?>) entry).getValue();
         }
 
         private String process(MutableEntry<String, String> entry, List<String> acts) {
@@ -284,7 +291,7 @@ final class Cases {
             try {
                 loaded.get();
                 return "ok";
-            } catch (java.util.concurrent.ExecutionException e) {
+            } catch (ExecutionException e) {
                 return fault(e.getCause());
             }
         }
@@ -334,7 +341,7 @@ final class Cases {
             StringBuilder counted = new StringBuilder();
             for (String count : List.of("Hits", "Misses", "Puts", "Removals", "Evictions")) {
                 Object number = ManagementFactory.getPlatformMBeanServer().getAttribute(bean, "Cache" + count);
-                counted.append(number.equals(0L) ? "" : " " + count.toLowerCase(java.util.Locale.ROOT) + " " + number);
+                counted.append(number.equals(0L) ? "" : " " + count.toLowerCase(Locale.ROOT) + " " + number);
             }
             return counted.toString().trim();
         }
@@ -370,12 +377,16 @@ final class Cases {
                 boolean isThreaded = Character.isDigit(words.get(0).charAt(0));
                 Worker worker = isThreaded ? workers.computeIfAbsent(words.get(0), name -> new Worker()) : own;
                 String wanted = isLook ? String.join(" ", words.subList(1, words.size())) : step.reply;
-                String found = isThreaded ? threaded(worker, words.get(1), words.subList(2, words.size())) : step(words);
+                String found = isThreaded ? threaded(worker, words.get(1), words.subList(2, words.size()))
+                        : step(words);
                 List<String> asks = worker.asks;
                 worker.asks = new ArrayList<>();
                 // The keys of a call that names none come in any order.
-                if (!found.equals(wanted) || !(words.contains("remove_all") ? sorted(asks).equals(sorted(step.asks)) : asks.equals(step.asks))) {
-                    return "line " + step.line + ", " + String.join(" ", words) + ": wanted " + wanted + step.asks + ", found " + found + asks;
+                boolean isAnyOrder = words.contains("remove_all");
+                boolean areAsksRight = isAnyOrder ? sorted(asks).equals(sorted(step.asks)) : asks.equals(step.asks);
+                if (!found.equals(wanted) || !areAsksRight) {
+                    return "line " + step.line + ", " + String.join(" ", words) + ": wanted " + wanted + step.asks
+                            + ", found " + found + asks;
                 }
             }
             if (!cache.isClosed()) {
@@ -413,7 +424,8 @@ final class Cases {
     static void playsTheTable() throws Exception {
         Map<String, Integer> leftOut = new TreeMap<>();
         int played = 0;
-        try (DirectoryStream<Path> paths = Files.newDirectoryStream(Path.of(System.getProperty("cases", "../cases")), "*.cases")) {
+        Path folder = Path.of(System.getProperty("cases", "../cases"));
+        try (DirectoryStream<Path> paths = Files.newDirectoryStream(folder, "*.cases")) {
             for (Path path : paths) {
                 for (Map.Entry<String, List<Step>> it : casesOf(path).entrySet()) {
                     List<Step> steps = it.getValue();
