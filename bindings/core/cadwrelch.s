@@ -31091,6 +31091,6 @@ jc_begin:
 	.type jc_stamp,@object
 	.size jc_stamp,94
 jc_stamp:
-	.string "cadwrelch 0.2.0, proved in rattle-kit-13f logic dac8208d650f15bf, of sources b26d265dd3fa9144"
+	.string "cadwrelch 0.2.0, proved in rattle-kit-13f logic dac8208d650f15bf, of sources ff7a7c151dacf356"
 
 	.section .note.GNU-stack,"",@progbits
