@@ -197,6 +197,7 @@ void *other_value(void);
 bool read_clock(Stripes *self, int64_t *now);
 bool as_life(PyObject *seconds, int64_t *life);
 bool given_life(PyObject *seconds, int64_t *life);
+bool contains(Stripes *self, PyObject *key, uint64_t hash, bool *is_cached);
 PyObject *hit(Stripes *self, PyObject *key, uint64_t hash);
 bool expire(Stripes *self, stripe *s, node *n, int64_t now, leavings *left);
 void begin(Stripes *self, uint32_t op, PyObject *key, uint64_t hash, PyObject *value, PyObject *old, int64_t life, ended *end);
