@@ -32,7 +32,7 @@ static bool are_equal(const jc_value *left, const jc_value *right) {
     return left->len == right->len && memcmp(left->bytes, right->bytes, left->len) == 0;
 }
 
-/* A session's call that is out: NO_CALL, one of those that have a ticket, or JC_JOINED. */
+/* A session's call that is out: NO_CALL, one of those that have a ticket, or JC_NEXT_JOINED. */
 typedef struct call {
     uint32_t next;
     unsigned key;
@@ -90,7 +90,7 @@ static bool is_ours(const host *self, unsigned key) {
 }
 
 static bool has_ticket(const call *it) {
-    return it->next >= JC_ASK_LOADER && it->next <= JC_RUN_PROCESSOR;
+    return it->next >= JC_ASK_LOAD && it->next <= JC_ASK_PROCESS;
 }
 
 static bool is_idle(const host *self) {
@@ -104,7 +104,7 @@ static bool is_idle(const host *self) {
 
 static bool has_parked(const host *self) {
     for (unsigned at = 0; at < SESSIONS; at++) {
-        if (self->calls[at].next == JC_JOINED && self->calls[at].picked == JC_DONE) {
+        if (self->calls[at].next == JC_NEXT_JOINED && self->calls[at].picked == JC_NEXT_DONE) {
             return true;
         }
     }
@@ -136,19 +136,19 @@ static void lose(host *self, unsigned key, const jc_value *value) {
 /* The account follows the moves of a step at this key, whose call brought this value. */
 static void follow(host *self, unsigned key, const jc_value *brought) {
     const jc_out *out = &self->out;
-    if (out->moves & JC_EVICTED) {
+    if (out->moves & JC_MOVE_EVICTED) {
         lose(self, key_of(&out->victim), &out->evicted);
     }
-    if (out->moves & JC_LEFT) {
+    if (out->moves & JC_MOVE_REMOVED) {
         lose(self, key, &out->left);
     }
-    if (out->moves & JC_KEPT) {
-        CHECK(!self->cached[key].is_there && !(out->moves & JC_OWN_EVICTED_FULL));
+    if (out->moves & JC_MOVE_STORED) {
+        CHECK(!self->cached[key].is_there && !(out->moves & JC_MOVE_OWN_EVICTED_FULL));
         self->cached[key].is_there = true;
         self->cached[key].value = *brought;
     }
-    self->evicted += (out->moves & (JC_EVICTED | JC_OWN_EVICTED_FULL)) != 0;
-    CHECK(!(out->moves & JC_OWN_EVICTED_MEMORY));
+    self->evicted += (out->moves & (JC_MOVE_EVICTED | JC_MOVE_OWN_EVICTED_FULL)) != 0;
+    CHECK(!(out->moves & JC_MOVE_OWN_EVICTED_MEMORY));
 }
 
 /* Generations. */
@@ -166,7 +166,7 @@ static void judge_events(host *self, input *from) {
     for (size_t place = 0; place < len; place++) {
         CHECK(jc_event(&self->desk, place, &events[place]) == JC_OK);
     }
-    CHECK(jc_event(&self->desk, len, &events[0]) == JC_NONE);
+    CHECK(jc_event(&self->desk, len, &events[0]) == JC_CODE_NONE);
     bool is_legal = false;
     CHECK(jc_legal(&self->shape, self->opening, self->opened, events, len, &is_legal) == JC_OK && is_legal);
     if (len == 0) {
@@ -176,7 +176,7 @@ static void judge_events(host *self, input *from) {
     bool is_flag = at == offsetof(jc_flat_event, is_shared) || at == offsetof(jc_flat_event, outside) + offsetof(jc_processed, has_outcome);
     ((uint8_t *)&events[byte(from) % len])[at] ^= is_flag ? 1 : byte(from);
     uint32_t code = jc_legal(&self->shape, self->opening, self->opened, events, len, &is_legal);
-    CHECK(code == JC_OK || code == JC_BAD_ARGUMENT);
+    CHECK(code == JC_OK || code == JC_CODE_BAD_ARGUMENT);
 }
 
 static void end_generation(host *self, input *from) {
@@ -184,7 +184,7 @@ static void end_generation(host *self, input *from) {
     if (self->shape.keeps_events) {
         judge_events(self, from);
     }
-    CHECK(jc_end_generation(&self->desk) == (len > 0 && !has_parked(self) ? JC_OK : JC_IN_USE));
+    CHECK(jc_end_generation(&self->desk) == (len > 0 && !has_parked(self) ? JC_OK : JC_CODE_IN_USE));
     if (len > 0 && !has_parked(self)) {
         CHECK(jc_events_len(&self->desk) == 0);
         keep_opening(self);
@@ -194,52 +194,52 @@ static void end_generation(host *self, input *from) {
 /* Phases. */
 
 static bool takes_value(uint32_t op) {
-    return op == JC_PUT || op == JC_GET_AND_PUT || op == JC_PUT_IF_ABSENT || op == JC_REMOVE_IF || op == JC_REPLACE || op == JC_GET_AND_REPLACE;
+    return op == JC_OP_PUT || op == JC_OP_GET_AND_PUT || op == JC_OP_PUT_IF_ABSENT || op == JC_OP_REMOVE_IF || op == JC_OP_REPLACE || op == JC_OP_GET_AND_REPLACE;
 }
 
 static void take_out(host *self, unsigned session, unsigned key, const jc_value *brought) {
     const jc_out *out = &self->out;
     self->calls[session] = (call){.next = out->next, .key = key, .number = out->number, .call = out->call, .brought = *brought};
     call *it = &self->calls[session];
-    it->picked = JC_NOT_YET;
+    it->picked = JC_NEXT_NOT_YET;
     switch (out->next) {
-    case JC_HAVE_WRITTEN:
+    case JC_ASK_WRITE:
         CHECK(are_equal(&out->value, brought));
         break;
-    case JC_RUN_PROCESSOR:
-        CHECK((out->reply == JC_VALUE) == self->cached[key].is_there);
-        CHECK(out->reply == JC_VALUE ? are_equal(&out->value, &self->cached[key].value) : out->reply == JC_NULL);
+    case JC_ASK_PROCESS:
+        CHECK((out->reply == JC_REPLY_VALUE) == self->cached[key].is_there);
+        CHECK(out->reply == JC_REPLY_VALUE ? are_equal(&out->value, &self->cached[key].value) : out->reply == JC_REPLY_NULL);
         it->may_load = out->code == 1;
         break;
     default:
-        CHECK(out->next == JC_ASK_LOADER || out->next == JC_HAVE_DELETED || out->next == JC_JOINED);
+        CHECK(out->next == JC_ASK_LOAD || out->next == JC_ASK_DELETE || out->next == JC_NEXT_JOINED);
     }
 }
 
 static void begin_call(host *self, input *from) {
-    unsigned session = byte(from) % SESSIONS, op = byte(from) % (JC_INVOKE + 2), key = byte(from) % (KEYS + 2);
+    unsigned session = byte(from) % SESSIONS, op = byte(from) % (JC_OP_INVOKE + 2), key = byte(from) % (KEYS + 2);
     jc_value value = value_of(byte(from)), other = value_of(byte(from));
-    bool is_good = key < KEYS && op <= JC_INVOKE && (fits(&value) || !(takes_value(op) || op == JC_REPLACE_IF)) &&
-                   (fits(&other) || op != JC_REPLACE_IF);
+    bool is_good = key < KEYS && op <= JC_OP_INVOKE && (fits(&value) || !(takes_value(op) || op == JC_OP_REPLACE_IF)) &&
+                   (fits(&other) || op != JC_OP_REPLACE_IF);
     bool may = is_ours(self, key) && self->calls[session].next == NO_CALL;
     uint8_t room[2][JC_VALUE_MAX + 1] = {{0}};
     memcpy(room[0], value.bytes, JC_VALUE_MAX);
     memcpy(room[1], other.bytes, JC_VALUE_MAX);
     uint32_t code = jc_begin(&self->desk, session, op, bytes_of(key), length_of(key), room[0], value.len, room[1], other.len, &self->out);
-    CHECK(code == (!is_good ? JC_BAD_ARGUMENT : may ? JC_OK : JC_MISUSE));
+    CHECK(code == (!is_good ? JC_CODE_BAD_ARGUMENT : may ? JC_OK : JC_CODE_MISUSE));
     if (code != JC_OK) {
         return;
     }
-    const jc_value *brought = op == JC_REPLACE_IF ? &other : &value;
+    const jc_value *brought = op == JC_OP_REPLACE_IF ? &other : &value;
     reach(0, op, &self->out);
     switch (self->out.next) {
-    case JC_DONE:
+    case JC_NEXT_DONE:
         follow(self, key, brought);
         break;
-    case JC_REFUSED:
-        CHECK(self->out.reply <= JC_TOO_MANY_JOINERS);
+    case JC_NEXT_REFUSED:
+        CHECK(self->out.reply <= JC_REFUSAL_TOO_MANY_JOINERS);
         break;
-    case JC_FULL:
+    case JC_NEXT_FULL:
         CHECK(self->shape.keeps_events);
         end_generation(self, from);
         break;
@@ -252,12 +252,12 @@ static void hit(host *self, input *from) {
     unsigned session = byte(from) % SESSIONS, key = byte(from) % (KEYS + 2);
     jc_value value;
     uint32_t code = jc_hit(&self->desk, session, bytes_of(key), length_of(key), &value);
-    CHECK((code == JC_BAD_ARGUMENT) == (key >= KEYS));
+    CHECK((code == JC_CODE_BAD_ARGUMENT) == (key >= KEYS));
     if (code == JC_OK) {
         CHECK(self->cached[key].is_there && are_equal(&self->cached[key].value, &value));
         CHECK(self->calls[session].next == NO_CALL);
     } else {
-        CHECK(code == JC_BAD_ARGUMENT || code == JC_NONE);
+        CHECK(code == JC_CODE_BAD_ARGUMENT || code == JC_CODE_NONE);
     }
 }
 
@@ -265,7 +265,7 @@ static void peek(host *self, input *from) {
     unsigned key = byte(from) % (KEYS + 2);
     jc_value value;
     uint32_t code = jc_peek(&self->desk, bytes_of(key), length_of(key), &value);
-    CHECK(code == (key >= KEYS ? JC_BAD_ARGUMENT : self->cached[key].is_there ? JC_OK : JC_NONE));
+    CHECK(code == (key >= KEYS ? JC_CODE_BAD_ARGUMENT : self->cached[key].is_there ? JC_OK : JC_CODE_NONE));
     CHECK(code != JC_OK || are_equal(&self->cached[key].value, &value));
 }
 
@@ -274,7 +274,7 @@ static uint32_t end_load(host *self, uint64_t load, uint32_t picked, uint32_t an
     uint32_t joined = 0;
     for (unsigned at = 0; at < SESSIONS; at++) {
         call *it = &self->calls[at];
-        if (it->next == JC_JOINED && it->number == load && it->picked == JC_NOT_YET) {
+        if (it->next == JC_NEXT_JOINED && it->number == load && it->picked == JC_NEXT_NOT_YET) {
             it->picked = picked;
             it->answer = answer;
             it->code = code;
@@ -290,10 +290,10 @@ static void commit(host *self, unsigned kind, uint32_t code, call *it, const jc_
     if (code != JC_OK) {
         return;
     }
-    CHECK(self->out.next == JC_DONE);
+    CHECK(self->out.next == JC_NEXT_DONE);
     reach(kind, it->next, &self->out);
     follow(self, it->key, brought);
-    CHECK(jc_withdraw(&self->desk, it->number) == JC_MISUSE);
+    CHECK(jc_withdraw(&self->desk, it->number) == JC_CODE_MISUSE);
     it->next = NO_CALL;
 }
 
@@ -309,11 +309,11 @@ static void commit_load(host *self, input *from) {
     uint8_t room[JC_VALUE_MAX + 1] = {0};
     memcpy(room, value.bytes, JC_VALUE_MAX);
     uint32_t code = jc_commit_load(&self->desk, ticket_of(it), answer, failure, room, value.len, &self->out);
-    bool is_good = fits(&value) && answer >= JC_FOUND && answer <= JC_FAILED;
-    CHECK(code == (!is_good ? JC_BAD_ARGUMENT : it->next == JC_ASK_LOADER ? JC_OK : JC_MISUSE));
-    CHECK(code != JC_OK || answer != JC_FAILED || (self->out.reply == JC_LOADER_FAILED && self->out.code == failure));
+    bool is_good = fits(&value) && answer >= JC_ANSWER_FOUND && answer <= JC_ANSWER_FAILED;
+    CHECK(code == (!is_good ? JC_CODE_BAD_ARGUMENT : it->next == JC_ASK_LOAD ? JC_OK : JC_CODE_MISUSE));
+    CHECK(code != JC_OK || answer != JC_ANSWER_FAILED || (self->out.reply == JC_REPLY_LOADER_FAILED && self->out.code == failure));
     if (code == JC_OK) {
-        CHECK(end_load(self, it->number, JC_DONE, answer, failure, &value) == self->out.shared);
+        CHECK(end_load(self, it->number, JC_NEXT_DONE, answer, failure, &value) == self->out.shared);
     }
     commit(self, 1, code, it, &value);
 }
@@ -322,15 +322,15 @@ static void commit_write(host *self, input *from) {
     call *it = &self->calls[byte(from) % SESSIONS];
     uint32_t answer = byte(from) % 5, failure = byte(from);
     uint32_t code = jc_commit_write(&self->desk, ticket_of(it), answer, failure, &self->out);
-    bool is_due = it->next == JC_HAVE_WRITTEN || it->next == JC_HAVE_DELETED;
-    CHECK(code == (answer != JC_WRITTEN && answer != JC_FAILED ? JC_BAD_ARGUMENT : is_due ? JC_OK : JC_MISUSE));
-    CHECK(code != JC_OK || (self->out.reply == JC_WRITER_FAILED) == (answer == JC_FAILED));
-    CHECK(code != JC_OK || answer != JC_FAILED || (self->out.code == failure && self->out.moves == 0));
+    bool is_due = it->next == JC_ASK_WRITE || it->next == JC_ASK_DELETE;
+    CHECK(code == (answer != JC_ANSWER_WRITTEN && answer != JC_ANSWER_FAILED ? JC_CODE_BAD_ARGUMENT : is_due ? JC_OK : JC_CODE_MISUSE));
+    CHECK(code != JC_OK || (self->out.reply == JC_REPLY_WRITER_FAILED) == (answer == JC_ANSWER_FAILED));
+    CHECK(code != JC_OK || answer != JC_ANSWER_FAILED || (self->out.code == failure && self->out.moves == 0));
     commit(self, 2, code, it, &it->brought);
 }
 
 static bool is_good_process(const jc_processed *said) {
-    return said->load <= JC_FAILED && said->effect <= JC_PROCESS_FAILED && said->write <= JC_FAILED && said->write != JC_NOTHING &&
+    return said->load <= JC_ANSWER_FAILED && said->effect <= JC_EFFECT_FAILED && said->write <= JC_ANSWER_FAILED && said->write != JC_ANSWER_NOTHING &&
            fits(&said->loaded) && fits(&said->set) && (fits(&said->outcome) || !said->has_outcome);
 }
 
@@ -341,37 +341,37 @@ static void commit_process(host *self, input *from) {
     said.loaded = value_of(byte(from));
     said.set = value_of(byte(from));
     said.outcome = value_of(byte(from));
-    bool is_due = self->shape.write_through && (said.effect == JC_SET || said.effect == JC_TAKE_OUT) && said.load != JC_FAILED;
-    bool may = it->next == JC_RUN_PROCESSOR && (it->may_load || said.load == JC_NOT_ASKED) && is_due == (said.write != JC_NOT_ASKED);
+    bool is_due = self->shape.write_through && (said.effect == JC_EFFECT_SET || said.effect == JC_EFFECT_REMOVE) && said.load != JC_ANSWER_FAILED;
+    bool may = it->next == JC_ASK_PROCESS && (it->may_load || said.load == JC_ANSWER_NOT_ASKED) && is_due == (said.write != JC_ANSWER_NOT_ASKED);
     uint32_t code = jc_commit_process(&self->desk, ticket_of(it), &said, &self->out);
-    CHECK(code == (!is_good_process(&said) ? JC_BAD_ARGUMENT : may ? JC_OK : JC_MISUSE));
-    commit(self, 3, code, it, said.effect == JC_SET ? &said.set : &said.loaded);
+    CHECK(code == (!is_good_process(&said) ? JC_CODE_BAD_ARGUMENT : may ? JC_OK : JC_CODE_MISUSE));
+    commit(self, 3, code, it, said.effect == JC_EFFECT_SET ? &said.set : &said.loaded);
 }
 
 static void withdraw(host *self, call *it) {
-    CHECK(jc_withdraw(&self->desk, ticket_of(it)) == (has_ticket(it) ? JC_OK : JC_MISUSE));
+    CHECK(jc_withdraw(&self->desk, ticket_of(it)) == (has_ticket(it) ? JC_OK : JC_CODE_MISUSE));
     if (has_ticket(it)) {
-        end_load(self, it->number, JC_AGAIN, 0, 0, &it->brought);
+        end_load(self, it->number, JC_NEXT_AGAIN, 0, 0, &it->brought);
         it->next = NO_CALL;
     }
 }
 
 static void pick_up(host *self, unsigned session, unsigned key, uint64_t load) {
     call *it = &self->calls[session];
-    bool is_out = it->next == JC_JOINED && it->key == key && it->number == load;
+    bool is_out = it->next == JC_NEXT_JOINED && it->key == key && it->number == load;
     uint32_t code = jc_pick_up(&self->desk, session, it->call, bytes_of(key), length_of(key), load, &self->out);
-    CHECK(code == (key >= KEYS ? JC_BAD_ARGUMENT : is_out ? JC_OK : JC_MISUSE));
+    CHECK(code == (key >= KEYS ? JC_CODE_BAD_ARGUMENT : is_out ? JC_OK : JC_CODE_MISUSE));
     if (code != JC_OK) {
         return;
     }
     const jc_out *out = &self->out;
     CHECK(out->next == it->picked);
-    if (out->next == JC_DONE) {
-        CHECK(out->reply == (it->answer == JC_FOUND ? JC_VALUE : it->answer == JC_NOTHING ? JC_NULL : JC_LOADER_FAILED));
-        CHECK(out->reply != JC_VALUE || are_equal(&out->value, &it->loaded));
-        CHECK(out->reply != JC_LOADER_FAILED || out->code == it->code);
+    if (out->next == JC_NEXT_DONE) {
+        CHECK(out->reply == (it->answer == JC_ANSWER_FOUND ? JC_REPLY_VALUE : it->answer == JC_ANSWER_NOTHING ? JC_REPLY_NULL : JC_REPLY_LOADER_FAILED));
+        CHECK(out->reply != JC_REPLY_VALUE || are_equal(&out->value, &it->loaded));
+        CHECK(out->reply != JC_REPLY_LOADER_FAILED || out->code == it->code);
     }
-    if (out->next != JC_NOT_YET) {
+    if (out->next != JC_NEXT_NOT_YET) {
         it->next = NO_CALL;
     }
 }
@@ -401,22 +401,22 @@ static void open_desk(host *self, input *from) {
     }
     self->opened = kept;
     self->evicted = 0;
-    CHECK(jc_open(&self->desk, &self->shape, self->shape.stripes, self->opening, kept) == JC_BAD_ARGUMENT);
+    CHECK(jc_open(&self->desk, &self->shape, self->shape.stripes, self->opening, kept) == JC_CODE_BAD_ARGUMENT);
     CHECK(jc_open(&self->desk, &self->shape, 0, self->opening, kept) == JC_OK);
-    CHECK(jc_open(&self->desk, &self->shape, 0, self->opening, kept) == JC_WRONG_HANDLE);
+    CHECK(jc_open(&self->desk, &self->shape, 0, self->opening, kept) == JC_CODE_WRONG_HANDLE);
 }
 
 static void close_desk(host *self, input *from) {
     if (!is_idle(self)) {
-        CHECK(jc_close(&self->desk) == JC_IN_USE);
+        CHECK(jc_close(&self->desk) == JC_CODE_IN_USE);
         return;
     }
     if (self->shape.keeps_events) {
         judge_events(self, from);
     }
     keep_opening(self);
-    CHECK(jc_close(&self->desk) == JC_OK && jc_close(&self->desk) == JC_WRONG_HANDLE);
-    CHECK(jc_withdraw(&self->desk, 0) == JC_WRONG_HANDLE);
+    CHECK(jc_close(&self->desk) == JC_OK && jc_close(&self->desk) == JC_CODE_WRONG_HANDLE);
+    CHECK(jc_withdraw(&self->desk, 0) == JC_CODE_WRONG_HANDLE);
 }
 
 /* All that is out is given back, and the desk is closed. */
@@ -425,7 +425,7 @@ static void end(host *self, input *from) {
         withdraw(self, &self->calls[at]);
     }
     for (unsigned at = 0; at < SESSIONS; at++) {
-        if (self->calls[at].next == JC_JOINED) {
+        if (self->calls[at].next == JC_NEXT_JOINED) {
             pick_up(self, at, self->calls[at].key, self->calls[at].number);
         }
     }

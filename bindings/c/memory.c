@@ -1,4 +1,4 @@
-/* Each allocation of a run is refused in turn, and all from there on: a call then answers JC_NO_MEMORY with nothing done, or a new entry
+/* Each allocation of a run is refused in turn, and all from there on: a call then answers JC_CODE_NO_MEMORY with nothing done, or a new entry
  * is not kept, and nothing is lost. Link with -Wl,--wrap=malloc,--wrap=realloc,--wrap=free. */
 #include "check.h"
 
@@ -63,22 +63,22 @@ static bool are_equal(const jc_value *left, const jc_value *right) {
 }
 
 static void follow(unsigned number, const jc_out *out, const jc_value *brought) {
-    if (out->moves & JC_EVICTED) {
+    if (out->moves & JC_MOVE_EVICTED) {
         unsigned victim = number_of(&out->victim);
         CHECK(table[victim].is_there && are_equal(&table[victim].value, &out->evicted));
         table[victim].is_there = false;
     }
-    if (out->moves & JC_LEFT) {
+    if (out->moves & JC_MOVE_REMOVED) {
         CHECK(table[number].is_there && are_equal(&table[number].value, &out->left));
         table[number].is_there = false;
     }
-    if (out->moves & JC_KEPT) {
+    if (out->moves & JC_MOVE_STORED) {
         CHECK(!table[number].is_there);
         table[number].is_there = true;
         table[number].value = *brought;
     }
-    if (out->moves & JC_OWN_EVICTED_MEMORY) {
-        CHECK(!(out->moves & JC_KEPT) && !table[number].is_there);
+    if (out->moves & JC_MOVE_OWN_EVICTED_MEMORY) {
+        CHECK(!(out->moves & JC_MOVE_STORED) && !table[number].is_there);
         not_kept++;
     }
 }
@@ -87,17 +87,17 @@ static void follow(unsigned number, const jc_out *out, const jc_value *brought) 
 static void call(jc_desk *desk, unsigned step) {
     unsigned number = step * 7 % KEYS;
     const char *key = key_of(number);
-    const uint32_t op = step % 5 == 4 ? JC_REMOVE : step % 2 ? JC_PUT : JC_GET;
+    const uint32_t op = step % 5 == 4 ? JC_OP_REMOVE : step % 2 ? JC_OP_PUT : JC_OP_GET;
     jc_value value = {.len = step % 200};
     memset(value.bytes, (int)('a' + step % 26), value.len);
     jc_out out = {0};
     CHECK(jc_begin(desk, 1, op, BYTES(key), value.bytes, value.len, NONE, &out) == JC_OK);
-    if (out.next == JC_ASK_LOADER) {
-        CHECK(jc_commit_load(desk, out.number, JC_FOUND, 0, value.bytes, value.len, &out) == JC_OK);
-        CHECK(out.reply == JC_VALUE && are_equal(&out.value, &value));
-    } else if (out.next != JC_DONE) {
-        CHECK(out.next == (op == JC_REMOVE ? JC_HAVE_DELETED : JC_HAVE_WRITTEN));
-        CHECK(jc_commit_write(desk, out.number, JC_WRITTEN, 0, &out) == JC_OK && out.next == JC_DONE);
+    if (out.next == JC_ASK_LOAD) {
+        CHECK(jc_commit_load(desk, out.number, JC_ANSWER_FOUND, 0, value.bytes, value.len, &out) == JC_OK);
+        CHECK(out.reply == JC_REPLY_VALUE && are_equal(&out.value, &value));
+    } else if (out.next != JC_NEXT_DONE) {
+        CHECK(out.next == (op == JC_OP_REMOVE ? JC_ASK_DELETE : JC_ASK_WRITE));
+        CHECK(jc_commit_write(desk, out.number, JC_ANSWER_WRITTEN, 0, &out) == JC_OK && out.next == JC_NEXT_DONE);
     }
     follow(number, &out, &value);
 }
@@ -106,7 +106,7 @@ static void compare(jc_desk *desk) {
     static jc_entry entries[CAPACITY];
     size_t count = 0, expected = 0;
     uint32_t code = jc_entries(desk, entries, CAPACITY, &count);
-    if (code == JC_NO_MEMORY) {
+    if (code == JC_CODE_NO_MEMORY) {
         no_memory++;
         return;
     }
@@ -128,7 +128,7 @@ static bool run(void) {
     const jc_entry contents[] = {{.key = {2, "k0"}, .value = {1, "0"}}, {.key = {2, "k1"}, .value = {1, "1"}}};
     uint32_t code = jc_open(&desk, &SHAPE, 0, contents, 2);
     if (code != JC_OK) {
-        CHECK(code == JC_NO_MEMORY && !desk.is_open && held == 0);
+        CHECK(code == JC_CODE_NO_MEMORY && !desk.is_open && held == 0);
         no_memory++;
         return false;
     }

@@ -14,31 +14,31 @@ static jc_desk opened(const jc_shape *shape) {
 
 /* A put, written at once. */
 static void put(jc_desk *desk, const char *key, const char *value, jc_out *out) {
-    CHECK(begin(desk, 1, JC_PUT, key, value, out) == JC_OK);
-    CHECK(out->next == JC_HAVE_WRITTEN && is_value(&out->value, value));
-    CHECK(jc_commit_write(desk, out->number, JC_WRITTEN, 0, out) == JC_OK && out->next == JC_DONE);
+    CHECK(begin(desk, 1, JC_OP_PUT, key, value, out) == JC_OK);
+    CHECK(out->next == JC_ASK_WRITE && is_value(&out->value, value));
+    CHECK(jc_commit_write(desk, out->number, JC_ANSWER_WRITTEN, 0, out) == JC_OK && out->next == JC_NEXT_DONE);
 }
 
 static void loads_and_joins(void) {
     jc_desk desk = opened(&SHAPE);
     jc_out first = {0}, second = {0}, picked = {0};
-    CHECK(begin(&desk, 1, JC_GET, "a", "", &first) == JC_OK && first.next == JC_ASK_LOADER);
-    CHECK(begin(&desk, 2, JC_GET, "a", "", &second) == JC_OK && second.next == JC_JOINED);
+    CHECK(begin(&desk, 1, JC_OP_GET, "a", "", &first) == JC_OK && first.next == JC_ASK_LOAD);
+    CHECK(begin(&desk, 2, JC_OP_GET, "a", "", &second) == JC_OK && second.next == JC_NEXT_JOINED);
     CHECK(second.number == first.number);
-    CHECK(begin(&desk, 3, JC_PUT, "a", "v", &picked) == JC_OK && picked.next == JC_REFUSED && picked.reply == JC_BUSY);
-    CHECK(jc_pick_up(&desk, 2, second.call, BYTES("a"), second.number, &picked) == JC_OK && picked.next == JC_NOT_YET);
-    CHECK(jc_commit_load(&desk, first.number, JC_FOUND, 0, BYTES("v"), &first) == JC_OK);
-    CHECK(first.next == JC_DONE && first.reply == JC_VALUE && is_value(&first.value, "v"));
-    CHECK(first.shared == 1 && first.moves == JC_KEPT && first.place == 0);
+    CHECK(begin(&desk, 3, JC_OP_PUT, "a", "v", &picked) == JC_OK && picked.next == JC_NEXT_REFUSED && picked.reply == JC_REFUSAL_BUSY);
+    CHECK(jc_pick_up(&desk, 2, second.call, BYTES("a"), second.number, &picked) == JC_OK && picked.next == JC_NEXT_NOT_YET);
+    CHECK(jc_commit_load(&desk, first.number, JC_ANSWER_FOUND, 0, BYTES("v"), &first) == JC_OK);
+    CHECK(first.next == JC_NEXT_DONE && first.reply == JC_REPLY_VALUE && is_value(&first.value, "v"));
+    CHECK(first.shared == 1 && first.moves == JC_MOVE_STORED && first.place == 0);
     CHECK(jc_pick_up(&desk, 2, second.call, BYTES("a"), second.number, &picked) == JC_OK);
-    CHECK(picked.next == JC_DONE && picked.reply == JC_VALUE && is_value(&picked.value, "v") && picked.place == 1);
-    CHECK(begin(&desk, 1, JC_GET, "b", "", &first) == JC_OK);
-    CHECK(begin(&desk, 2, JC_GET, "b", "", &second) == JC_OK);
+    CHECK(picked.next == JC_NEXT_DONE && picked.reply == JC_REPLY_VALUE && is_value(&picked.value, "v") && picked.place == 1);
+    CHECK(begin(&desk, 1, JC_OP_GET, "b", "", &first) == JC_OK);
+    CHECK(begin(&desk, 2, JC_OP_GET, "b", "", &second) == JC_OK);
     CHECK(jc_withdraw(&desk, first.number) == JC_OK);
-    CHECK(jc_pick_up(&desk, 2, second.call, BYTES("b"), second.number, &picked) == JC_OK && picked.next == JC_AGAIN);
-    CHECK(begin(&desk, 1, JC_GET, "b", "", &first) == JC_OK);
-    CHECK(jc_commit_load(&desk, first.number, JC_FAILED, 7, NONE, &first) == JC_OK);
-    CHECK(first.reply == JC_LOADER_FAILED && first.code == 7 && first.moves == 0);
+    CHECK(jc_pick_up(&desk, 2, second.call, BYTES("b"), second.number, &picked) == JC_OK && picked.next == JC_NEXT_AGAIN);
+    CHECK(begin(&desk, 1, JC_OP_GET, "b", "", &first) == JC_OK);
+    CHECK(jc_commit_load(&desk, first.number, JC_ANSWER_FAILED, 7, NONE, &first) == JC_OK);
+    CHECK(first.reply == JC_REPLY_LOADER_FAILED && first.code == 7 && first.moves == 0);
     CHECK(jc_close(&desk) == JC_OK);
 }
 
@@ -47,24 +47,24 @@ static void writes_and_evictions(void) {
     jc_out out = {0};
     jc_value value;
     put(&desk, "a", "1", &out);
-    CHECK(out.reply == JC_UNIT && out.moves == JC_KEPT);
+    CHECK(out.reply == JC_REPLY_UNIT && out.moves == JC_MOVE_STORED);
     put(&desk, "a", "2", &out);
-    CHECK(out.moves == (JC_KEPT | JC_LEFT) && is_value(&out.left, "1"));
+    CHECK(out.moves == (JC_MOVE_STORED | JC_MOVE_REMOVED) && is_value(&out.left, "1"));
     put(&desk, "b", "3", &out);
     CHECK(jc_hit(&desk, 1, BYTES("a"), &value) == JC_OK && is_value(&value, "2"));
     put(&desk, "c", "4", &out);
-    CHECK(out.moves == (JC_KEPT | JC_EVICTED) && is_key(&out.victim, "b") && is_value(&out.evicted, "3"));
-    CHECK(jc_hit(&desk, 1, BYTES("b"), &value) == JC_NONE);
-    CHECK(jc_peek(&desk, BYTES("b"), &value) == JC_NONE);
-    CHECK(begin(&desk, 1, JC_REMOVE, "c", "", &out) == JC_OK && out.next == JC_HAVE_DELETED);
-    CHECK(jc_commit_write(&desk, out.number, JC_FAILED, 5, &out) == JC_OK);
-    CHECK(out.reply == JC_WRITER_FAILED && out.code == 5 && out.moves == 0);
-    CHECK(begin(&desk, 1, JC_REMOVE, "c", "", &out) == JC_OK);
-    CHECK(jc_commit_write(&desk, out.number, JC_WRITTEN, 0, &out) == JC_OK && out.reply == JC_YES);
-    CHECK(out.moves == JC_LEFT && is_value(&out.left, "4"));
-    CHECK(jc_begin(&desk, 1, JC_REPLACE_IF, BYTES("a"), BYTES("9"), BYTES("5"), &out) == JC_OK && out.reply == JC_NO);
-    CHECK(jc_begin(&desk, 1, JC_REPLACE_IF, BYTES("a"), BYTES("2"), BYTES("5"), &out) == JC_OK);
-    CHECK(out.next == JC_HAVE_WRITTEN && is_value(&out.value, "5"));
+    CHECK(out.moves == (JC_MOVE_STORED | JC_MOVE_EVICTED) && is_key(&out.victim, "b") && is_value(&out.evicted, "3"));
+    CHECK(jc_hit(&desk, 1, BYTES("b"), &value) == JC_CODE_NONE);
+    CHECK(jc_peek(&desk, BYTES("b"), &value) == JC_CODE_NONE);
+    CHECK(begin(&desk, 1, JC_OP_REMOVE, "c", "", &out) == JC_OK && out.next == JC_ASK_DELETE);
+    CHECK(jc_commit_write(&desk, out.number, JC_ANSWER_FAILED, 5, &out) == JC_OK);
+    CHECK(out.reply == JC_REPLY_WRITER_FAILED && out.code == 5 && out.moves == 0);
+    CHECK(begin(&desk, 1, JC_OP_REMOVE, "c", "", &out) == JC_OK);
+    CHECK(jc_commit_write(&desk, out.number, JC_ANSWER_WRITTEN, 0, &out) == JC_OK && out.reply == JC_REPLY_YES);
+    CHECK(out.moves == JC_MOVE_REMOVED && is_value(&out.left, "4"));
+    CHECK(jc_begin(&desk, 1, JC_OP_REPLACE_IF, BYTES("a"), BYTES("9"), BYTES("5"), &out) == JC_OK && out.reply == JC_REPLY_NO);
+    CHECK(jc_begin(&desk, 1, JC_OP_REPLACE_IF, BYTES("a"), BYTES("2"), BYTES("5"), &out) == JC_OK);
+    CHECK(out.next == JC_ASK_WRITE && is_value(&out.value, "5"));
     CHECK(jc_withdraw(&desk, out.number) == JC_OK);
     jc_statistics counts;
     CHECK(jc_statistics_of(&desk, &counts) == JC_OK && counts.puts == 4 && counts.removals == 1 && counts.evictions == 1);
@@ -74,24 +74,24 @@ static void writes_and_evictions(void) {
 static void processors(void) {
     jc_desk desk = opened(&SHAPE);
     jc_out out = {0};
-    jc_processed done = {.effect = JC_SET, .set = {.len = 1, .bytes = "x"}};
-    CHECK(begin(&desk, 1, JC_INVOKE, "a", "", &out) == JC_OK);
-    CHECK(out.next == JC_RUN_PROCESSOR && out.reply == JC_NULL && out.code == 1);
+    jc_processed done = {.effect = JC_EFFECT_SET, .set = {.len = 1, .bytes = "x"}};
+    CHECK(begin(&desk, 1, JC_OP_INVOKE, "a", "", &out) == JC_OK);
+    CHECK(out.next == JC_ASK_PROCESS && out.reply == JC_REPLY_NULL && out.code == 1);
     uint64_t ticket = out.number;
-    CHECK(jc_commit_process(&desk, ticket, &done, &out) == JC_MISUSE);
-    done.write = JC_WRITTEN;
-    done.load = JC_FAILED;
-    CHECK(jc_commit_process(&desk, ticket, &done, &out) == JC_MISUSE);
-    done.load = JC_NOTHING;
+    CHECK(jc_commit_process(&desk, ticket, &done, &out) == JC_CODE_MISUSE);
+    done.write = JC_ANSWER_WRITTEN;
+    done.load = JC_ANSWER_FAILED;
+    CHECK(jc_commit_process(&desk, ticket, &done, &out) == JC_CODE_MISUSE);
+    done.load = JC_ANSWER_NOTHING;
     done.has_outcome = true;
     done.outcome = (jc_value){.len = 2, .bytes = "ok"};
     CHECK(jc_commit_process(&desk, ticket, &done, &out) == JC_OK);
-    CHECK(out.reply == JC_VALUE && is_value(&out.value, "ok") && out.moves == JC_KEPT);
-    CHECK(begin(&desk, 1, JC_INVOKE, "a", "", &out) == JC_OK && out.reply == JC_VALUE && is_value(&out.value, "x") && out.code == 0);
-    done = (jc_processed){.load = JC_NOTHING};
-    CHECK(jc_commit_process(&desk, out.number, &done, &out) == JC_MISUSE);
-    done = (jc_processed){.effect = JC_PROCESS_FAILED, .code = 3};
-    CHECK(jc_commit_process(&desk, out.number, &done, &out) == JC_OK && out.reply == JC_PROCESSOR_FAILED && out.code == 3);
+    CHECK(out.reply == JC_REPLY_VALUE && is_value(&out.value, "ok") && out.moves == JC_MOVE_STORED);
+    CHECK(begin(&desk, 1, JC_OP_INVOKE, "a", "", &out) == JC_OK && out.reply == JC_REPLY_VALUE && is_value(&out.value, "x") && out.code == 0);
+    done = (jc_processed){.load = JC_ANSWER_NOTHING};
+    CHECK(jc_commit_process(&desk, out.number, &done, &out) == JC_CODE_MISUSE);
+    done = (jc_processed){.effect = JC_EFFECT_FAILED, .code = 3};
+    CHECK(jc_commit_process(&desk, out.number, &done, &out) == JC_OK && out.reply == JC_REPLY_PROCESSOR_FAILED && out.code == 3);
     CHECK(jc_close(&desk) == JC_OK);
 }
 
@@ -100,19 +100,19 @@ static void generations(void) {
     shape.keeps_events = true;
     jc_desk desk = opened(&shape);
     jc_out out = {0};
-    CHECK(jc_end_generation(&desk) == JC_IN_USE);
+    CHECK(jc_end_generation(&desk) == JC_CODE_IN_USE);
     size_t events = 0;
-    while (begin(&desk, 1, JC_CONTAINS_KEY, "a", "", &out) == JC_OK && out.next == JC_DONE) {
+    while (begin(&desk, 1, JC_OP_CONTAINS_KEY, "a", "", &out) == JC_OK && out.next == JC_NEXT_DONE) {
         CHECK(jc_events_len(&desk) == ++events);
     }
-    CHECK(out.next == JC_FULL && events > 0 && events <= shape.history);
+    CHECK(out.next == JC_NEXT_FULL && events > 0 && events <= shape.history);
     CHECK(jc_end_generation(&desk) == JC_OK && jc_events_len(&desk) == 0);
-    CHECK(begin(&desk, 1, JC_GET, "a", "", &out) == JC_OK && out.next == JC_ASK_LOADER);
+    CHECK(begin(&desk, 1, JC_OP_GET, "a", "", &out) == JC_OK && out.next == JC_ASK_LOAD);
     uint64_t ticket = out.number;
-    CHECK(begin(&desk, 2, JC_GET, "a", "", &out) == JC_OK && out.next == JC_JOINED);
+    CHECK(begin(&desk, 2, JC_OP_GET, "a", "", &out) == JC_OK && out.next == JC_NEXT_JOINED);
     jc_out done = {0};
-    CHECK(jc_commit_load(&desk, ticket, JC_NOTHING, 0, NONE, &done) == JC_OK);
-    CHECK(jc_end_generation(&desk) == JC_IN_USE);
+    CHECK(jc_commit_load(&desk, ticket, JC_ANSWER_NOTHING, 0, NONE, &done) == JC_OK);
+    CHECK(jc_end_generation(&desk) == JC_CODE_IN_USE);
     CHECK(jc_pick_up(&desk, 2, out.call, BYTES("a"), out.number, &done) == JC_OK);
     CHECK(jc_end_generation(&desk) == JC_OK);
     CHECK(jc_close(&desk) == JC_OK);
@@ -149,7 +149,7 @@ static picture look(jc_desk *desk) {
         memset(&value, 0xa5, sizeof value);                    \
         const jc_out out_before = out;                         \
         const jc_value value_before = value;                   \
-        REFUSED(JC_BAD_ARGUMENT, call);                        \
+        REFUSED(JC_CODE_BAD_ARGUMENT, call);                        \
         CHECK(memcmp(&out, &out_before, sizeof out) == 0);     \
         CHECK(memcmp(&value, &value_before, sizeof value) == 0); \
     } while (0)
@@ -160,25 +160,25 @@ static void bad_arguments(void) {
     jc_value value;
     put(&desk, "a", "1", &out);
     for (size_t len = 0; len <= JC_KEY_MAX + 1; len += JC_KEY_MAX + 1) {
-        BAD(jc_begin(&desk, 1, JC_GET, long_bytes, len, NONE, NONE, &out));
+        BAD(jc_begin(&desk, 1, JC_OP_GET, long_bytes, len, NONE, NONE, &out));
         BAD(jc_hit(&desk, 1, long_bytes, len, &value));
         BAD(jc_peek(&desk, long_bytes, len, &value));
         BAD(jc_pick_up(&desk, 1, 0, long_bytes, len, 0, &out));
     }
-    BAD(jc_begin(&desk, 1, JC_PUT, BYTES("a"), long_bytes, JC_VALUE_MAX + 1, NONE, &out));
-    BAD(jc_begin(&desk, 1, JC_REPLACE_IF, BYTES("a"), NONE, long_bytes, JC_VALUE_MAX + 1, &out));
-    BAD(jc_begin(&desk, 1, JC_INVOKE + 1, BYTES("a"), NONE, NONE, &out));
+    BAD(jc_begin(&desk, 1, JC_OP_PUT, BYTES("a"), long_bytes, JC_VALUE_MAX + 1, NONE, &out));
+    BAD(jc_begin(&desk, 1, JC_OP_REPLACE_IF, BYTES("a"), NONE, long_bytes, JC_VALUE_MAX + 1, &out));
+    BAD(jc_begin(&desk, 1, JC_OP_INVOKE + 1, BYTES("a"), NONE, NONE, &out));
     BAD(jc_begin(&desk, 1, UINT32_MAX, BYTES("a"), NONE, NONE, &out));
-    CHECK(begin(&desk, 1, JC_GET, "b", "", &out) == JC_OK);
+    CHECK(begin(&desk, 1, JC_OP_GET, "b", "", &out) == JC_OK);
     uint64_t ticket = out.number;
-    BAD(jc_commit_load(&desk, ticket, JC_NOT_ASKED, 0, NONE, &out));
-    BAD(jc_commit_load(&desk, ticket, JC_FAILED + 1, 0, NONE, &out));
-    BAD(jc_commit_load(&desk, ticket, JC_FOUND, 0, long_bytes, JC_VALUE_MAX + 1, &out));
-    CHECK(jc_commit_load(&desk, ticket, JC_FOUND, 0, long_bytes, JC_VALUE_MAX, &out) == JC_OK);
-    CHECK(begin(&desk, 1, JC_REMOVE, "b", "", &out) == JC_OK);
+    BAD(jc_commit_load(&desk, ticket, JC_ANSWER_NOT_ASKED, 0, NONE, &out));
+    BAD(jc_commit_load(&desk, ticket, JC_ANSWER_FAILED + 1, 0, NONE, &out));
+    BAD(jc_commit_load(&desk, ticket, JC_ANSWER_FOUND, 0, long_bytes, JC_VALUE_MAX + 1, &out));
+    CHECK(jc_commit_load(&desk, ticket, JC_ANSWER_FOUND, 0, long_bytes, JC_VALUE_MAX, &out) == JC_OK);
+    CHECK(begin(&desk, 1, JC_OP_REMOVE, "b", "", &out) == JC_OK);
     ticket = out.number;
-    BAD(jc_commit_write(&desk, ticket, JC_NOT_ASKED, 0, &out));
-    BAD(jc_commit_write(&desk, ticket, JC_NOTHING, 0, &out));
+    BAD(jc_commit_write(&desk, ticket, JC_ANSWER_NOT_ASKED, 0, &out));
+    BAD(jc_commit_write(&desk, ticket, JC_ANSWER_NOTHING, 0, &out));
     CHECK(jc_withdraw(&desk, ticket) == JC_OK);
     CHECK(jc_close(&desk) == JC_OK);
 }
@@ -187,13 +187,13 @@ static void bad_processors(void) {
     jc_desk desk = opened(&SHAPE);
     jc_out out = {0};
     jc_value value;
-    CHECK(begin(&desk, 1, JC_INVOKE, "a", "", &out) == JC_OK);
+    CHECK(begin(&desk, 1, JC_OP_INVOKE, "a", "", &out) == JC_OK);
     uint64_t ticket = out.number;
     const jc_value too_long = {.len = JC_VALUE_MAX + 1}, endless = {.len = UINT32_MAX};
     const jc_processed wrong[] = {
-        {.load = JC_FAILED + 1}, {.effect = JC_PROCESS_FAILED + 1}, {.write = JC_NOTHING}, {.write = JC_FAILED + 1},
-        {.load = JC_FOUND, .loaded = too_long}, {.effect = JC_SET, .write = JC_WRITTEN, .set = too_long},
-        {.effect = JC_SET, .write = JC_WRITTEN, .set = endless}, {.has_outcome = true, .outcome = too_long},
+        {.load = JC_ANSWER_FAILED + 1}, {.effect = JC_EFFECT_FAILED + 1}, {.write = JC_ANSWER_NOTHING}, {.write = JC_ANSWER_FAILED + 1},
+        {.load = JC_ANSWER_FOUND, .loaded = too_long}, {.effect = JC_EFFECT_SET, .write = JC_ANSWER_WRITTEN, .set = too_long},
+        {.effect = JC_EFFECT_SET, .write = JC_ANSWER_WRITTEN, .set = endless}, {.has_outcome = true, .outcome = too_long},
     };
     for (size_t i = 0; i < sizeof wrong / sizeof *wrong; i++) {
         BAD(jc_commit_process(&desk, ticket, &wrong[i], &out));
@@ -213,29 +213,29 @@ static void bad_openings(void) {
     for (size_t i = 0; i < sizeof shapes / sizeof *shapes; i++) {
         jc_shape shape = shapes[i];
         shape.out_size = sizeof(jc_out);
-        CHECK(jc_open(&desk, &shape, 0, NO_ENTRIES, 0) == JC_BAD_ARGUMENT && !desk.is_open);
+        CHECK(jc_open(&desk, &shape, 0, NO_ENTRIES, 0) == JC_CODE_BAD_ARGUMENT && !desk.is_open);
     }
     const uint32_t sizes[] = {0, sizeof(jc_out) - 1, sizeof(jc_out) + 1, UINT32_MAX};
     for (size_t i = 0; i < sizeof sizes / sizeof *sizes; i++) {
         jc_shape shape = SHAPE;
         shape.out_size = sizes[i];
-        CHECK(jc_open(&desk, &shape, 0, NO_ENTRIES, 0) == JC_BAD_ARGUMENT && !desk.is_open);
+        CHECK(jc_open(&desk, &shape, 0, NO_ENTRIES, 0) == JC_CODE_BAD_ARGUMENT && !desk.is_open);
     }
-    CHECK(jc_open(&desk, &SHAPE, 1, NO_ENTRIES, 0) == JC_BAD_ARGUMENT);
+    CHECK(jc_open(&desk, &SHAPE, 1, NO_ENTRIES, 0) == JC_CODE_BAD_ARGUMENT);
     const jc_entry a = {.key = {1, "a"}, .value = {1, "1"}}, b = {.key = {1, "b"}, .value = {1, "2"}}, c = {.key = {1, "c"}};
     const jc_entry repeated[] = {a, a}, many[] = {a, b, c}, no_key[] = {{.value = {1, "1"}}};
     const jc_entry long_key[] = {{.key = {JC_KEY_MAX + 1, ""}}}, long_value[] = {{.key = {1, "a"}, .value = {JC_VALUE_MAX + 1, ""}}};
-    CHECK(jc_open(&desk, &SHAPE, 0, repeated, 2) == JC_BAD_ARGUMENT);
-    CHECK(jc_open(&desk, &SHAPE, 0, many, 3) == JC_BAD_ARGUMENT);
-    CHECK(jc_open(&desk, &SHAPE, 0, no_key, 1) == JC_BAD_ARGUMENT);
-    CHECK(jc_open(&desk, &SHAPE, 0, long_key, 1) == JC_BAD_ARGUMENT);
-    CHECK(jc_open(&desk, &SHAPE, 0, long_value, 1) == JC_BAD_ARGUMENT);
+    CHECK(jc_open(&desk, &SHAPE, 0, repeated, 2) == JC_CODE_BAD_ARGUMENT);
+    CHECK(jc_open(&desk, &SHAPE, 0, many, 3) == JC_CODE_BAD_ARGUMENT);
+    CHECK(jc_open(&desk, &SHAPE, 0, no_key, 1) == JC_CODE_BAD_ARGUMENT);
+    CHECK(jc_open(&desk, &SHAPE, 0, long_key, 1) == JC_CODE_BAD_ARGUMENT);
+    CHECK(jc_open(&desk, &SHAPE, 0, long_value, 1) == JC_CODE_BAD_ARGUMENT);
     const jc_shape two = {.stripes = 2, .capacity = 2, .history = 16, .out_size = sizeof(jc_out)};
-    CHECK(jc_open(&desk, &two, 0, &a, 1) == JC_BAD_ARGUMENT);
+    CHECK(jc_open(&desk, &two, 0, &a, 1) == JC_CODE_BAD_ARGUMENT);
     CHECK(jc_open(&desk, &two, 1, &a, 1) == JC_OK);
     jc_out out = {0};
-    CHECK(begin(&desk, 1, JC_CONTAINS_KEY, "a", "", &out) == JC_OK && out.reply == JC_YES);
-    CHECK(begin(&desk, 1, JC_CONTAINS_KEY, "b", "", &out) == JC_MISUSE);
+    CHECK(begin(&desk, 1, JC_OP_CONTAINS_KEY, "a", "", &out) == JC_OK && out.reply == JC_REPLY_YES);
+    CHECK(begin(&desk, 1, JC_OP_CONTAINS_KEY, "b", "", &out) == JC_CODE_MISUSE);
     CHECK(jc_close(&desk) == JC_OK);
     CHECK(jc_open(&desk, &SHAPE, 0, many, 2) == JC_OK);
     jc_entry listed[2];
@@ -249,33 +249,33 @@ static void misused_tickets(void) {
     jc_desk desk = opened(&SHAPE), other = opened(&SHAPE);
     jc_out out = {0}, joined = {0};
     const jc_processed keep = {0};
-    CHECK(begin(&desk, 1, JC_GET, "a", "", &out) == JC_OK);
+    CHECK(begin(&desk, 1, JC_OP_GET, "a", "", &out) == JC_OK);
     uint64_t ticket = out.number;
-    REFUSED(JC_MISUSE, begin(&desk, 1, JC_GET, "b", "", &out));
-    REFUSED(JC_MISUSE, jc_commit_load(&desk, ticket + 1, JC_NOTHING, 0, NONE, &out));
-    REFUSED(JC_MISUSE, jc_commit_write(&desk, ticket, JC_WRITTEN, 0, &out));
-    REFUSED(JC_MISUSE, jc_commit_process(&desk, ticket, &keep, &out));
-    REFUSED(JC_MISUSE, jc_withdraw(&desk, UINT64_MAX));
-    CHECK(jc_commit_load(&other, ticket, JC_NOTHING, 0, NONE, &out) == JC_MISUSE);
-    CHECK(jc_withdraw(&other, ticket) == JC_MISUSE);
-    CHECK(begin(&desk, 2, JC_GET, "a", "", &joined) == JC_OK && joined.next == JC_JOINED);
-    REFUSED(JC_MISUSE, jc_pick_up(&desk, 3, joined.call, BYTES("a"), joined.number, &out));
-    REFUSED(JC_MISUSE, jc_pick_up(&desk, 2, joined.call + 1, BYTES("a"), joined.number, &out));
-    REFUSED(JC_MISUSE, jc_pick_up(&desk, 2, joined.call, BYTES("b"), joined.number, &out));
-    REFUSED(JC_MISUSE, jc_pick_up(&desk, 2, joined.call, BYTES("a"), joined.number + 1, &out));
-    CHECK(jc_close(&desk) == JC_IN_USE && desk.is_open);
-    CHECK(jc_commit_load(&desk, ticket, JC_NOTHING, 0, NONE, &out) == JC_OK);
-    REFUSED(JC_MISUSE, jc_commit_load(&desk, ticket, JC_NOTHING, 0, NONE, &out));
-    REFUSED(JC_MISUSE, jc_withdraw(&desk, ticket));
-    CHECK(jc_close(&desk) == JC_IN_USE);
-    CHECK(jc_pick_up(&desk, 2, joined.call, BYTES("a"), joined.number, &out) == JC_OK && out.reply == JC_NULL);
-    REFUSED(JC_MISUSE, jc_pick_up(&desk, 2, joined.call, BYTES("a"), joined.number, &out));
+    REFUSED(JC_CODE_MISUSE, begin(&desk, 1, JC_OP_GET, "b", "", &out));
+    REFUSED(JC_CODE_MISUSE, jc_commit_load(&desk, ticket + 1, JC_ANSWER_NOTHING, 0, NONE, &out));
+    REFUSED(JC_CODE_MISUSE, jc_commit_write(&desk, ticket, JC_ANSWER_WRITTEN, 0, &out));
+    REFUSED(JC_CODE_MISUSE, jc_commit_process(&desk, ticket, &keep, &out));
+    REFUSED(JC_CODE_MISUSE, jc_withdraw(&desk, UINT64_MAX));
+    CHECK(jc_commit_load(&other, ticket, JC_ANSWER_NOTHING, 0, NONE, &out) == JC_CODE_MISUSE);
+    CHECK(jc_withdraw(&other, ticket) == JC_CODE_MISUSE);
+    CHECK(begin(&desk, 2, JC_OP_GET, "a", "", &joined) == JC_OK && joined.next == JC_NEXT_JOINED);
+    REFUSED(JC_CODE_MISUSE, jc_pick_up(&desk, 3, joined.call, BYTES("a"), joined.number, &out));
+    REFUSED(JC_CODE_MISUSE, jc_pick_up(&desk, 2, joined.call + 1, BYTES("a"), joined.number, &out));
+    REFUSED(JC_CODE_MISUSE, jc_pick_up(&desk, 2, joined.call, BYTES("b"), joined.number, &out));
+    REFUSED(JC_CODE_MISUSE, jc_pick_up(&desk, 2, joined.call, BYTES("a"), joined.number + 1, &out));
+    CHECK(jc_close(&desk) == JC_CODE_IN_USE && desk.is_open);
+    CHECK(jc_commit_load(&desk, ticket, JC_ANSWER_NOTHING, 0, NONE, &out) == JC_OK);
+    REFUSED(JC_CODE_MISUSE, jc_commit_load(&desk, ticket, JC_ANSWER_NOTHING, 0, NONE, &out));
+    REFUSED(JC_CODE_MISUSE, jc_withdraw(&desk, ticket));
+    CHECK(jc_close(&desk) == JC_CODE_IN_USE);
+    CHECK(jc_pick_up(&desk, 2, joined.call, BYTES("a"), joined.number, &out) == JC_OK && out.reply == JC_REPLY_NULL);
+    REFUSED(JC_CODE_MISUSE, jc_pick_up(&desk, 2, joined.call, BYTES("a"), joined.number, &out));
     CHECK(jc_close(&desk) == JC_OK && jc_close(&other) == JC_OK);
 }
 
 static void closed_handles(void) {
     jc_desk desk = opened(&SHAPE);
-    CHECK(jc_open(&desk, &SHAPE, 0, NO_ENTRIES, 0) == JC_WRONG_HANDLE);
+    CHECK(jc_open(&desk, &SHAPE, 0, NO_ENTRIES, 0) == JC_CODE_WRONG_HANDLE);
     CHECK(jc_close(&desk) == JC_OK);
     for (int never_opened = 0; never_opened <= 1; never_opened++) {
         if (never_opened) {
@@ -287,19 +287,19 @@ static void closed_handles(void) {
         jc_entry entry;
         size_t count;
         const jc_processed keep = {0};
-        CHECK(jc_close(&desk) == JC_WRONG_HANDLE);
-        CHECK(begin(&desk, 1, JC_GET, "a", "", &out) == JC_WRONG_HANDLE);
-        CHECK(jc_hit(&desk, 1, BYTES("a"), &value) == JC_WRONG_HANDLE);
-        CHECK(jc_commit_load(&desk, 0, JC_NOTHING, 0, NONE, &out) == JC_WRONG_HANDLE);
-        CHECK(jc_commit_write(&desk, 0, JC_WRITTEN, 0, &out) == JC_WRONG_HANDLE);
-        CHECK(jc_commit_process(&desk, 0, &keep, &out) == JC_WRONG_HANDLE);
-        CHECK(jc_withdraw(&desk, 0) == JC_WRONG_HANDLE);
-        CHECK(jc_pick_up(&desk, 1, 0, BYTES("a"), 0, &out) == JC_WRONG_HANDLE);
-        CHECK(jc_peek(&desk, BYTES("a"), &value) == JC_WRONG_HANDLE);
-        CHECK(jc_statistics_of(&desk, &counts) == JC_WRONG_HANDLE);
-        CHECK(jc_entries(&desk, &entry, 1, &count) == JC_WRONG_HANDLE);
+        CHECK(jc_close(&desk) == JC_CODE_WRONG_HANDLE);
+        CHECK(begin(&desk, 1, JC_OP_GET, "a", "", &out) == JC_CODE_WRONG_HANDLE);
+        CHECK(jc_hit(&desk, 1, BYTES("a"), &value) == JC_CODE_WRONG_HANDLE);
+        CHECK(jc_commit_load(&desk, 0, JC_ANSWER_NOTHING, 0, NONE, &out) == JC_CODE_WRONG_HANDLE);
+        CHECK(jc_commit_write(&desk, 0, JC_ANSWER_WRITTEN, 0, &out) == JC_CODE_WRONG_HANDLE);
+        CHECK(jc_commit_process(&desk, 0, &keep, &out) == JC_CODE_WRONG_HANDLE);
+        CHECK(jc_withdraw(&desk, 0) == JC_CODE_WRONG_HANDLE);
+        CHECK(jc_pick_up(&desk, 1, 0, BYTES("a"), 0, &out) == JC_CODE_WRONG_HANDLE);
+        CHECK(jc_peek(&desk, BYTES("a"), &value) == JC_CODE_WRONG_HANDLE);
+        CHECK(jc_statistics_of(&desk, &counts) == JC_CODE_WRONG_HANDLE);
+        CHECK(jc_entries(&desk, &entry, 1, &count) == JC_CODE_WRONG_HANDLE);
         CHECK(jc_events_len(&desk) == 0);
-        CHECK(jc_end_generation(&desk) == JC_WRONG_HANDLE);
+        CHECK(jc_end_generation(&desk) == JC_CODE_WRONG_HANDLE);
     }
 }
 
@@ -311,20 +311,20 @@ static void limits_of_calls_under_way(void) {
     char key[8];
     for (uint32_t i = 0; i < JC_RESERVATIONS_MAX; i++) {
         snprintf(key, sizeof key, "k%u", i);
-        CHECK(begin(&desk, i, JC_GET, key, "", &out) == JC_OK && out.next == JC_ASK_LOADER);
-        CHECK(begin(&desk, 100 + i, JC_GET, key, "", &out) == JC_OK && out.next == JC_JOINED);
+        CHECK(begin(&desk, i, JC_OP_GET, key, "", &out) == JC_OK && out.next == JC_ASK_LOAD);
+        CHECK(begin(&desk, 100 + i, JC_OP_GET, key, "", &out) == JC_OK && out.next == JC_NEXT_JOINED);
     }
-    CHECK(begin(&desk, 99, JC_GET, "more", "", &out) == JC_OK && out.next == JC_REFUSED && out.reply == JC_TOO_MANY_IN_FLIGHT);
-    CHECK(begin(&desk, 99, JC_GET, "k0", "", &out) == JC_OK && out.next == JC_REFUSED && out.reply == JC_TOO_MANY_JOINERS);
-    CHECK(begin(&desk, 99, JC_PUT, "k0", "", &out) == JC_OK && out.next == JC_REFUSED && out.reply == JC_BUSY);
-    CHECK(jc_close(&desk) == JC_IN_USE);
+    CHECK(begin(&desk, 99, JC_OP_GET, "more", "", &out) == JC_OK && out.next == JC_NEXT_REFUSED && out.reply == JC_REFUSAL_TOO_MANY_IN_FLIGHT);
+    CHECK(begin(&desk, 99, JC_OP_GET, "k0", "", &out) == JC_OK && out.next == JC_NEXT_REFUSED && out.reply == JC_REFUSAL_TOO_MANY_JOINERS);
+    CHECK(begin(&desk, 99, JC_OP_PUT, "k0", "", &out) == JC_OK && out.next == JC_NEXT_REFUSED && out.reply == JC_REFUSAL_BUSY);
+    CHECK(jc_close(&desk) == JC_CODE_IN_USE);
     /* A desk that isn't closed is the host's to leak: here all that is out is given back. */
     for (uint64_t ticket = 0; ticket < JC_RESERVATIONS_MAX; ticket++) {
         CHECK(jc_withdraw(&desk, ticket) == JC_OK);
     }
     for (uint32_t i = 0; i < JC_RESERVATIONS_MAX; i++) {
         snprintf(key, sizeof key, "k%u", i);
-        CHECK(jc_pick_up(&desk, 100 + i, 2 * i + 1, BYTES(key), i, &out) == JC_OK && out.next == JC_AGAIN);
+        CHECK(jc_pick_up(&desk, 100 + i, 2 * i + 1, BYTES(key), i, &out) == JC_OK && out.next == JC_NEXT_AGAIN);
     }
     CHECK(jc_close(&desk) == JC_OK);
 }
@@ -338,26 +338,26 @@ static void events(void) {
     jc_out out = {0};
     static jc_flat_event told[4];
     put(&desk, "b", "2", &out);
-    CHECK(begin(&desk, 1, JC_GET, "b", "", &out) == JC_OK && jc_events_len(&desk) == 3);
+    CHECK(begin(&desk, 1, JC_OP_GET, "b", "", &out) == JC_OK && jc_events_len(&desk) == 3);
     for (size_t place = 0; place < 3; place++) {
         CHECK(jc_event(&desk, place, &told[place]) == JC_OK);
     }
-    CHECK(jc_event(&desk, 3, &told[3]) == JC_NONE);
-    CHECK(told[0].kind == JC_EVICTION && told[0].cause == JC_FOR_ROOM && is_key(&told[0].key, "a"));
-    CHECK(told[1].kind == JC_STEP && told[1].op == JC_PUT && is_key(&told[1].key, "b") && is_value(&told[1].value, "2"));
-    CHECK(told[1].outside.write == JC_WRITTEN && told[1].outside.effect == JC_NOT_RUN && told[1].reply == JC_UNIT);
-    CHECK(told[2].op == JC_GET && told[2].reply == JC_VALUE && is_value(&told[2].replied, "2") && !told[2].is_shared);
+    CHECK(jc_event(&desk, 3, &told[3]) == JC_CODE_NONE);
+    CHECK(told[0].kind == JC_EVENT_EVICTION && told[0].cause == JC_CAUSE_ROOM && is_key(&told[0].key, "a"));
+    CHECK(told[1].kind == JC_EVENT_STEP && told[1].op == JC_OP_PUT && is_key(&told[1].key, "b") && is_value(&told[1].value, "2"));
+    CHECK(told[1].outside.write == JC_ANSWER_WRITTEN && told[1].outside.effect == JC_EFFECT_NOT_RUN && told[1].reply == JC_REPLY_UNIT);
+    CHECK(told[2].op == JC_OP_GET && told[2].reply == JC_REPLY_VALUE && is_value(&told[2].replied, "2") && !told[2].is_shared);
     bool is_legal = false;
     CHECK(jc_legal(&shape, opening, 1, told, 3, &is_legal) == JC_OK && is_legal);
     CHECK(jc_legal(&shape, opening, 0, told, 3, &is_legal) == JC_OK && !is_legal);
     CHECK(jc_legal(&shape, opening, 1, told, 2, &is_legal) == JC_OK && is_legal);
     CHECK(jc_legal(&shape, opening, 1, told + 1, 2, &is_legal) == JC_OK && !is_legal);
-    CHECK(jc_legal(&shape, no_key, 1, told, 3, &is_legal) == JC_BAD_ARGUMENT);
+    CHECK(jc_legal(&shape, no_key, 1, told, 3, &is_legal) == JC_CODE_BAD_ARGUMENT);
     told[2].replied.bytes[0] = '3';
     CHECK(jc_legal(&shape, opening, 1, told, 3, &is_legal) == JC_OK && !is_legal);
     told[2].replied.len = JC_VALUE_MAX + 1;
-    CHECK(jc_legal(&shape, opening, 1, told, 3, &is_legal) == JC_BAD_ARGUMENT);
-    CHECK(jc_close(&desk) == JC_OK && jc_event(&desk, 0, told) == JC_WRONG_HANDLE);
+    CHECK(jc_legal(&shape, opening, 1, told, 3, &is_legal) == JC_CODE_BAD_ARGUMENT);
+    CHECK(jc_close(&desk) == JC_OK && jc_event(&desk, 0, told) == JC_CODE_WRONG_HANDLE);
 }
 
 int main(void) {

@@ -18,27 +18,27 @@ static atomic_uint loads, joins, checks;
 /* A call, with the mutex held at its begin and at its end: what it asks, it asks without. */
 static void call(uint32_t session, uint32_t op, const char *key, jc_out *out) {
     CHECK(begin(&desk, session, op, key, "v", out) == JC_OK);
-    while (out->next == JC_REFUSED) {
+    while (out->next == JC_NEXT_REFUSED) {
         pthread_cond_wait(&changed, &mutex);
         CHECK(begin(&desk, session, op, key, "v", out) == JC_OK);
     }
     const uint64_t call = out->call, load = out->number;
-    if (out->next == JC_JOINED) {
+    if (out->next == JC_NEXT_JOINED) {
         atomic_fetch_add(&joins, 1);
         do {
             pthread_cond_wait(&changed, &mutex);
             CHECK(jc_pick_up(&desk, session, call, BYTES(key), load, out) == JC_OK);
-        } while (out->next == JC_NOT_YET);
-        CHECK(out->next == JC_DONE);
+        } while (out->next == JC_NEXT_NOT_YET);
+        CHECK(out->next == JC_NEXT_DONE);
         /* Who was refused for a full history waits for this, too: with an answer parked no generation ends. */
         pthread_cond_broadcast(&changed);
-    } else if (out->next != JC_DONE) {
-        const bool is_load = out->next == JC_ASK_LOADER;
+    } else if (out->next != JC_NEXT_DONE) {
+        const bool is_load = out->next == JC_ASK_LOAD;
         pthread_mutex_unlock(&mutex);
         atomic_fetch_add(&loads, is_load);
         sched_yield();
         pthread_mutex_lock(&mutex);
-        CHECK((is_load ? jc_commit_load(&desk, load, JC_FOUND, 0, BYTES("v"), out) : jc_commit_write(&desk, load, JC_WRITTEN, 0, out)) == JC_OK);
+        CHECK((is_load ? jc_commit_load(&desk, load, JC_ANSWER_FOUND, 0, BYTES("v"), out) : jc_commit_write(&desk, load, JC_ANSWER_WRITTEN, 0, out)) == JC_OK);
         pthread_cond_broadcast(&changed);
     }
 }
@@ -49,7 +49,7 @@ static void *make_calls(void *number) {
     for (unsigned i = 0; i < CALLS; i++) {
         const char key[] = {(char)('a' + (i * 7 + session) % KEYS), 0};
         pthread_mutex_lock(&mutex);
-        call(session, i % 4 == 0 ? JC_PUT : i % 4 == 1 ? JC_REMOVE : JC_GET, key, &out);
+        call(session, i % 4 == 0 ? JC_OP_PUT : i % 4 == 1 ? JC_OP_REMOVE : JC_OP_GET, key, &out);
         pthread_mutex_unlock(&mutex);
     }
     atomic_fetch_add(&checks, checks_made);
@@ -78,8 +78,8 @@ static void *put_in_turn(void *number) {
     }
     jc_out out = {0};
     jc_value value;
-    CHECK(begin(&desk, session, JC_PUT, "a", "v", &out) == JC_OK);
-    CHECK(jc_commit_write(&desk, out.number, JC_WRITTEN, 0, &out) == JC_OK);
+    CHECK(begin(&desk, session, JC_OP_PUT, "a", "v", &out) == JC_OK);
+    CHECK(jc_commit_write(&desk, out.number, JC_ANSWER_WRITTEN, 0, &out) == JC_OK);
     CHECK(jc_hit(&desk, session, BYTES("a"), &value) == JC_OK);
     atomic_store_explicit(&turn, session + 1, memory_order_relaxed);
     return NULL;

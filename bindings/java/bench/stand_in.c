@@ -74,7 +74,7 @@ static bool evict(core *c, jc_out *out) {
     entry *victim = c->oldest;
     while (victim != NULL && ticket_of_key(c, victim->key) != NULL) victim = victim->newer;
     if (victim == NULL) return false;
-    out->moves |= JC_EVICTED;
+    out->moves |= JC_MOVE_EVICTED;
     out->victim.len = sizeof victim->key;
     memcpy(out->victim.bytes, &victim->key, sizeof victim->key);
     give(&out->evicted, victim->value);
@@ -87,12 +87,12 @@ static bool evict(core *c, jc_out *out) {
 
 static void insert(core *c, uint64_t key, uint64_t value, jc_out *out) {
     if (c->count == c->shape.capacity && !evict(c, out)) {
-        out->moves |= JC_OWN_EVICTED_FULL;
+        out->moves |= JC_MOVE_OWN_EVICTED_FULL;
         return;
     }
     entry *e = malloc(sizeof *e);
     if (e == NULL) {
-        out->moves |= JC_OWN_EVICTED_MEMORY;
+        out->moves |= JC_MOVE_OWN_EVICTED_MEMORY;
         return;
     }
     e->key = key;
@@ -101,7 +101,7 @@ static void insert(core *c, uint64_t key, uint64_t value, jc_out *out) {
     *link_to(c, key) = e;
     put_first(c, e);
     c->count++;
-    out->moves |= JC_KEPT;
+    out->moves |= JC_MOVE_STORED;
 }
 
 static void set(core *c, uint64_t key, uint64_t value, jc_out *out) {
@@ -110,7 +110,7 @@ static void set(core *c, uint64_t key, uint64_t value, jc_out *out) {
         insert(c, key, value, out);
         return;
     }
-    out->moves |= JC_KEPT | JC_LEFT;
+    out->moves |= JC_MOVE_STORED | JC_MOVE_REMOVED;
     give(&out->left, e->value);
     e->value = value;
     use(c, e);
@@ -128,11 +128,11 @@ uint32_t jc_open(jc_desk *h, const jc_shape *shape, size_t number, const jc_entr
     size_t buckets = 16;
     while (buckets < shape->capacity) buckets *= 2;
     core *c = calloc(1, sizeof *c);
-    if (c == NULL) return JC_NO_MEMORY;
+    if (c == NULL) return JC_CODE_NO_MEMORY;
     c->buckets = calloc(buckets, sizeof *c->buckets);
     if (c->buckets == NULL) {
         free(c);
-        return JC_NO_MEMORY;
+        return JC_CODE_NO_MEMORY;
     }
     c->shape = *shape;
     c->mask = buckets - 1;
@@ -158,7 +158,7 @@ uint32_t jc_hit(jc_desk *h, uint32_t session, const uint8_t *key, size_t key_len
     (void)session;
     core *c = h->at;
     entry *e = *link_to(c, number_in(key, key_len));
-    if (e == NULL) return JC_NONE;
+    if (e == NULL) return JC_CODE_NONE;
     use(c, e);
     give(value, e->value);
     return JC_OK;
@@ -172,9 +172,9 @@ static uint32_t reserve(core *c, uint32_t op, uint64_t key, uint64_t value, jc_o
         *t = (ticket){.is_out = true, .op = op, .number = ++c->last_ticket, .key = key, .value = value};
         out->number = t->number;
         give(&out->value, value);
-        return answer(out, op == JC_GET ? JC_ASK_LOADER : JC_HAVE_WRITTEN, 0);
+        return answer(out, op == JC_OP_GET ? JC_ASK_LOAD : JC_ASK_WRITE, 0);
     }
-    return answer(out, JC_REFUSED, JC_TOO_MANY_IN_FLIGHT);
+    return answer(out, JC_NEXT_REFUSED, JC_REFUSAL_TOO_MANY_IN_FLIGHT);
 }
 
 uint32_t jc_begin(jc_desk *h, uint32_t session, uint32_t op, const uint8_t *key_bytes, size_t key_len, const uint8_t *value_bytes,
@@ -182,20 +182,20 @@ uint32_t jc_begin(jc_desk *h, uint32_t session, uint32_t op, const uint8_t *key_
     (void)session, (void)other, (void)other_len;
     core *c = h->at;
     uint64_t key = number_in(key_bytes, key_len), value = number_in(value_bytes, value_len);
-    if (op != JC_GET && op != JC_PUT) return JC_BAD_ARGUMENT;
+    if (op != JC_OP_GET && op != JC_OP_PUT) return JC_CODE_BAD_ARGUMENT;
     out->call = ++c->last_call;
-    if (ticket_of_key(c, key) != NULL) return answer(out, JC_REFUSED, JC_BUSY);
-    if (op == JC_PUT) {
+    if (ticket_of_key(c, key) != NULL) return answer(out, JC_NEXT_REFUSED, JC_REFUSAL_BUSY);
+    if (op == JC_OP_PUT) {
         if (c->shape.write_through) return reserve(c, op, key, value, out);
-        answer(out, JC_DONE, JC_UNIT);
+        answer(out, JC_NEXT_DONE, JC_REPLY_UNIT);
         set(c, key, value, out);
         return JC_OK;
     }
     entry *e = *link_to(c, key);
-    if (e == NULL) return c->shape.read_through ? reserve(c, op, key, 0, out) : answer(out, JC_DONE, JC_NULL);
+    if (e == NULL) return c->shape.read_through ? reserve(c, op, key, 0, out) : answer(out, JC_NEXT_DONE, JC_REPLY_NULL);
     use(c, e);
     give(&out->value, e->value);
-    return answer(out, JC_DONE, JC_VALUE);
+    return answer(out, JC_NEXT_DONE, JC_REPLY_VALUE);
 }
 
 static ticket *ticket_of(core *c, uint64_t number) {
@@ -209,10 +209,10 @@ uint32_t jc_commit_load(jc_desk *h, uint64_t number, uint32_t found, uint32_t co
     (void)code;
     core *c = h->at;
     ticket *t = ticket_of(c, number);
-    if (t == NULL) return JC_MISUSE;
+    if (t == NULL) return JC_CODE_MISUSE;
     t->is_out = false;
-    if (found != JC_FOUND) return answer(out, JC_DONE, found == JC_FAILED ? JC_LOADER_FAILED : JC_NULL);
-    answer(out, JC_DONE, JC_VALUE);
+    if (found != JC_ANSWER_FOUND) return answer(out, JC_NEXT_DONE, found == JC_ANSWER_FAILED ? JC_REPLY_LOADER_FAILED : JC_REPLY_NULL);
+    answer(out, JC_NEXT_DONE, JC_REPLY_VALUE);
     give(&out->value, number_in(value, value_len));
     set(c, t->key, number_in(value, value_len), out);
     return JC_OK;
@@ -222,10 +222,10 @@ uint32_t jc_commit_write(jc_desk *h, uint64_t number, uint32_t written, uint32_t
     (void)code;
     core *c = h->at;
     ticket *t = ticket_of(c, number);
-    if (t == NULL) return JC_MISUSE;
+    if (t == NULL) return JC_CODE_MISUSE;
     t->is_out = false;
-    answer(out, JC_DONE, written == JC_FAILED ? JC_WRITER_FAILED : JC_UNIT);
-    if (written != JC_FAILED) set(c, t->key, t->value, out);
+    answer(out, JC_NEXT_DONE, written == JC_ANSWER_FAILED ? JC_REPLY_WRITER_FAILED : JC_REPLY_UNIT);
+    if (written != JC_ANSWER_FAILED) set(c, t->key, t->value, out);
     return JC_OK;
 }
 
@@ -233,22 +233,22 @@ uint32_t jc_commit_write(jc_desk *h, uint64_t number, uint32_t written, uint32_t
 
 uint32_t jc_commit_process(jc_desk *h, uint64_t number, const jc_processed *processed, jc_out *out) {
     (void)h, (void)number, (void)processed, (void)out;
-    return JC_BAD_ARGUMENT;
+    return JC_CODE_BAD_ARGUMENT;
 }
 
 uint32_t jc_withdraw(jc_desk *h, uint64_t number) {
     (void)h, (void)number;
-    return JC_BAD_ARGUMENT;
+    return JC_CODE_BAD_ARGUMENT;
 }
 
 uint32_t jc_pick_up(jc_desk *h, uint32_t session, uint64_t call, const uint8_t *key, size_t key_len, uint64_t load, jc_out *out) {
     (void)h, (void)session, (void)call, (void)key, (void)key_len, (void)load, (void)out;
-    return JC_BAD_ARGUMENT;
+    return JC_CODE_BAD_ARGUMENT;
 }
 
 uint32_t jc_peek(jc_desk *h, const uint8_t *key, size_t key_len, jc_value *value) {
     (void)h, (void)key, (void)key_len, (void)value;
-    return JC_NONE;
+    return JC_CODE_NONE;
 }
 
 uint32_t jc_statistics_of(jc_desk *h, jc_statistics *out) {
@@ -264,10 +264,10 @@ size_t jc_events_len(jc_desk *h) {
 
 uint32_t jc_event(jc_desk *h, size_t place, jc_flat_event *out) {
     (void)h, (void)place, (void)out;
-    return JC_NONE;
+    return JC_CODE_NONE;
 }
 
 uint32_t jc_end_generation(jc_desk *h) {
     (void)h;
-    return JC_IN_USE;
+    return JC_CODE_IN_USE;
 }

@@ -215,7 +215,7 @@ static PyObject *get(Stripes *self, PyObject *key) {
     if (!hash_of(self, key, &hash)) return NULL;
     PyObject *value = hit(self, key, hash);
     if (value != NULL || PyErr_Occurred()) return value;
-    if (!whole_call(self, JC_GET, key, hash, NULL, NULL, AS_THE_CACHE_SAYS, &said)) return NULL;
+    if (!whole_call(self, JC_OP_GET, key, hash, NULL, NULL, AS_THE_CACHE_SAYS, &said)) return NULL;
     return said.value != NULL ? said.value : added(Py_None);
 }
 
@@ -266,7 +266,7 @@ static PyObject *stripes_get_or_load(Stripes *self, PyObject *arguments) {
 static bool put(Stripes *self, PyObject *key, PyObject *value, int64_t life) {
     uint64_t hash;
     answer said;
-    if (!is_value(value) || !hash_of(self, key, &hash) || !whole_call(self, JC_PUT, key, hash, value, NULL, life, &said)) return false;
+    if (!is_value(value) || !hash_of(self, key, &hash) || !whole_call(self, JC_OP_PUT, key, hash, value, NULL, life, &said)) return false;
     Py_XDECREF(said.value);
     return true;
 }
@@ -283,7 +283,7 @@ static int stripes_ass_subscript(Stripes *self, PyObject *key, PyObject *value) 
     uint64_t hash;
     answer said;
     if (value != NULL) return put(self, key, value, AS_THE_CACHE_SAYS) ? 0 : -1;
-    if (!hash_of(self, key, &hash) || !whole_call(self, JC_REMOVE, key, hash, NULL, NULL, AS_THE_CACHE_SAYS, &said)) return -1;
+    if (!hash_of(self, key, &hash) || !whole_call(self, JC_OP_REMOVE, key, hash, NULL, NULL, AS_THE_CACHE_SAYS, &said)) return -1;
     Py_XDECREF(said.value);
     return 0;
 }

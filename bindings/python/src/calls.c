@@ -101,15 +101,15 @@ static PyObject *call_commit_process(Call *call, PyObject *arguments) {
     int64_t life;
     answer said;
     if (!PyArg_ParseTuple(arguments, "IOIOI|O", &load, &loaded, &effect, &value, &write, &span) || !given_life(span, &life) ||
-        !is_out(call, JC_RUN_PROCESSOR, JC_RUN_PROCESSOR)) return NULL;
+        !is_out(call, JC_ASK_PROCESS, JC_ASK_PROCESS)) return NULL;
     stripe *s = call->seat.at;
     uint64_t version = 0;
     jc_processed done;
     memset(&done, 0, sizeof done);
-    done.load = load, done.effect = effect, done.write = write == UNKNOWN ? JC_FAILED : write;
+    done.load = load, done.effect = effect, done.write = write == UNKNOWN ? JC_ANSWER_FAILED : write;
     done.load_code = done.code = done.write_code = 1;
-    if (load == JC_FOUND) { brought = loaded; give(&done.loaded, version = ++s->last_version); }
-    if (effect == JC_SET) { brought = value; give(&done.set, version = ++s->last_version); }
+    if (load == JC_ANSWER_FOUND) { brought = loaded; give(&done.loaded, version = ++s->last_version); }
+    if (effect == JC_EFFECT_SET) { brought = value; give(&done.set, version = ++s->last_version); }
     return commit_process(call, &done, brought, version, life, write == UNKNOWN, &said) ? reply_tuple(&said) : NULL;
 }
 
@@ -130,7 +130,7 @@ static PyObject *call_pick_up(Call *call, PyObject *nothing) {
 
 static PyObject *call_abandon(Call *call, PyObject *nothing) {
     (void)nothing;
-    if (!is_out(call, JC_JOINED, JC_JOINED)) return NULL;
+    if (!is_out(call, JC_NEXT_JOINED, JC_NEXT_JOINED)) return NULL;
     if (!abandon(call)) return PyErr_NoMemory();
     Py_RETURN_NONE;
 }
@@ -140,11 +140,11 @@ static void call_finalize(Call *call) {
     if (call->seat.node == NULL || call->cache == NULL) return;
     PyObject *kind, *value, *trace;
     PyErr_Fetch(&kind, &value, &trace);
-    if (call->next == JC_JOINED) {
+    if (call->next == JC_NEXT_JOINED) {
         abandon(call);
     } else {
         /* No Exception: those that have joined begin anew. */
-        if (call->next == JC_ASK_LOADER && call->flight->error == NULL)
+        if (call->next == JC_ASK_LOAD && call->flight->error == NULL)
             call->flight->error = PyObject_CallFunction(PyExc_GeneratorExit, "s", "the call that loads was forgotten");
         commit_forgotten(call);
     }

@@ -108,7 +108,7 @@ static bool join(Call *call, const source *from, answer *to) {
     if (said == NULL) return false;
     Py_DECREF(said);
     if (!pick_up(call, &is_done, to) || !is_done) return false;
-    if (to->reply != JC_LOADER_FAILED) return true;
+    if (to->reply != JC_REPLY_LOADER_FAILED) return true;
     PyObject *error = call->flight->error;
     if (error == NULL) return PyErr_NoMemory() != NULL;
     return (from == NULL || is_failure(error)) && load_failed(call->key, error, from);
@@ -117,7 +117,7 @@ static bool join(Call *call, const source *from, answer *to) {
 /* Writes. */
 
 static PyObject *ask_writer(Stripes *self, Call *call) {
-    if (call->next == JC_HAVE_WRITTEN) return PyObject_CallFunctionObjArgs(self->write, call->key, call->value, NULL);
+    if (call->next == JC_ASK_WRITE) return PyObject_CallFunctionObjArgs(self->write, call->key, call->value, NULL);
     return PyObject_CallFunctionObjArgs(self->remove, call->key, NULL);
 }
 
@@ -125,13 +125,13 @@ static bool write_out(Stripes *self, Call *call, PyObject *token, answer *to) {
     PyObject *said = ask_writer(self, call);
     let_go(token);
     if (said != NULL) {
-        bool is_done = commit_write(call, JC_WRITTEN, to);
+        bool is_done = commit_write(call, JC_ANSWER_WRITTEN, to);
         Py_DECREF(said);
         return is_done;
     }
     /* An interrupt may have come after the store was changed. */
     PyObject *error = caught();
-    if (commit_write(call, is_failure(error) ? JC_FAILED : UNKNOWN, to)) {
+    if (commit_write(call, is_failure(error) ? JC_ANSWER_FAILED : UNKNOWN, to)) {
         Py_CLEAR(to->value);
         if (is_failure(error)) raise_from(the.writer_failed, call->key, error);
         else raise(error);
@@ -162,12 +162,12 @@ static void give_up(Call *call) {
 /* Takes a call that has something out to its end. False with no exception: it is to begin anew. */
 static bool finish(Stripes *self, Call *call, const source *from, answer *to) {
     bool is_done = false;
-    if (call->next == JC_JOINED) {
+    if (call->next == JC_NEXT_JOINED) {
         is_done = join(call, from, to);
     } else {
         PyObject *token = hold(call->flight);
         if (token == NULL) give_up(call);
-        else is_done = call->next == JC_ASK_LOADER ? load(self, call, from, token, to) : write_out(self, call, token, to);
+        else is_done = call->next == JC_ASK_LOAD ? load(self, call, from, token, to) : write_out(self, call, token, to);
     }
     recycle(call);
     return is_done;
@@ -196,7 +196,7 @@ bool whole_call(Stripes *self, uint32_t op, PyObject *key, uint64_t hash, PyObje
 static bool shared(Flight *flight, answer *to, bool *is_right) {
     if (!flight->is_over) return false;
     *is_right = flight->value != NULL;
-    if (*is_right) *to = (answer){.reply = JC_VALUE, .value = added(flight->value)};
+    if (*is_right) *to = (answer){.reply = JC_REPLY_VALUE, .value = added(flight->value)};
     else if (flight->error == NULL || !is_failure(flight->error)) return false;
     else raise(flight->error);
     return true;
@@ -205,7 +205,7 @@ static bool shared(Flight *flight, answer *to, bool *is_right) {
 /* The value of a key: the cached one, or what this function returns, whose call is the load of the key. Without read-through a get asks
  * nobody: a loadAll of the key follows it, which waits for another load instead of joining it. */
 bool get_or_load(Stripes *self, PyObject *key, uint64_t hash, const source *from, answer *to) {
-    uint32_t op = JC_GET;
+    uint32_t op = JC_OP_GET;
     ended end;
     for (;;) {
         begin(self, op, key, hash, NULL, NULL, AS_THE_CACHE_SAYS, &end);
@@ -214,7 +214,7 @@ bool get_or_load(Stripes *self, PyObject *key, uint64_t hash, const source *from
         case DONE:
             *to = end.answer;
             if (to->value != NULL) return true;
-            op = op == JC_GET ? JC_LOAD : JC_GET;
+            op = op == JC_OP_GET ? JC_OP_LOAD : JC_OP_GET;
             break;
         case OUT:
             if (finish(self, end.call, from, to)) return true;

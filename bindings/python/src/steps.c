@@ -4,8 +4,8 @@
 
 void *refuse(uint32_t code) {
     switch (code) {
-    case JC_NO_MEMORY: return PyErr_NoMemory();
-    case JC_WRONG_HANDLE: return closed();
+    case JC_CODE_NO_MEMORY: return PyErr_NoMemory();
+    case JC_CODE_WRONG_HANDLE: return closed();
     default: PyErr_Format(PyExc_AssertionError, "the core refused a phase with code %u", (unsigned)code);
     }
     return NULL;
@@ -72,15 +72,15 @@ static bool empty(node *n, const jc_value *version, leavings *left) {
 /* Does what the core says came and went with a step of the node's key, which brought this value. */
 static bool follow(Stripes *self, stripe *s, node *n, uint64_t version, PyObject *value, int64_t life, int64_t now, leavings *left) {
     uint32_t moves = s->out.moves;
-    if (moves & JC_EVICTED) {
+    if (moves & JC_MOVE_EVICTED) {
         uint64_t number = 0;
         memcpy(&number, s->out.victim.bytes, EIGHT);
         node *victim = has_node(s, number) ? s->nodes[slot_of(number)] : NULL;
         if (!empty(victim, &s->out.evicted, left)) return false;
         if (victim != n) release(s, victim, left);
     }
-    if (moves & JC_LEFT && !empty(n, &s->out.left, left)) return false;
-    if (moves & JC_KEPT) {
+    if (moves & JC_MOVE_REMOVED && !empty(n, &s->out.left, left)) return false;
+    if (moves & JC_MOVE_STORED) {
         n->value = added(value);
         n->version = version;
         if (self->may_expire) start_life(self, n, life, now);
@@ -92,7 +92,7 @@ static bool follow(Stripes *self, stripe *s, node *n, uint64_t version, PyObject
 static bool replied(const stripe *s, const node *n, uint64_t loaded_version, PyObject *loaded, answer *to) {
     to->reply = s->out.reply;
     to->value = NULL;
-    if (s->out.reply != JC_VALUE) return true;
+    if (s->out.reply != JC_REPLY_VALUE) return true;
     uint64_t version = number_in(&s->out.value);
     if (version != 0 && version == n->version) to->value = added(n->value);
     else if (version != 0 && version == loaded_version) to->value = added(loaded);
@@ -124,12 +124,12 @@ static Call *take_out(Stripes *self, stripe *s, node *n, uint32_t session, uint6
     call->next = s->out.next;
     call->version = version;
     call->life = life;
-    call->may_load = s->out.next == JC_RUN_PROCESSOR && s->out.code == 1;
+    call->may_load = s->out.next == JC_ASK_PROCESS && s->out.code == 1;
     call->key = added(n->key);
     call->value = added(value);
     if (n->version) call->cached = added(n->value);
     call->flight->number = s->out.number;
-    if (call->next != JC_JOINED) n->flight = (Flight *)added((PyObject *)call->flight);
+    if (call->next != JC_NEXT_JOINED) n->flight = (Flight *)added((PyObject *)call->flight);
     return call;
 }
 
@@ -140,7 +140,7 @@ bool expire(Stripes *self, stripe *s, node *n, int64_t now, leavings *left) {
     uint64_t number = n->number;
     const uint8_t *key = (const uint8_t *)&number;
     if (n->flight != NULL) return false;
-    if (jc_begin(&s->desk, free_session(s), JC_CLEAR_KEY, key, EIGHT, key, 0, key, 0, &s->out) != JC_OK || s->out.next != JC_DONE) return false;
+    if (jc_begin(&s->desk, free_session(s), JC_OP_CLEAR_KEY, key, EIGHT, key, 0, key, 0, &s->out) != JC_OK || s->out.next != JC_NEXT_DONE) return false;
     return follow(self, s, n, 0, NULL, 0, now, left);
 }
 
@@ -155,7 +155,7 @@ static uint32_t begin_in_core(stripe *s, const node *n, uint32_t op, bool has_va
     uint64_t number = n->number;
     const uint8_t *key = (const uint8_t *)&number, *brought = (const uint8_t *)&version, *old = (const uint8_t *)&expected;
     size_t length = has_value ? EIGHT : 0;
-    if (op == JC_REMOVE_IF || op == JC_REPLACE_IF)
+    if (op == JC_OP_REMOVE_IF || op == JC_OP_REPLACE_IF)
         return jc_begin(&s->desk, free_session(s), op, key, EIGHT, old, EIGHT, brought, length, &s->out);
     return jc_begin(&s->desk, free_session(s), op, key, EIGHT, brought, length, key, 0, &s->out);
 }
@@ -168,18 +168,18 @@ static void begin_at(Stripes *self, stripe *s, node *n, uint32_t op, PyObject *v
     uint32_t code = begin_in_core(s, n, op, value != NULL, version, expected);
     if (code != JC_OK) {
         refuse(code);
-    } else if (s->out.next == JC_DONE) {
+    } else if (s->out.next == JC_NEXT_DONE) {
         if (replied(s, n, 0, NULL, &end->answer) && follow(self, s, n, version, value, life, now, left)) end->kind = DONE;
         else other_value();
-        if (end->kind == DONE && self->idle && op == JC_GET && n->version) n->used = now;
-    } else if (s->out.next == JC_REFUSED) {
-        if (s->out.reply == JC_HISTORY_FULL) PyErr_SetString(PyExc_AssertionError, "the cache has counted 2^64 calls");
-        else blocked(end, s, s->out.reply == JC_BUSY || s->out.reply == JC_TOO_MANY_JOINERS ? n->flight : NULL);
+        if (end->kind == DONE && self->idle && op == JC_OP_GET && n->version) n->used = now;
+    } else if (s->out.next == JC_NEXT_REFUSED) {
+        if (s->out.reply == JC_REFUSAL_HISTORY_FULL) PyErr_SetString(PyExc_AssertionError, "the cache has counted 2^64 calls");
+        else blocked(end, s, s->out.reply == JC_REFUSAL_BUSY || s->out.reply == JC_REFUSAL_TOO_MANY_JOINERS ? n->flight : NULL);
     } else {
         Flight *flight = n->flight;
         end->call = take_out(self, s, n, session, version, value, life);
         end->kind = OUT;
-        if (end->call->next == JC_JOINED) {
+        if (end->call->next == JC_NEXT_JOINED) {
             drop(left, end->call->flight);
             end->call->flight = (Flight *)added((PyObject *)flight);
         }
@@ -231,8 +231,8 @@ bool contains(Stripes *self, PyObject *key, uint64_t hash, bool *is_cached) {
     ended end;
     int64_t now;
     node *n;
-    begin(self, JC_CONTAINS_KEY, key, hash, NULL, NULL, AS_THE_CACHE_SAYS, &end);
-    *is_cached = end.answer.reply == JC_YES;
+    begin(self, JC_OP_CONTAINS_KEY, key, hash, NULL, NULL, AS_THE_CACHE_SAYS, &end);
+    *is_cached = end.answer.reply == JC_REPLY_YES;
     if (end.kind != BLOCKED) return end.kind == DONE;
     Py_XDECREF(end.flight);
     if (!read_clock(self, &now) || !find(end.at, key, hash, &n)) return false;
@@ -326,14 +326,14 @@ static bool end_call(Call *call, uint32_t code, const brought *with, uint64_t lo
 /* The last phase of a call whose loader was asked: NULL as the value says that it found nothing. */
 bool commit_load(Call *call, PyObject *value, PyObject *error, int64_t life, answer *to) {
     brought with = {.value = value, .life = life};
-    if (!read_clock(call->cache, &with.now) || !is_out(call, JC_ASK_LOADER, JC_ASK_LOADER)) return false;
+    if (!read_clock(call->cache, &with.now) || !is_out(call, JC_ASK_LOAD, JC_ASK_LOAD)) return false;
     stripe *s = call->seat.at;
     Flight *flight = call->flight;
     if (value != NULL && error == NULL) with.version = ++s->last_version;
     flight->version = with.version;
     flight->value = with.version ? added(value) : NULL;
     flight->error = added(error);
-    uint32_t answer = error != NULL ? JC_FAILED : with.version ? JC_FOUND : JC_NOTHING;
+    uint32_t answer = error != NULL ? JC_ANSWER_FAILED : with.version ? JC_ANSWER_FOUND : JC_ANSWER_NOTHING;
     uint32_t code = jc_commit_load(&s->desk, flight->number, answer, 1, (const uint8_t *)&with.version, with.version ? EIGHT : 0, &s->out);
     if (code != JC_OK) {
         Py_CLEAR(flight->value);
@@ -342,25 +342,25 @@ bool commit_load(Call *call, PyObject *value, PyObject *error, int64_t life, ans
     return end_call(call, code, &with, with.version, value, to);
 }
 
-/* The last phase of a call whose writer was asked: JC_WRITTEN, JC_FAILED or UNKNOWN. */
+/* The last phase of a call whose writer was asked: JC_ANSWER_WRITTEN, JC_ANSWER_FAILED or UNKNOWN. */
 bool commit_write(Call *call, uint32_t outcome, answer *to) {
     brought with = {.version = call->version, .value = call->value, .life = call->life, .is_unknown = outcome == UNKNOWN};
-    if (!read_clock(call->cache, &with.now) || !is_out(call, JC_HAVE_WRITTEN, JC_HAVE_DELETED)) return false;
+    if (!read_clock(call->cache, &with.now) || !is_out(call, JC_ASK_WRITE, JC_ASK_DELETE)) return false;
     stripe *s = call->seat.at;
-    uint32_t code = jc_commit_write(&s->desk, call->flight->number, outcome == UNKNOWN ? JC_FAILED : outcome, 1, &s->out);
+    uint32_t code = jc_commit_write(&s->desk, call->flight->number, outcome == UNKNOWN ? JC_ANSWER_FAILED : outcome, 1, &s->out);
     return end_call(call, code, &with, 0, NULL, to);
 }
 
 bool commit_process(Call *call, const jc_processed *done, PyObject *value, uint64_t version, int64_t life, bool is_unknown, answer *to) {
     brought with = {.version = version, .value = value, .life = life, .is_unknown = is_unknown};
-    if (!read_clock(call->cache, &with.now) || !is_out(call, JC_RUN_PROCESSOR, JC_RUN_PROCESSOR)) return false;
+    if (!read_clock(call->cache, &with.now) || !is_out(call, JC_ASK_PROCESS, JC_ASK_PROCESS)) return false;
     stripe *s = call->seat.at;
     uint32_t code = jc_commit_process(&s->desk, call->flight->number, done, &s->out);
     return end_call(call, code, &with, 0, NULL, to);
 }
 
 bool withdraw(Call *call) {
-    if (!is_out(call, JC_ASK_LOADER, JC_RUN_PROCESSOR)) return false;
+    if (!is_out(call, JC_ASK_LOAD, JC_ASK_PROCESS)) return false;
     uint32_t code = jc_withdraw(&call->seat.at->desk, call->flight->number);
     if (code != JC_OK) return refuse(code);
     end_reservation(call);
@@ -369,24 +369,24 @@ bool withdraw(Call *call) {
 
 /* Ends a call that nobody ends: it has failed, and what its writer or its processor has done to the store is unknown. No clock is read. */
 void commit_forgotten(Call *call) {
-    const brought nothing = {.is_unknown = call->next != JC_ASK_LOADER};
+    const brought nothing = {.is_unknown = call->next != JC_ASK_LOAD};
     answer said = {0, NULL};
     stripe *s = call->seat.at;
     uint64_t ticket = call->flight->number;
     uint32_t code;
     jc_processed failed;
     switch (call->next) {
-    case JC_ASK_LOADER:
-        code = jc_commit_load(&s->desk, ticket, JC_FAILED, 1, (const uint8_t *)&ticket, 0, &s->out);
+    case JC_ASK_LOAD:
+        code = jc_commit_load(&s->desk, ticket, JC_ANSWER_FAILED, 1, (const uint8_t *)&ticket, 0, &s->out);
         break;
-    case JC_RUN_PROCESSOR:
+    case JC_ASK_PROCESS:
         memset(&failed, 0, sizeof failed);
-        failed.effect = JC_PROCESS_FAILED;
+        failed.effect = JC_EFFECT_FAILED;
         failed.code = 1;
         code = jc_commit_process(&s->desk, ticket, &failed, &s->out);
         break;
     default:
-        code = jc_commit_write(&s->desk, ticket, JC_FAILED, 1, &s->out);
+        code = jc_commit_write(&s->desk, ticket, JC_ANSWER_FAILED, 1, &s->out);
     }
     if (end_call(call, code, &nothing, 0, NULL, &said)) Py_XDECREF(said.value);
 }
@@ -405,14 +405,14 @@ static void leave_alone(Call *call) {
 
 /* Of a load that was joined and is over: what it replies, or that it is to begin anew. */
 bool pick_up(Call *call, bool *is_done, answer *to) {
-    if (!is_out(call, JC_JOINED, JC_JOINED)) return false;
+    if (!is_out(call, JC_NEXT_JOINED, JC_NEXT_JOINED)) return false;
     if (!call->flight->is_over) { PyErr_SetString(PyExc_RuntimeError, "the load is not over"); return false; }
     uint32_t code = pick_up_now(&call->seat, call->flight->number);
     if (code != JC_OK) return refuse(code);
     const jc_out *out = &call->seat.at->out;
-    *is_done = out->next == JC_DONE;
+    *is_done = out->next == JC_NEXT_DONE;
     *to = (answer){.reply = out->reply};
-    bool has_value = *is_done && out->reply == JC_VALUE;
+    bool has_value = *is_done && out->reply == JC_REPLY_VALUE;
     bool is_right = !has_value || number_in(&out->value) == call->flight->version;
     leave_alone(call);
     if (!is_right) return other_value();

@@ -51,11 +51,11 @@ unsafe impl Send for Desk {}
 fn checked(code: u32) -> Result<(), Code> {
     Err(match code {
         raw::OK => return Ok(()),
-        raw::WRONG_HANDLE => Code::WrongHandle,
-        raw::NO_MEMORY => Code::NoMemory,
-        raw::BAD_ARGUMENT => Code::BadArgument,
-        raw::MISUSE => Code::Misuse,
-        raw::IN_USE => Code::InUse,
+        raw::CODE_WRONG_HANDLE => Code::WrongHandle,
+        raw::CODE_NO_MEMORY => Code::NoMemory,
+        raw::CODE_BAD_ARGUMENT => Code::BadArgument,
+        raw::CODE_MISUSE => Code::Misuse,
+        raw::CODE_IN_USE => Code::InUse,
         _ => unreachable!("the core answered code {code}"),
     })
 }
@@ -80,12 +80,12 @@ impl Answer for raw::Out {
     fn moves(&self) -> Moves<'_> {
         let has = |flag| self.moves & flag != 0;
         Moves {
-            is_kept: has(raw::KEPT),
-            left: has(raw::LEFT).then(|| self.left.get()),
-            victim: has(raw::EVICTED).then(|| (self.victim.get(), self.evicted.get())),
-            own: if has(raw::OWN_EVICTED_FULL) {
+            is_kept: has(raw::MOVE_STORED),
+            left: has(raw::MOVE_REMOVED).then(|| self.left.get()),
+            victim: has(raw::MOVE_EVICTED).then(|| (self.victim.get(), self.evicted.get())),
+            own: if has(raw::MOVE_OWN_EVICTED_FULL) {
                 Some(Cause::Full)
-            } else if has(raw::OWN_EVICTED_MEMORY) {
+            } else if has(raw::MOVE_OWN_EVICTED_MEMORY) {
                 Some(Cause::Memory)
             } else {
                 None
@@ -107,22 +107,22 @@ impl Answer for raw::Out {
     fn asked(&self, session: u32) -> Asked<'_> {
         let ticket = Ticket(self.number);
         match self.next {
-            raw::DONE => Asked::Done(self.done(0)),
-            raw::ASK_LOADER => Asked::Load(ticket),
-            raw::HAVE_WRITTEN => Asked::Write(ticket, self.value.get()),
-            raw::HAVE_DELETED => Asked::Delete(ticket),
-            raw::RUN_PROCESSOR => Asked::Process {
+            raw::NEXT_DONE => Asked::Done(self.done(0)),
+            raw::ASK_LOAD => Asked::Load(ticket),
+            raw::ASK_WRITE => Asked::Write(ticket, self.value.get()),
+            raw::ASK_DELETE => Asked::Delete(ticket),
+            raw::ASK_PROCESS => Asked::Process {
                 ticket,
                 entry: (self.reply == 4).then(|| self.value.get()),
                 may_load: self.code == 1,
             },
-            raw::JOINED => Asked::Joined(Join {
+            raw::NEXT_JOINED => Asked::Joined(Join {
                 session,
                 call: self.call,
                 load: self.number,
             }),
-            raw::REFUSED => Asked::Refused(self.refusal()),
-            raw::FULL => Asked::Full,
+            raw::NEXT_REFUSED => Asked::Refused(self.refusal()),
+            raw::NEXT_FULL => Asked::Full,
             next => unreachable!("the core answered next {next}"),
         }
     }
@@ -205,7 +205,7 @@ impl Desk {
         let value = &mut out.value;
         // SAFETY: as in `begin`.
         match unsafe { raw::jc_hit(handle, session, key.as_ptr(), key.len(), value) } {
-            raw::NONE => Ok(None),
+            raw::CODE_NONE => Ok(None),
             code => checked(code).map(|()| Some(out.value.get())),
         }
     }
@@ -260,9 +260,9 @@ impl Desk {
         // SAFETY: as in `begin`.
         checked(unsafe { raw::jc_pick_up(handle, session, call, bytes, len, load, out) })?;
         Ok(match out.next {
-            raw::DONE => PickedUp::Done(out.reply(), out.place),
-            raw::AGAIN => PickedUp::Again,
-            raw::NOT_YET => PickedUp::NotYet,
+            raw::NEXT_DONE => PickedUp::Done(out.reply(), out.place),
+            raw::NEXT_AGAIN => PickedUp::Again,
+            raw::NEXT_NOT_YET => PickedUp::NotYet,
             next => unreachable!("the core answered next {next}"),
         })
     }
@@ -272,7 +272,7 @@ impl Desk {
         let Room { handle, out } = &mut *self.room;
         // SAFETY: as in `begin`.
         match unsafe { raw::jc_peek(handle, key.as_ptr(), key.len(), &mut out.value) } {
-            raw::NONE => Ok(None),
+            raw::CODE_NONE => Ok(None),
             code => checked(code).map(|()| Some(out.value.get())),
         }
     }
@@ -327,7 +327,7 @@ impl Desk {
         let mut event = Event::empty();
         // SAFETY: as in `begin`.
         match unsafe { raw::jc_event(&mut self.room.handle, place, event.as_raw_mut()) } {
-            raw::NONE => Ok(None),
+            raw::CODE_NONE => Ok(None),
             code => checked(code).map(|()| Some(event)),
         }
     }
@@ -361,22 +361,22 @@ fn raw_entries(entries: &[(&[u8], &[u8])]) -> Vec<raw::Entry> {
 
 fn written_parts(written: Option<Written>) -> (u32, u32) {
     match written {
-        None => (raw::NOT_ASKED, 0),
-        Some(Written::Done) => (raw::WRITTEN, 0),
-        Some(Written::Failed(code)) => (raw::FAILED, code),
+        None => (raw::ANSWER_NOT_ASKED, 0),
+        Some(Written::Done) => (raw::ANSWER_WRITTEN, 0),
+        Some(Written::Failed(code)) => (raw::ANSWER_FAILED, code),
     }
 }
 
 fn raw_processed(processed: &Processed<'_>) -> raw::Processed {
     let (load, load_code, loaded) = match processed.load {
         Some(loaded) => loaded.parts(),
-        None => (raw::NOT_ASKED, 0, &b""[..]),
+        None => (raw::ANSWER_NOT_ASKED, 0, &b""[..]),
     };
     let (effect, code, set) = match processed.effect {
-        Effect::Keep => (raw::KEEP, 0, &b""[..]),
-        Effect::Set(value) => (raw::SET, 0, value),
-        Effect::Remove => (raw::TAKE_OUT, 0, &b""[..]),
-        Effect::Failed(code) => (raw::PROCESS_FAILED, code, &b""[..]),
+        Effect::Keep => (raw::EFFECT_KEEP, 0, &b""[..]),
+        Effect::Set(value) => (raw::EFFECT_SET, 0, value),
+        Effect::Remove => (raw::EFFECT_REMOVE, 0, &b""[..]),
+        Effect::Failed(code) => (raw::EFFECT_FAILED, code, &b""[..]),
     };
     let (write, write_code) = written_parts(processed.write);
     raw::Processed {

@@ -29,9 +29,9 @@ typedef struct jc_shape {
                             reads no event, 3 for each call under way: 64 for 21 of them, 260 for as many as there can be */
     bool read_through;   /* a get of a missing key asks the loader */
     bool write_through;  /* a mutation is written first */
-    bool keeps_events;   /* false: a full generation ends by itself, and its events are gone. true: jc_begin answers JC_FULL, jc_hit JC_NONE,
+    bool keeps_events;   /* false: a full generation ends by itself, and its events are gone. true: jc_begin answers JC_NEXT_FULL, jc_hit JC_CODE_NONE,
                             and the host reads the events and calls jc_end_generation */
-    uint32_t out_size;   /* sizeof(jc_out): jc_open refuses the shape of a host that was compiled with another one (JC_BAD_ARGUMENT), so that
+    uint32_t out_size;   /* sizeof(jc_out): jc_open refuses the shape of a host that was compiled with another one (JC_CODE_BAD_ARGUMENT), so that
                             a later library may have a longer jc_out and serve both */
 } jc_shape;
 
@@ -40,53 +40,53 @@ typedef struct jc_key   { uint32_t len; uint8_t bytes[JC_KEY_MAX]; } jc_key;
 typedef struct jc_entry { jc_key key; jc_value value; } jc_entry;
 
 /* On any code but JC_OK nothing was done: a ticket is still out, and is to be committed or withdrawn; nothing was written but, with
- * JC_MISUSE, to *out. (jc_hit may have ended a full generation, but none of a desk with keeps_events.) */
+ * JC_CODE_MISUSE, to *out. (jc_hit may have ended a full generation, but none of a desk with keeps_events.) */
 enum jc_code {
     JC_OK = 0,
-    JC_WRONG_HANDLE = 1, /* it isn't open; of jc_open: it is open already. It is tested first */
-    JC_NO_MEMORY = 2,    /* an allocation failed; nothing was done */
-    JC_BAD_ARGUMENT = 3, /* a key of 0 or over 32 bytes, a value over 256, an unknown operation or answer, a shape out of its limits.
+    JC_CODE_WRONG_HANDLE = 1, /* it isn't open; of jc_open: it is open already. It is tested first */
+    JC_CODE_NO_MEMORY = 2,    /* an allocation failed; nothing was done */
+    JC_CODE_BAD_ARGUMENT = 3, /* a key of 0 or over 32 bytes, a value over 256, an unknown operation or answer, a shape out of its limits.
                             It is tested next */
-    JC_MISUSE = 4,       /* see at each function */
-    JC_IN_USE = 5,       /* a ticket or a join is out; of jc_end_generation: it has no event, or an answer is parked */
-    JC_NONE = 6          /* there is no entry, or no such event */
+    JC_CODE_MISUSE = 4,       /* see at each function */
+    JC_CODE_IN_USE = 5,       /* a ticket or a join is out; of jc_end_generation: it has no event, or an answer is parked */
+    JC_CODE_NONE = 6          /* there is no entry, or no such event */
 };
 
-enum jc_op { JC_GET = 0, JC_CONTAINS_KEY = 1, JC_PUT = 2, JC_GET_AND_PUT = 3, JC_PUT_IF_ABSENT = 4, JC_REMOVE = 5, JC_REMOVE_IF = 6,
-             JC_GET_AND_REMOVE = 7, JC_REPLACE = 8, JC_REPLACE_IF = 9, JC_GET_AND_REPLACE = 10,
-             JC_CLEAR_KEY = 11,   /* one key of clear(): no writer is asked */
-             JC_LOAD = 12,        /* one key of loadAll: if it has no entry */
-             JC_RELOAD = 13,      /* one key of loadAll, in any case */
-             JC_INVOKE = 14 };
+enum jc_op { JC_OP_GET = 0, JC_OP_CONTAINS_KEY = 1, JC_OP_PUT = 2, JC_OP_GET_AND_PUT = 3, JC_OP_PUT_IF_ABSENT = 4, JC_OP_REMOVE = 5, JC_OP_REMOVE_IF = 6,
+             JC_OP_GET_AND_REMOVE = 7, JC_OP_REPLACE = 8, JC_OP_REPLACE_IF = 9, JC_OP_GET_AND_REPLACE = 10,
+             JC_OP_CLEAR_KEY = 11,   /* one key of clear(): no writer is asked */
+             JC_OP_LOAD = 12,        /* one key of loadAll: if it has no entry */
+             JC_OP_RELOAD = 13,      /* one key of loadAll, in any case */
+             JC_OP_INVOKE = 14 };
 
 /* out->next: what the host does next. */
 enum jc_next {
-    JC_DONE = 0,          /* the call is over: reply, code, value, place, moves are there */
-    JC_ASK_LOADER = 1,    /* ask the loader for the key, then jc_commit_load(number) */
-    JC_HAVE_WRITTEN = 2,  /* have the writer write out->value at the key, then jc_commit_write(number) */
-    JC_HAVE_DELETED = 3,  /* have the writer delete the key, then jc_commit_write(number) */
-    JC_RUN_PROCESSOR = 4, /* run the processor on the entry: reply is JC_VALUE (out->value) or JC_NULL (missing); code is 1 if the loader may
+    JC_NEXT_DONE = 0,          /* the call is over: reply, code, value, place, moves are there */
+    JC_ASK_LOAD = 1,    /* ask the loader for the key, then jc_commit_load(number) */
+    JC_ASK_WRITE = 2,  /* have the writer write out->value at the key, then jc_commit_write(number) */
+    JC_ASK_DELETE = 3,  /* have the writer delete the key, then jc_commit_write(number) */
+    JC_ASK_PROCESS = 4, /* run the processor on the entry: reply is JC_REPLY_VALUE (out->value) or JC_REPLY_NULL (missing); code is 1 if the loader may
                              be asked by its first getValue; then jc_commit_process(number) */
-    JC_JOINED = 5,        /* another call loads this key: wait for its commit or withdrawal, then jc_pick_up(session, call, key, number) */
-    JC_REFUSED = 6,       /* nothing was done; reply is a jc_refusal. JC_BUSY: retry after the next commit, withdrawal or pick-up here */
-    JC_AGAIN = 7,         /* of jc_pick_up: the load was withdrawn; begin anew */
-    JC_NOT_YET = 8,       /* of jc_pick_up: the load isn't over; the join is still out */
-    JC_FULL = 9           /* with keeps_events: nothing was done; hand out the events, call jc_end_generation, begin anew */
+    JC_NEXT_JOINED = 5,        /* another call loads this key: wait for its commit or withdrawal, then jc_pick_up(session, call, key, number) */
+    JC_NEXT_REFUSED = 6,       /* nothing was done; reply is a jc_refusal. JC_REFUSAL_BUSY: retry after the next commit, withdrawal or pick-up here */
+    JC_NEXT_AGAIN = 7,         /* of jc_pick_up: the load was withdrawn; begin anew */
+    JC_NEXT_NOT_YET = 8,       /* of jc_pick_up: the load isn't over; the join is still out */
+    JC_NEXT_FULL = 9           /* with keeps_events: nothing was done; hand out the events, call jc_end_generation, begin anew */
 };
 
-enum jc_reply { JC_UNIT = 0, JC_NO = 1, JC_YES = 2, JC_NULL = 3, JC_VALUE = 4, JC_LOADER_FAILED = 5, JC_WRITER_FAILED = 6, JC_PROCESSOR_FAILED = 7,
-                JC_OTHER_FAULT = 8 /* a desk never replies it */ };
-enum jc_refusal { JC_HISTORY_FULL = 0 /* only after 2^64 calls */, JC_BUSY = 1, JC_TOO_MANY_IN_FLIGHT = 2, JC_TOO_MANY_JOINERS = 3,
-                  JC_OTHER = 4 /* a desk never gives it */ };
+enum jc_reply { JC_REPLY_UNIT = 0, JC_REPLY_NO = 1, JC_REPLY_YES = 2, JC_REPLY_NULL = 3, JC_REPLY_VALUE = 4, JC_REPLY_LOADER_FAILED = 5, JC_REPLY_WRITER_FAILED = 6, JC_REPLY_PROCESSOR_FAILED = 7,
+                JC_REPLY_OTHER_FAULT = 8 /* a desk never replies it */ };
+enum jc_refusal { JC_REFUSAL_HISTORY_FULL = 0 /* only after 2^64 calls */, JC_REFUSAL_BUSY = 1, JC_REFUSAL_TOO_MANY_IN_FLIGHT = 2, JC_REFUSAL_TOO_MANY_JOINERS = 3,
+                  JC_REFUSAL_OTHER = 4 /* a desk never gives it */ };
 
 /* out->moves: which values came and went with a step. A host that keeps what values stand for beside the desk (an object table, a slab)
- * counts references by it. It is there after JC_DONE of jc_begin and of the commits; 0 otherwise. */
+ * counts references by it. It is there after JC_NEXT_DONE of jc_begin and of the commits; 0 otherwise. */
 enum jc_moves {
-    JC_KEPT = 1,    /* the key's entry has a value now that it hadn't before: the one that this call brought (put, loaded, set) */
-    JC_LEFT = 2,    /* out->left: the value that the key's entry had before, and hasn't now (overwritten, removed) */
-    JC_EVICTED = 4, /* out->victim had out->evicted, and was evicted for this step */
-    JC_OWN_EVICTED_FULL = 8,    /* the step's own new entry was evicted at once: all others are reserved (no JC_KEPT then) */
-    JC_OWN_EVICTED_MEMORY = 16  /* the same: there was no memory for it */
+    JC_MOVE_STORED = 1,    /* the key's entry has a value now that it hadn't before: the one that this call brought (put, loaded, set) */
+    JC_MOVE_REMOVED = 2,    /* out->left: the value that the key's entry had before, and hasn't now (overwritten, removed) */
+    JC_MOVE_EVICTED = 4, /* out->victim had out->evicted, and was evicted for this step */
+    JC_MOVE_OWN_EVICTED_FULL = 8,    /* the step's own new entry was evicted at once: all others are reserved (no JC_MOVE_STORED then) */
+    JC_MOVE_OWN_EVICTED_MEMORY = 16  /* the same: there was no memory for it */
 };
 
 /* Only the fields that next and reply speak of are written; the others stay as they were. */
@@ -94,7 +94,7 @@ typedef struct jc_out {
     uint32_t next, reply, code, place;
     uint32_t shared;     /* of jc_commit_load: how many joiners have this answer parked now. Each keeps the answer's value until it is picked up */
     uint32_t moves;
-    uint64_t number;     /* the ticket (JC_ASK_LOADER to JC_RUN_PROCESSOR), or the load that was joined (JC_JOINED) */
+    uint64_t number;     /* the ticket (JC_ASK_LOAD to JC_ASK_PROCESS), or the load that was joined (JC_NEXT_JOINED) */
     uint64_t call;       /* of jc_begin: the call's number */
     jc_value value;
     jc_value left;
@@ -103,13 +103,13 @@ typedef struct jc_out {
 } jc_out;
 
 /* What a loader and a writer answer. */
-enum jc_answer { JC_NOT_ASKED = 0, JC_FOUND = 1, JC_WRITTEN = 1, JC_NOTHING = 2, JC_FAILED = 3 };
+enum jc_answer { JC_ANSWER_NOT_ASKED = 0, JC_ANSWER_FOUND = 1, JC_ANSWER_WRITTEN = 1, JC_ANSWER_NOTHING = 2, JC_ANSWER_FAILED = 3 };
 /* What a processor did, and what its loader and its writer answered. */
-enum jc_effect { JC_KEEP = 0, JC_SET = 1, JC_TAKE_OUT = 2, JC_PROCESS_FAILED = 3, JC_NOT_RUN = 4 /* of an event alone */ };
+enum jc_effect { JC_EFFECT_KEEP = 0, JC_EFFECT_SET = 1, JC_EFFECT_REMOVE = 2, JC_EFFECT_FAILED = 3, JC_EFFECT_NOT_RUN = 4 /* of an event alone */ };
 typedef struct jc_processed {
-    uint32_t load, load_code;    /* JC_NOT_ASKED, JC_FOUND (loaded), JC_NOTHING, JC_FAILED (load_code) */
-    uint32_t effect, code;       /* its net effect: JC_KEEP, JC_SET (set), JC_TAKE_OUT, JC_PROCESS_FAILED (code) */
-    uint32_t write, write_code;  /* with write_through, after JC_SET or JC_TAKE_OUT and no failed load: JC_WRITTEN or JC_FAILED; else JC_NOT_ASKED */
+    uint32_t load, load_code;    /* JC_ANSWER_NOT_ASKED, JC_ANSWER_FOUND (loaded), JC_ANSWER_NOTHING, JC_ANSWER_FAILED (load_code) */
+    uint32_t effect, code;       /* its net effect: JC_EFFECT_KEEP, JC_EFFECT_SET (set), JC_EFFECT_REMOVE, JC_EFFECT_FAILED (code) */
+    uint32_t write, write_code;  /* with write_through, after JC_EFFECT_SET or JC_EFFECT_REMOVE and no failed load: JC_ANSWER_WRITTEN or JC_ANSWER_FAILED; else JC_ANSWER_NOT_ASKED */
     bool has_outcome;            /* whether outcome is what the processor returned; else null */
     jc_value loaded, set, outcome;
 } jc_processed;
@@ -118,8 +118,8 @@ typedef struct jc_statistics { uint64_t hits, misses, puts, removals, evictions;
 
 /* An event of a generation. Only the fields that count are written: of an eviction kind, key and cause; of a step those values that its
  * operation, its answers and its reply have. A struct begins as all zeros, so that jc_legal finds lengths that fit. */
-enum jc_event_kind { JC_STEP = 0, JC_EVICTION = 1 };
-enum jc_cause { JC_FOR_ROOM = 0 /* the stripe was full */, JC_FOR_MEMORY = 1 /* an allocation for the entry failed */ };
+enum jc_event_kind { JC_EVENT_STEP = 0, JC_EVENT_EVICTION = 1 };
+enum jc_cause { JC_CAUSE_ROOM = 0 /* the stripe was full */, JC_CAUSE_MEMORY = 1 /* an allocation for the entry failed */ };
 typedef struct jc_flat_event {
     uint32_t kind, session;
     uint64_t call;
@@ -130,41 +130,41 @@ typedef struct jc_flat_event {
     jc_key key;
     jc_value value, other;   /* as jc_begin's */
     jc_value replied;
-    jc_processed outside;    /* what was answered outside; effect is JC_NOT_RUN if no processor ran */
+    jc_processed outside;    /* what was answered outside; effect is JC_EFFECT_NOT_RUN if no processor ran */
 } jc_flat_event;
 
 /* The version of the library. */
 uint32_t jc_version(void);
 
 /* Opens a desk over stripe number (from 0) of shape->stripes, with these entries, the first one the most recently used.
- * JC_BAD_ARGUMENT also: no stripe has this number; a key twice, of another stripe, or more entries than capacity. All arguments are tested
- * before memory is taken: JC_NO_MEMORY says that they fit. It allocates; so does an insertion of an entry. */
+ * JC_CODE_BAD_ARGUMENT also: no stripe has this number; a key twice, of another stripe, or more entries than capacity. All arguments are tested
+ * before memory is taken: JC_CODE_NO_MEMORY says that they fit. It allocates; so does an insertion of an entry. */
 uint32_t jc_open(jc_desk *h, const jc_shape *shape, size_t number, const jc_entry *entries, size_t count);
 
-/* Frees the desk. JC_IN_USE, and it stays open, while a ticket or a join is out. */
+/* Frees the desk. JC_CODE_IN_USE, and it stays open, while a ticket or a join is out. */
 uint32_t jc_close(jc_desk *h);
 
-/* The first phase of the session's next call. JC_MISUSE: the key is of another stripe, or the session has another call out at this desk.
+/* The first phase of the session's next call. JC_CODE_MISUSE: the key is of another stripe, or the session has another call out at this desk.
  * A session is whoever has at most one call out: a thread, a task's slot; any number. */
 uint32_t jc_begin(jc_desk *h, uint32_t session, uint32_t op, const uint8_t *key, size_t key_len,
                   const uint8_t *value, size_t value_len, const uint8_t *other, size_t other_len, jc_out *out);
 
-/* A get that finds its entry, and nothing else: JC_NONE says that nothing was done (no entry; the generation is full; misuse): jc_begin
+/* A get that finds its entry, and nothing else: JC_CODE_NONE says that nothing was done (no entry; the generation is full; misuse): jc_begin
  * then. It evicts nothing. */
 uint32_t jc_hit(jc_desk *h, uint32_t session, const uint8_t *key, size_t key_len, jc_value *value);
 
-/* The last phases. A ticket's number serves once: JC_MISUSE if it isn't out here, or asks for another one. */
-uint32_t jc_commit_load(jc_desk *h, uint64_t ticket, uint32_t answer /* JC_FOUND, JC_NOTHING, JC_FAILED */, uint32_t code,
+/* The last phases. A ticket's number serves once: JC_CODE_MISUSE if it isn't out here, or asks for another one. */
+uint32_t jc_commit_load(jc_desk *h, uint64_t ticket, uint32_t answer /* JC_ANSWER_FOUND, JC_ANSWER_NOTHING, JC_ANSWER_FAILED */, uint32_t code,
                         const uint8_t *value, size_t value_len, jc_out *out);
-uint32_t jc_commit_write(jc_desk *h, uint64_t ticket, uint32_t answer /* JC_WRITTEN, JC_FAILED */, uint32_t code, jc_out *out);
-/* JC_MISUSE also: the loader answered though it may not be asked; the writer was (not) asked though it wasn't (was) due. */
+uint32_t jc_commit_write(jc_desk *h, uint64_t ticket, uint32_t answer /* JC_ANSWER_WRITTEN, JC_ANSWER_FAILED */, uint32_t code, jc_out *out);
+/* JC_CODE_MISUSE also: the loader answered though it may not be asked; the writer was (not) asked though it wasn't (was) due. */
 uint32_t jc_commit_process(jc_desk *h, uint64_t ticket, const jc_processed *processed, jc_out *out);
 /* Gives a ticket back whose loader, writer or processor was NOT asked: joiners are told to retry. */
 uint32_t jc_withdraw(jc_desk *h, uint64_t ticket);
-/* Until it says JC_DONE or JC_AGAIN, the join is out. */
+/* Until it says JC_NEXT_DONE or JC_NEXT_AGAIN, the join is out. */
 uint32_t jc_pick_up(jc_desk *h, uint32_t session, uint64_t call, const uint8_t *key, size_t key_len, uint64_t load, jc_out *out);
 
-/* The key's entry. No call is made, and the order of use stays. JC_NONE: it has none. */
+/* The key's entry. No call is made, and the order of use stays. JC_CODE_NONE: it has none. */
 uint32_t jc_peek(jc_desk *h, const uint8_t *key, size_t key_len, jc_value *value);
 /* What all events since jc_open count (CacheStatisticsMXBean); constant time. */
 uint32_t jc_statistics_of(jc_desk *h, jc_statistics *out);
@@ -172,12 +172,12 @@ uint32_t jc_statistics_of(jc_desk *h, jc_statistics *out);
 uint32_t jc_entries(jc_desk *h, jc_entry *out, size_t room, size_t *count);
 /* How many events the present generation has; 0 if the desk isn't open. */
 size_t jc_events_len(jc_desk *h);
-/* Writes the event at a place of the present generation, from 0. JC_NONE: it has no such place. */
+/* Writes the event at a place of the present generation, from 0. JC_CODE_NONE: it has no such place. */
 uint32_t jc_event(jc_desk *h, size_t place, jc_flat_event *out);
-/* Ends the present generation. JC_IN_USE: it has no event, or an answer is parked. */
+/* Ends the present generation. JC_CODE_IN_USE: it has no event, or an answer is parked. */
 uint32_t jc_end_generation(jc_desk *h);
 /* Writes whether these events are a legal history of one stripe of a cache of this shape, which began with these entries. It needs no desk.
- * JC_BAD_ARGUMENT: an entry or an event says nothing that there is. A shape out of its limits, a key twice, or keys of two stripes are not
+ * JC_CODE_BAD_ARGUMENT: an entry or an event says nothing that there is. A shape out of its limits, a key twice, or keys of two stripes are not
  * legal. It takes memory and time as long as the history. */
 uint32_t jc_legal(const jc_shape *shape, const jc_entry *opening, size_t opening_count, const jc_flat_event *events, size_t events_count,
                   bool *is_legal);

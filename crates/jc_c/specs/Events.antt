@@ -25,7 +25,7 @@ use Rattle.jc_model.specs.declared.event.Reply.TheVariants as reply
 use Rattle.jc_model.specs.declared.event.Event.{Event}
 use Rattle.jc_model.specs.declared.event.Event.TheVariants.{Step, Evict}
 use Rattle.jc_model.specs.Cache.{Bytes}
-use Rattle.jc_c.specs.declared.codes.TheConstants.{JC_EVICTION, JC_FOR_MEMORY, JC_FOR_ROOM, JC_LOADER_FAILED, JC_NO, JC_NOT_ASKED, JC_NOT_RUN, JC_NULL, JC_PROCESSOR_FAILED, JC_STEP, JC_UNIT, JC_VALUE, JC_WRITER_FAILED, JC_YES}
+use Rattle.jc_c.specs.declared.codes.TheConstants.{JC_EVENT_EVICTION, JC_CAUSE_MEMORY, JC_CAUSE_ROOM, JC_REPLY_LOADER_FAILED, JC_REPLY_NO, JC_ANSWER_NOT_ASKED, JC_EFFECT_NOT_RUN, JC_REPLY_NULL, JC_REPLY_PROCESSOR_FAILED, JC_EVENT_STEP, JC_REPLY_UNIT, JC_REPLY_VALUE, JC_REPLY_WRITER_FAILED, JC_REPLY_YES}
 use Rattle.jc_c.specs.declared.layouts.FlatEvent.{FlatEvent}
 use Rattle.jc_c.specs.declared.layouts.ProcessorAnswers.{ProcessorAnswers}
 use Rattle.jc_c.specs.Layouts.{inline_value, inline_key, is_inline_value, is_inline_key, HoldsKey}
@@ -35,10 +35,10 @@ use Rattle.jc_c.specs.Replies.{ShowsReply}
 -- 1. An event that is written.
 
 abbrev pub read_cause : ℕ → Cause
-read_cause n = if n == JC_FOR_ROOM then cause.Full else cause.Memory
+read_cause n = if n == JC_CAUSE_ROOM then cause.Full else cause.Memory
 
 abbrev pub process_if_run : ProcessorAnswers → ProcessAnswer
-process_if_run p = if p.effect == JC_NOT_RUN then process.NotAsked else read_process p
+process_if_run p = if p.effect == JC_EFFECT_NOT_RUN then process.NotAsked else read_process p
 
 abbrev pub read_outside : ProcessorAnswers → Out
 read_outside p = answers_beside p (process_if_run p)
@@ -48,8 +48,8 @@ shared_in f = if f.is_shared then Some f.shared_with else None
 
 abbrev pub HasKnownNumbers : FlatEvent → Type 0
 HasKnownNumbers f =
-    (op_number_fits f.op ≡ true) × (((f.outside.load == JC_NOT_ASKED) || load_number_fits f.outside.load) ≡ true)
-    × (((f.outside.write == JC_NOT_ASKED) || write_number_fits f.outside.write) ≡ true) × (((f.outside.effect == JC_NOT_RUN) || effect_number_fits f.outside.effect) ≡ true)
+    (op_number_fits f.op ≡ true) × (((f.outside.load == JC_ANSWER_NOT_ASKED) || load_number_fits f.outside.load) ≡ true)
+    × (((f.outside.write == JC_ANSWER_NOT_ASKED) || write_number_fits f.outside.write) ≡ true) × (((f.outside.effect == JC_EFFECT_NOT_RUN) || effect_number_fits f.outside.effect) ≡ true)
 
 abbrev pub HasOutsideLengths : ProcessorAnswers → Type 0
 HasOutsideLengths p = (is_inline_value p.loaded ≡ true) × (is_inline_value p.set ≡ true) × (is_inline_value p.outcome ≡ true)
@@ -59,17 +59,17 @@ HasLengths f = (is_inline_value f.value ≡ true) × (is_inline_value f.other �
 
 abbrev pub ShowsEvent : Event → FlatEvent → Type 0
 ShowsEvent (Step caller op key out shared reply) f =
-    (f.kind ≡ JC_STEP) × (f.session ≡ caller.session) × (f.call ≡ caller.call) × (op_of_number f.op (inline_value f.value) (inline_value f.other) ≡ op)
+    (f.kind ≡ JC_EVENT_STEP) × (f.session ≡ caller.session) × (f.call ≡ caller.call) × (op_of_number f.op (inline_value f.value) (inline_value f.other) ≡ op)
     × HoldsKey f.key key × (read_outside f.outside ≡ out) × (shared_in f ≡ shared) × ShowsReply reply f.reply f.reply_code f.replied × HasKnownNumbers f
-ShowsEvent (Evict key cause) f = (f.kind ≡ JC_EVICTION) × HoldsKey f.key key × (read_cause f.cause ≡ cause) × (nat_le f.cause JC_FOR_MEMORY ≡ true)
+ShowsEvent (Evict key cause) f = (f.kind ≡ JC_EVENT_EVICTION) × HoldsKey f.key key × (read_cause f.cause ≡ cause) × (nat_le f.cause JC_CAUSE_MEMORY ≡ true)
 
 -- 2. An event that is read.
 
 abbrev pub read_reply : ℕ → ℕ → Bytes → Reply
 read_reply n code value =
-    if n == JC_UNIT then reply.Unit else (if n == JC_NO then reply.Flag false else (if n == JC_YES then reply.Flag true
-    else (if n == JC_NULL then reply.Value None else (if n == JC_VALUE then reply.Value (Some value)
-    else (if n == JC_LOADER_FAILED then reply.Fault (refusal.LoaderFailed code) else (if n == JC_WRITER_FAILED then reply.Fault (refusal.WriterFailed code)
+    if n == JC_REPLY_UNIT then reply.Unit else (if n == JC_REPLY_NO then reply.Flag false else (if n == JC_REPLY_YES then reply.Flag true
+    else (if n == JC_REPLY_NULL then reply.Value None else (if n == JC_REPLY_VALUE then reply.Value (Some value)
+    else (if n == JC_REPLY_LOADER_FAILED then reply.Fault (refusal.LoaderFailed code) else (if n == JC_REPLY_WRITER_FAILED then reply.Fault (refusal.WriterFailed code)
     else reply.Fault (refusal.ProcessorFailed code)))))))
 
 abbrev pub read_step : FlatEvent → Bytes → Event
@@ -78,15 +78,15 @@ read_step f key =
     (read_reply f.reply f.reply_code (inline_value f.replied))
 
 abbrev pub read_event : FlatEvent → Event
-read_event f = if f.kind == JC_EVICTION then Evict (inline_key f.key) (read_cause f.cause) else read_step f (inline_key f.key)
+read_event f = if f.kind == JC_EVENT_EVICTION then Evict (inline_key f.key) (read_cause f.cause) else read_step f (inline_key f.key)
 
 abbrev pub outside_fits : ProcessorAnswers → Bool
-outside_fits p = ((p.effect == JC_NOT_RUN) || process_fits p) && others_fit p
+outside_fits p = ((p.effect == JC_EFFECT_NOT_RUN) || process_fits p) && others_fit p
 
 abbrev pub step_fits : FlatEvent → Bool
 step_fits f =
     is_inline_value f.value && is_inline_value f.other && op_fits f.op (inline_value f.value) (inline_value f.other) && outside_fits f.outside && is_inline_value f.replied
-    && nat_le f.reply JC_PROCESSOR_FAILED
+    && nat_le f.reply JC_REPLY_PROCESSOR_FAILED
 
 abbrev pub event_fits : FlatEvent → Bool
-event_fits f = is_inline_key f.key && (if f.kind == JC_EVICTION then nat_le f.cause JC_FOR_MEMORY else ((f.kind == JC_STEP) && step_fits f))
+event_fits f = is_inline_key f.key && (if f.kind == JC_EVENT_EVICTION then nat_le f.cause JC_CAUSE_MEMORY else ((f.kind == JC_EVENT_STEP) && step_fits f))

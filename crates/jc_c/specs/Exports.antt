@@ -22,7 +22,7 @@ use Rattle.jc_stripe.specs.declared.desk.answers.PickUpAnswer.{PickUpAnswer}
 use Rattle.jc_stripe.specs.ValuesMoved.{MovesMade}
 use Rattle.jc_stripe.specs.DeskState.{DeskState, is_open_shape, are_contents}
 use Rattle.jc_stripe.specs.DeskPhases.{newest, BeginsAtDesk, HitsAtDesk, CommitsAtDesk, PicksUpAtDesk}
-use Rattle.jc_c.specs.declared.codes.TheConstants.{JC_OK, JC_WRONG_HANDLE, JC_BAD_ARGUMENT, JC_OUT_SIZE}
+use Rattle.jc_c.specs.declared.codes.TheConstants.{JC_OK, JC_CODE_WRONG_HANDLE, JC_CODE_BAD_ARGUMENT, JC_OUT_SIZE}
 use Rattle.jc_c.specs.declared.layouts.PhaseOut.{PhaseOut}
 use Rattle.jc_c.specs.declared.layouts.CacheShape.{CacheShape}
 use Rattle.jc_c.specs.declared.layouts.InlineEntry.{InlineEntry}
@@ -33,7 +33,7 @@ use Rattle.jc_c.specs.Requests.{op_of_number, entry_fits}
 use Rattle.jc_c.specs.Replies.{ShowsFirstAnswer, ShowsDone, ShowsPickUp}
 
 abbrev pub export_code : Bool → Bool → Bool → ℕ → ℕ
-export_code is_open fits takes other = if is_open then (if fits then (if takes then JC_OK else other) else JC_BAD_ARGUMENT) else JC_WRONG_HANDLE
+export_code is_open fits takes other = if is_open then (if fits then (if takes then JC_OK else other) else JC_CODE_BAD_ARGUMENT) else JC_CODE_WRONG_HANDLE
 
 -- 1. Phases.
 

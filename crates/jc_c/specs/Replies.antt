@@ -28,35 +28,35 @@ use Rattle.jc_stripe.specs.declared.desk.answers.FirstAnswer.TheVariants as firs
 use Rattle.jc_stripe.specs.declared.desk.answers.PickUpAnswer.{PickUpAnswer}
 use Rattle.jc_stripe.specs.declared.desk.answers.PickUpAnswer.TheVariants as pick_up_answer
 use Rattle.jc_stripe.specs.ValuesMoved.{MovesMade}
-use Rattle.jc_c.specs.declared.codes.TheConstants.{JC_AGAIN, JC_ASK_LOADER, JC_BUSY, JC_DONE, JC_EVICTED, JC_FULL, JC_HAVE_DELETED, JC_HAVE_WRITTEN, JC_HISTORY_FULL, JC_JOINED, JC_KEPT, JC_LEFT, JC_LOADER_FAILED, JC_NO, JC_NOT_YET, JC_NULL, JC_OTHER, JC_OTHER_FAULT, JC_OWN_EVICTED_FULL, JC_OWN_EVICTED_MEMORY, JC_PROCESSOR_FAILED, JC_REFUSED, JC_RUN_PROCESSOR, JC_TOO_MANY_IN_FLIGHT, JC_TOO_MANY_JOINERS, JC_UNIT, JC_VALUE, JC_WRITER_FAILED, JC_YES}
+use Rattle.jc_c.specs.declared.codes.TheConstants.{JC_NEXT_AGAIN, JC_ASK_LOAD, JC_REFUSAL_BUSY, JC_NEXT_DONE, JC_MOVE_EVICTED, JC_NEXT_FULL, JC_ASK_DELETE, JC_ASK_WRITE, JC_REFUSAL_HISTORY_FULL, JC_NEXT_JOINED, JC_MOVE_STORED, JC_MOVE_REMOVED, JC_REPLY_LOADER_FAILED, JC_REPLY_NO, JC_NEXT_NOT_YET, JC_REPLY_NULL, JC_REFUSAL_OTHER, JC_REPLY_OTHER_FAULT, JC_MOVE_OWN_EVICTED_FULL, JC_MOVE_OWN_EVICTED_MEMORY, JC_REPLY_PROCESSOR_FAILED, JC_NEXT_REFUSED, JC_ASK_PROCESS, JC_REFUSAL_TOO_MANY_IN_FLIGHT, JC_REFUSAL_TOO_MANY_JOINERS, JC_REPLY_UNIT, JC_REPLY_VALUE, JC_REPLY_WRITER_FAILED, JC_REPLY_YES}
 use Rattle.jc_c.specs.declared.layouts.InlineValue.{InlineValue}
 use Rattle.jc_c.specs.declared.layouts.InlineKey.{InlineKey}
 use Rattle.jc_c.specs.declared.layouts.PhaseOut.{PhaseOut}
 use Rattle.jc_c.specs.Layouts.{HoldsValue, HoldsKey}
 
 abbrev pub ShowsFault : Refusal → ℕ → ℕ → Type 0
-ShowsFault (refusal.LoaderFailed code) number shown = (number ≡ JC_LOADER_FAILED) × (shown ≡ code)
-ShowsFault (refusal.WriterFailed code) number shown = (number ≡ JC_WRITER_FAILED) × (shown ≡ code)
-ShowsFault (refusal.ProcessorFailed code) number shown = (number ≡ JC_PROCESSOR_FAILED) × (shown ≡ code)
-ShowsFault refusal.HistoryFull number shown = number ≡ JC_OTHER_FAULT
-ShowsFault refusal.Busy number shown = number ≡ JC_OTHER_FAULT
-ShowsFault refusal.TooManyInFlight number shown = number ≡ JC_OTHER_FAULT
-ShowsFault refusal.TooManyJoiners number shown = number ≡ JC_OTHER_FAULT
-ShowsFault refusal.OutOfMemory number shown = number ≡ JC_OTHER_FAULT
-ShowsFault refusal.TooManyKeys number shown = number ≡ JC_OTHER_FAULT
-ShowsFault (refusal.BadConfig field) number shown = number ≡ JC_OTHER_FAULT
-ShowsFault refusal.NoLoader number shown = number ≡ JC_OTHER_FAULT
-ShowsFault refusal.NoWriter number shown = number ≡ JC_OTHER_FAULT
-ShowsFault refusal.TooManySessions number shown = number ≡ JC_OTHER_FAULT
-ShowsFault refusal.StillReserved number shown = number ≡ JC_OTHER_FAULT
-ShowsFault refusal.RepeatedKey number shown = number ≡ JC_OTHER_FAULT
+ShowsFault (refusal.LoaderFailed code) number shown = (number ≡ JC_REPLY_LOADER_FAILED) × (shown ≡ code)
+ShowsFault (refusal.WriterFailed code) number shown = (number ≡ JC_REPLY_WRITER_FAILED) × (shown ≡ code)
+ShowsFault (refusal.ProcessorFailed code) number shown = (number ≡ JC_REPLY_PROCESSOR_FAILED) × (shown ≡ code)
+ShowsFault refusal.HistoryFull number shown = number ≡ JC_REPLY_OTHER_FAULT
+ShowsFault refusal.Busy number shown = number ≡ JC_REPLY_OTHER_FAULT
+ShowsFault refusal.TooManyInFlight number shown = number ≡ JC_REPLY_OTHER_FAULT
+ShowsFault refusal.TooManyJoiners number shown = number ≡ JC_REPLY_OTHER_FAULT
+ShowsFault refusal.OutOfMemory number shown = number ≡ JC_REPLY_OTHER_FAULT
+ShowsFault refusal.TooManyKeys number shown = number ≡ JC_REPLY_OTHER_FAULT
+ShowsFault (refusal.BadConfig field) number shown = number ≡ JC_REPLY_OTHER_FAULT
+ShowsFault refusal.NoLoader number shown = number ≡ JC_REPLY_OTHER_FAULT
+ShowsFault refusal.NoWriter number shown = number ≡ JC_REPLY_OTHER_FAULT
+ShowsFault refusal.TooManySessions number shown = number ≡ JC_REPLY_OTHER_FAULT
+ShowsFault refusal.StillReserved number shown = number ≡ JC_REPLY_OTHER_FAULT
+ShowsFault refusal.RepeatedKey number shown = number ≡ JC_REPLY_OTHER_FAULT
 
 abbrev pub ShowsReply : Reply → ℕ → ℕ → InlineValue → Type 0
-ShowsReply reply.Unit number code value = number ≡ JC_UNIT
-ShowsReply (reply.Flag false) number code value = number ≡ JC_NO
-ShowsReply (reply.Flag true) number code value = number ≡ JC_YES
-ShowsReply (reply.Value None) number code value = number ≡ JC_NULL
-ShowsReply (reply.Value (Some v)) number code value = (number ≡ JC_VALUE) × HoldsValue value v
+ShowsReply reply.Unit number code value = number ≡ JC_REPLY_UNIT
+ShowsReply (reply.Flag false) number code value = number ≡ JC_REPLY_NO
+ShowsReply (reply.Flag true) number code value = number ≡ JC_REPLY_YES
+ShowsReply (reply.Value None) number code value = number ≡ JC_REPLY_NULL
+ShowsReply (reply.Value (Some v)) number code value = (number ≡ JC_REPLY_VALUE) × HoldsValue value v
 ShowsReply (reply.Fault fault) number code value = ShowsFault fault number code
 
 abbrev pub ShowsValue : Option Bytes → InlineValue → Type 0
@@ -69,45 +69,45 @@ ShowsVictim (Some gone) victim evicted = HoldsKey victim gone.0 × HoldsValue ev
 
 abbrev pub own_number : Option Cause → ℕ
 own_number None = 0
-own_number (Some cause.Full) = JC_OWN_EVICTED_FULL
-own_number (Some cause.Memory) = JC_OWN_EVICTED_MEMORY
+own_number (Some cause.Full) = JC_MOVE_OWN_EVICTED_FULL
+own_number (Some cause.Memory) = JC_MOVE_OWN_EVICTED_MEMORY
 
 pub record ShowsMoves (moves : MovesMade) (flags : ℕ) (left : InlineValue) (victim : InlineKey) (evicted : InlineValue) : Type 0 where
-  pub flags_are : flags ≡ (if moves.kept then JC_KEPT else 0) + (if is_some moves.left then JC_LEFT else 0) + (if is_some moves.victim then JC_EVICTED else 0) + own_number moves.own
+  pub flags_are : flags ≡ (if moves.kept then JC_MOVE_STORED else 0) + (if is_some moves.left then JC_MOVE_REMOVED else 0) + (if is_some moves.victim then JC_MOVE_EVICTED else 0) + own_number moves.own
   pub left_is : ShowsValue moves.left left
   pub victim_is : ShowsVictim moves.victim victim evicted
 
 pub record ShowsDone (place shared : ℕ) (reply : Reply) (moves : MovesMade) (out : PhaseOut) : Type 0 where
-  pub next_is : out.next ≡ JC_DONE
+  pub next_is : out.next ≡ JC_NEXT_DONE
   pub place_is : out.place ≡ place
   pub shared_is : out.shared ≡ shared
   pub reply_is : ShowsReply reply out.reply out.code out.value
   pub moves_are : ShowsMoves moves out.moves out.left out.victim out.evicted
 
 abbrev pub ShowsFirst : First → ℕ → ℕ → ℕ → InlineValue → Type 0
-ShowsFirst first.Nobody next number code value = next ≡ JC_DONE
-ShowsFirst first.Loader next number code value = next ≡ JC_ASK_LOADER
-ShowsFirst (first.Writer (change.Write v)) next number code value = (next ≡ JC_HAVE_WRITTEN) × HoldsValue value v
-ShowsFirst (first.Writer change.Delete) next number code value = next ≡ JC_HAVE_DELETED
-ShowsFirst (first.Processor None may_load) next number code value = (next ≡ JC_RUN_PROCESSOR) × (number ≡ JC_NULL) × (code ≡ (if may_load then 1 else 0))
-ShowsFirst (first.Processor (Some v) may_load) next number code value = (next ≡ JC_RUN_PROCESSOR) × (number ≡ JC_VALUE) × (code ≡ (if may_load then 1 else 0)) × HoldsValue value v
+ShowsFirst first.Nobody next number code value = next ≡ JC_NEXT_DONE
+ShowsFirst first.Loader next number code value = next ≡ JC_ASK_LOAD
+ShowsFirst (first.Writer (change.Write v)) next number code value = (next ≡ JC_ASK_WRITE) × HoldsValue value v
+ShowsFirst (first.Writer change.Delete) next number code value = next ≡ JC_ASK_DELETE
+ShowsFirst (first.Processor None may_load) next number code value = (next ≡ JC_ASK_PROCESS) × (number ≡ JC_REPLY_NULL) × (code ≡ (if may_load then 1 else 0))
+ShowsFirst (first.Processor (Some v) may_load) next number code value = (next ≡ JC_ASK_PROCESS) × (number ≡ JC_REPLY_VALUE) × (code ≡ (if may_load then 1 else 0)) × HoldsValue value v
 
 abbrev pub refusal_number : Refusal → ℕ
-refusal_number refusal.HistoryFull = JC_HISTORY_FULL
-refusal_number refusal.Busy = JC_BUSY
-refusal_number refusal.TooManyInFlight = JC_TOO_MANY_IN_FLIGHT
-refusal_number refusal.TooManyJoiners = JC_TOO_MANY_JOINERS
-refusal_number (refusal.LoaderFailed code) = JC_OTHER
-refusal_number (refusal.WriterFailed code) = JC_OTHER
-refusal_number (refusal.ProcessorFailed code) = JC_OTHER
-refusal_number refusal.OutOfMemory = JC_OTHER
-refusal_number refusal.TooManyKeys = JC_OTHER
-refusal_number (refusal.BadConfig field) = JC_OTHER
-refusal_number refusal.NoLoader = JC_OTHER
-refusal_number refusal.NoWriter = JC_OTHER
-refusal_number refusal.TooManySessions = JC_OTHER
-refusal_number refusal.StillReserved = JC_OTHER
-refusal_number refusal.RepeatedKey = JC_OTHER
+refusal_number refusal.HistoryFull = JC_REFUSAL_HISTORY_FULL
+refusal_number refusal.Busy = JC_REFUSAL_BUSY
+refusal_number refusal.TooManyInFlight = JC_REFUSAL_TOO_MANY_IN_FLIGHT
+refusal_number refusal.TooManyJoiners = JC_REFUSAL_TOO_MANY_JOINERS
+refusal_number (refusal.LoaderFailed code) = JC_REFUSAL_OTHER
+refusal_number (refusal.WriterFailed code) = JC_REFUSAL_OTHER
+refusal_number (refusal.ProcessorFailed code) = JC_REFUSAL_OTHER
+refusal_number refusal.OutOfMemory = JC_REFUSAL_OTHER
+refusal_number refusal.TooManyKeys = JC_REFUSAL_OTHER
+refusal_number (refusal.BadConfig field) = JC_REFUSAL_OTHER
+refusal_number refusal.NoLoader = JC_REFUSAL_OTHER
+refusal_number refusal.NoWriter = JC_REFUSAL_OTHER
+refusal_number refusal.TooManySessions = JC_REFUSAL_OTHER
+refusal_number refusal.StillReserved = JC_REFUSAL_OTHER
+refusal_number refusal.RepeatedKey = JC_REFUSAL_OTHER
 
 abbrev pub ShowsReservation : Option Reservation → PhaseOut → Type 0
 ShowsReservation None out = Unit {0}
@@ -116,13 +116,13 @@ ShowsReservation (Some r) out = ShowsFirst r.first out.next out.reply out.code o
 abbrev pub ShowsFirstAnswer : FirstAnswer → Option Reservation → Reply → MovesMade → PhaseOut → Type 0
 ShowsFirstAnswer (first_answer.Done place) newest reply moves out = ShowsDone place 0 reply moves out
 ShowsFirstAnswer (first_answer.Asks number) newest reply moves out = (out.number ≡ number) × (out.moves ≡ 0) × ShowsReservation newest out
-ShowsFirstAnswer (first_answer.Joined load) newest reply moves out = (out.next ≡ JC_JOINED) × (out.number ≡ load) × (out.moves ≡ 0)
-ShowsFirstAnswer (first_answer.Refused refusal) newest reply moves out = (out.next ≡ JC_REFUSED) × (out.reply ≡ refusal_number refusal) × (out.moves ≡ 0)
-ShowsFirstAnswer first_answer.Full newest reply moves out = (out.next ≡ JC_FULL) × (out.moves ≡ 0)
+ShowsFirstAnswer (first_answer.Joined load) newest reply moves out = (out.next ≡ JC_NEXT_JOINED) × (out.number ≡ load) × (out.moves ≡ 0)
+ShowsFirstAnswer (first_answer.Refused refusal) newest reply moves out = (out.next ≡ JC_NEXT_REFUSED) × (out.reply ≡ refusal_number refusal) × (out.moves ≡ 0)
+ShowsFirstAnswer first_answer.Full newest reply moves out = (out.next ≡ JC_NEXT_FULL) × (out.moves ≡ 0)
 ShowsFirstAnswer first_answer.Misuse newest reply moves out = ⊥
 
 abbrev pub ShowsPickUp : PickUpAnswer → Reply → PhaseOut → Type 0
-ShowsPickUp (pick_up_answer.Answer place shared_with) reply out = (out.next ≡ JC_DONE) × (out.place ≡ place) × (out.moves ≡ 0) × ShowsReply reply out.reply out.code out.value
-ShowsPickUp pick_up_answer.Again reply out = (out.next ≡ JC_AGAIN) × (out.moves ≡ 0)
-ShowsPickUp pick_up_answer.NotYet reply out = (out.next ≡ JC_NOT_YET) × (out.moves ≡ 0)
+ShowsPickUp (pick_up_answer.Answer place shared_with) reply out = (out.next ≡ JC_NEXT_DONE) × (out.place ≡ place) × (out.moves ≡ 0) × ShowsReply reply out.reply out.code out.value
+ShowsPickUp pick_up_answer.Again reply out = (out.next ≡ JC_NEXT_AGAIN) × (out.moves ≡ 0)
+ShowsPickUp pick_up_answer.NotYet reply out = (out.next ≡ JC_NEXT_NOT_YET) × (out.moves ≡ 0)
 ShowsPickUp pick_up_answer.Misuse reply out = ⊥

@@ -36,7 +36,7 @@ use Rattle.jc_model.specs.declared.event.ProcessAnswer.TheVariants as process
 use Rattle.jc_model.specs.declared.event.Effect.{Effect}
 use Rattle.jc_model.specs.declared.event.Effect.TheVariants as effect
 use Rattle.jc_model.specs.Cache.{Bytes}
-use Rattle.jc_c.specs.declared.codes.TheConstants.{JC_CLEAR_KEY, JC_CONTAINS_KEY, JC_FAILED, JC_FOUND, JC_GET, JC_GET_AND_PUT, JC_GET_AND_REMOVE, JC_GET_AND_REPLACE, JC_INVOKE, JC_KEEP, JC_LOAD, JC_NOTHING, JC_NOT_ASKED, JC_PROCESS_FAILED, JC_PUT, JC_PUT_IF_ABSENT, JC_RELOAD, JC_REMOVE, JC_REMOVE_IF, JC_REPLACE, JC_REPLACE_IF, JC_SET, JC_TAKE_OUT, JC_WRITTEN}
+use Rattle.jc_c.specs.declared.codes.TheConstants.{JC_OP_CLEAR_KEY, JC_OP_CONTAINS_KEY, JC_ANSWER_FAILED, JC_ANSWER_FOUND, JC_OP_GET, JC_OP_GET_AND_PUT, JC_OP_GET_AND_REMOVE, JC_OP_GET_AND_REPLACE, JC_OP_INVOKE, JC_EFFECT_KEEP, JC_OP_LOAD, JC_ANSWER_NOTHING, JC_ANSWER_NOT_ASKED, JC_EFFECT_FAILED, JC_OP_PUT, JC_OP_PUT_IF_ABSENT, JC_OP_RELOAD, JC_OP_REMOVE, JC_OP_REMOVE_IF, JC_OP_REPLACE, JC_OP_REPLACE_IF, JC_EFFECT_SET, JC_EFFECT_REMOVE, JC_ANSWER_WRITTEN}
 use Rattle.jc_c.specs.declared.layouts.InlineEntry.{InlineEntry}
 use Rattle.jc_c.specs.declared.layouts.ProcessorAnswers.{ProcessorAnswers}
 use Rattle.jc_c.specs.Layouts.{inline_value, is_inline_key, is_inline_value}
@@ -53,53 +53,53 @@ value_fits bytes = nat_le (length bytes) VALUE_MAX
 
 abbrev pub takes_no_value : ℕ → Bool
 takes_no_value n =
-    (n == JC_GET) || (n == JC_CONTAINS_KEY) || (n == JC_REMOVE) || (n == JC_GET_AND_REMOVE) || (n == JC_CLEAR_KEY) || (n == JC_LOAD) || (n == JC_RELOAD) || (n == JC_INVOKE)
+    (n == JC_OP_GET) || (n == JC_OP_CONTAINS_KEY) || (n == JC_OP_REMOVE) || (n == JC_OP_GET_AND_REMOVE) || (n == JC_OP_CLEAR_KEY) || (n == JC_OP_LOAD) || (n == JC_OP_RELOAD) || (n == JC_OP_INVOKE)
 
 abbrev pub takes_value : ℕ → Bool
-takes_value n = (n == JC_PUT) || (n == JC_GET_AND_PUT) || (n == JC_PUT_IF_ABSENT) || (n == JC_REMOVE_IF) || (n == JC_REPLACE) || (n == JC_GET_AND_REPLACE)
+takes_value n = (n == JC_OP_PUT) || (n == JC_OP_GET_AND_PUT) || (n == JC_OP_PUT_IF_ABSENT) || (n == JC_OP_REMOVE_IF) || (n == JC_OP_REPLACE) || (n == JC_OP_GET_AND_REPLACE)
 
 abbrev pub op_fits : ℕ → Bytes → Bytes → Bool
-op_fits n value other = takes_no_value n || (takes_value n && value_fits value) || ((n == JC_REPLACE_IF) && value_fits value && value_fits other)
+op_fits n value other = takes_no_value n || (takes_value n && value_fits value) || ((n == JC_OP_REPLACE_IF) && value_fits value && value_fits other)
 
 abbrev pub op_number_fits : ℕ → Bool
-op_number_fits n = takes_no_value n || takes_value n || (n == JC_REPLACE_IF)
+op_number_fits n = takes_no_value n || takes_value n || (n == JC_OP_REPLACE_IF)
 
 abbrev pub op_of_number : ℕ → Bytes → Bytes → Op
 op_of_number n value other =
-    if n == JC_GET then op.Get else (if n == JC_CONTAINS_KEY then op.ContainsKey else (if n == JC_PUT then op.Put value
-    else (if n == JC_GET_AND_PUT then op.GetAndPut value else (if n == JC_PUT_IF_ABSENT then op.PutIfAbsent value
-    else (if n == JC_REMOVE then op.Remove else (if n == JC_REMOVE_IF then op.RemoveIf value else (if n == JC_GET_AND_REMOVE then op.GetAndRemove
-    else (if n == JC_REPLACE then op.Replace value else (if n == JC_REPLACE_IF then op.ReplaceIf value other
-    else (if n == JC_GET_AND_REPLACE then op.GetAndReplace value else (if n == JC_CLEAR_KEY then op.Clear
-    else (if n == JC_LOAD then op.LoadAll false else (if n == JC_RELOAD then op.LoadAll true else op.Invoke)))))))))))))
+    if n == JC_OP_GET then op.Get else (if n == JC_OP_CONTAINS_KEY then op.ContainsKey else (if n == JC_OP_PUT then op.Put value
+    else (if n == JC_OP_GET_AND_PUT then op.GetAndPut value else (if n == JC_OP_PUT_IF_ABSENT then op.PutIfAbsent value
+    else (if n == JC_OP_REMOVE then op.Remove else (if n == JC_OP_REMOVE_IF then op.RemoveIf value else (if n == JC_OP_GET_AND_REMOVE then op.GetAndRemove
+    else (if n == JC_OP_REPLACE then op.Replace value else (if n == JC_OP_REPLACE_IF then op.ReplaceIf value other
+    else (if n == JC_OP_GET_AND_REPLACE then op.GetAndReplace value else (if n == JC_OP_CLEAR_KEY then op.Clear
+    else (if n == JC_OP_LOAD then op.LoadAll false else (if n == JC_OP_RELOAD then op.LoadAll true else op.Invoke)))))))))))))
 
 -- 3. The answers of the loader, the writer and the processor.
 
 abbrev pub load_of_number : ℕ → ℕ → Bytes → LoadAnswer
 load_of_number n code value =
-    if n == JC_FOUND then load.Found value else (if n == JC_NOTHING then load.Nothing else (if n == JC_FAILED then load.Failed code else load.NotAsked))
+    if n == JC_ANSWER_FOUND then load.Found value else (if n == JC_ANSWER_NOTHING then load.Nothing else (if n == JC_ANSWER_FAILED then load.Failed code else load.NotAsked))
 
 abbrev pub load_number_fits : ℕ → Bool
-load_number_fits n = (n == JC_FOUND) || (n == JC_NOTHING) || (n == JC_FAILED)
+load_number_fits n = (n == JC_ANSWER_FOUND) || (n == JC_ANSWER_NOTHING) || (n == JC_ANSWER_FAILED)
 
 abbrev pub write_of_number : ℕ → ℕ → WriteAnswer
-write_of_number n code = if n == JC_WRITTEN then write.Done else (if n == JC_FAILED then write.Failed code else write.NotAsked)
+write_of_number n code = if n == JC_ANSWER_WRITTEN then write.Done else (if n == JC_ANSWER_FAILED then write.Failed code else write.NotAsked)
 
 abbrev pub write_number_fits : ℕ → Bool
-write_number_fits n = (n == JC_WRITTEN) || (n == JC_FAILED)
+write_number_fits n = (n == JC_ANSWER_WRITTEN) || (n == JC_ANSWER_FAILED)
 
 abbrev pub effect_of_number : ℕ → Bytes → Effect
-effect_of_number n set = if n == JC_SET then effect.Set set else (if n == JC_TAKE_OUT then effect.Remove else effect.Keep)
+effect_of_number n set = if n == JC_EFFECT_SET then effect.Set set else (if n == JC_EFFECT_REMOVE then effect.Remove else effect.Keep)
 
 abbrev pub read_outcome : Bool → Bytes → Option Bytes
 read_outcome false outcome = None
 read_outcome true outcome = Some outcome
 
 abbrev pub process_answer_of : ℕ → ℕ → Bytes → Option Bytes → ProcessAnswer
-process_answer_of n code set outcome = if n == JC_PROCESS_FAILED then process.Failed code else process.Ended (effect_of_number n set) outcome
+process_answer_of n code set outcome = if n == JC_EFFECT_FAILED then process.Failed code else process.Ended (effect_of_number n set) outcome
 
 abbrev pub effect_number_fits : ℕ → Bool
-effect_number_fits n = (n == JC_KEEP) || (n == JC_SET) || (n == JC_TAKE_OUT) || (n == JC_PROCESS_FAILED)
+effect_number_fits n = (n == JC_EFFECT_KEEP) || (n == JC_EFFECT_SET) || (n == JC_EFFECT_REMOVE) || (n == JC_EFFECT_FAILED)
 
 abbrev pub read_process : ProcessorAnswers → ProcessAnswer
 read_process p = process_answer_of p.effect p.code (inline_value p.set) (read_outcome p.has_outcome (inline_value p.outcome))
@@ -111,7 +111,7 @@ abbrev pub answers_beside : ProcessorAnswers → ProcessAnswer → Out
 answers_beside p process = record { load = load_of_number p.load p.load_code (inline_value p.loaded); write = write_of_number p.write p.write_code; process = process }
 
 abbrev pub others_fit : ProcessorAnswers → Bool
-others_fit p = is_inline_value p.loaded && ((p.load == JC_NOT_ASKED) || load_number_fits p.load) && ((p.write == JC_NOT_ASKED) || write_number_fits p.write)
+others_fit p = is_inline_value p.loaded && ((p.load == JC_ANSWER_NOT_ASKED) || load_number_fits p.load) && ((p.write == JC_ANSWER_NOT_ASKED) || write_number_fits p.write)
 
 abbrev pub processor_out : ProcessorAnswers → Out
 processor_out p = answers_beside p (read_process p)

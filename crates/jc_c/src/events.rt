@@ -5,17 +5,17 @@ ghost use Rattle.jc_model.specs.Cache.{Bytes};
 ghost use Rattle.jc_model.specs.declared.event.Event.{Event};
 ghost use Rattle.jc_model.specs.declared.event.ProcessAnswer.TheVariants.{Ended};
 ghost use Rattle.jc_model.specs.Legal.{Legal};
-ghost use Rattle.jc_c.specs.declared.codes.TheConstants.{JC_OK, JC_NONE, JC_NO_MEMORY, JC_BAD_ARGUMENT, JC_NOT_ASKED, JC_NOT_RUN, JC_FOR_MEMORY, JC_PROCESSOR_FAILED};
+ghost use Rattle.jc_c.specs.declared.codes.TheConstants.{JC_OK, JC_CODE_NONE, JC_CODE_NO_MEMORY, JC_CODE_BAD_ARGUMENT, JC_ANSWER_NOT_ASKED, JC_EFFECT_NOT_RUN, JC_CAUSE_MEMORY, JC_REPLY_PROCESSOR_FAILED};
 ghost use Rattle.jc_c.specs.Layouts.{inline_value, is_inline_value, inline_entries, config_of};
 ghost use Rattle.jc_c.specs.Requests.{op_of_number, op_number_fits, load_number_fits, write_number_fits, effect_number_fits, load_of_number, write_of_number, process_answer_of, read_outcome, entry_fits};
 ghost use Rattle.jc_c.specs.Events.{read_cause, process_if_run, read_outside, shared_in, read_reply, step_fits, read_step, outside_fits, event_fits, read_event, HasOutsideLengths, HasLengths, ShowsEvent};
 ghost use Rattle.jc_c.specs.Exports.{export_code};
 
 use crate::codes::{
-    JC_BAD_ARGUMENT, JC_EVICTION, JC_FAILED, JC_FOR_MEMORY, JC_FOR_ROOM, JC_FOUND, JC_KEEP,
-    JC_LOADER_FAILED, JC_NO, JC_NO_MEMORY, JC_NONE, JC_NOT_ASKED, JC_NOT_RUN, JC_NOTHING, JC_NULL,
-    JC_OK, JC_PROCESS_FAILED, JC_PROCESSOR_FAILED, JC_SET, JC_STEP, JC_TAKE_OUT, JC_UNIT, JC_VALUE,
-    JC_WRITER_FAILED, JC_WRITTEN, JC_WRONG_HANDLE, JC_YES,
+    JC_CODE_BAD_ARGUMENT, JC_EVENT_EVICTION, JC_ANSWER_FAILED, JC_CAUSE_MEMORY, JC_CAUSE_ROOM, JC_ANSWER_FOUND, JC_EFFECT_KEEP,
+    JC_REPLY_LOADER_FAILED, JC_REPLY_NO, JC_CODE_NO_MEMORY, JC_CODE_NONE, JC_ANSWER_NOT_ASKED, JC_EFFECT_NOT_RUN, JC_ANSWER_NOTHING, JC_REPLY_NULL,
+    JC_OK, JC_EFFECT_FAILED, JC_REPLY_PROCESSOR_FAILED, JC_EFFECT_SET, JC_EVENT_STEP, JC_EFFECT_REMOVE, JC_REPLY_UNIT, JC_REPLY_VALUE,
+    JC_REPLY_WRITER_FAILED, JC_ANSWER_WRITTEN, JC_CODE_WRONG_HANDLE, JC_REPLY_YES,
 };
 use crate::handle::Handle;
 use crate::layouts::{CacheShape, FlatEvent, InlineEntry, InlineValue, ProcessorAnswers};
@@ -60,15 +60,15 @@ fn show_with(value: &Value, is: u32, number: &mut u32, room: &mut InlineValue)
 /// Writes the answer of a loader.
 fn show_load(load: &LoadAnswer, number: &mut u32, code: &mut u32, room: &mut InlineValue)
     ensures load { load_of_number number.new code.new (inline_value room.new) ≡ load.now }
-    ensures number { ((number.new == JC_NOT_ASKED) || load_number_fits number.new) ≡ true }
+    ensures number { ((number.new == JC_ANSWER_NOT_ASKED) || load_number_fits number.new) ≡ true }
     ensures fits { is_inline_value room.old ≡ true → is_inline_value room.new ≡ true }
 {
     match load {
-        LoadAnswer::NotAsked => *number = JC_NOT_ASKED,
-        LoadAnswer::Found(value) => show_with(value, JC_FOUND, number, room),
-        LoadAnswer::Nothing => *number = JC_NOTHING,
+        LoadAnswer::NotAsked => *number = JC_ANSWER_NOT_ASKED,
+        LoadAnswer::Found(value) => show_with(value, JC_ANSWER_FOUND, number, room),
+        LoadAnswer::Nothing => *number = JC_ANSWER_NOTHING,
         LoadAnswer::Failed(failed) => {
-            *number = JC_FAILED;
+            *number = JC_ANSWER_FAILED;
             *code = *failed;
         }
     }
@@ -77,13 +77,13 @@ fn show_load(load: &LoadAnswer, number: &mut u32, code: &mut u32, room: &mut Inl
 /// Writes the answer of a writer.
 fn show_write(write: &WriteAnswer, number: &mut u32, code: &mut u32)
     ensures write { write_of_number number.new code.new ≡ write.now }
-    ensures number { ((number.new == JC_NOT_ASKED) || write_number_fits number.new) ≡ true }
+    ensures number { ((number.new == JC_ANSWER_NOT_ASKED) || write_number_fits number.new) ≡ true }
 {
     match write {
-        WriteAnswer::NotAsked => *number = JC_NOT_ASKED,
-        WriteAnswer::Done => *number = JC_WRITTEN,
+        WriteAnswer::NotAsked => *number = JC_ANSWER_NOT_ASKED,
+        WriteAnswer::Done => *number = JC_ANSWER_WRITTEN,
         WriteAnswer::Failed(failed) => {
-            *number = JC_FAILED;
+            *number = JC_ANSWER_FAILED;
             *code = *failed;
         }
     }
@@ -91,15 +91,15 @@ fn show_write(write: &WriteAnswer, number: &mut u32, code: &mut u32)
 
 /// Writes the effect of a processor on its entry.
 fn show_effect(effect: &Effect, number: &mut u32, room: &mut InlineValue)
-    ensures number { (number.new == JC_NOT_RUN) ≡ false }
+    ensures number { (number.new == JC_EFFECT_NOT_RUN) ≡ false }
     ensures known { effect_number_fits number.new ≡ true }
     ensures fits { is_inline_value room.old ≡ true → is_inline_value room.new ≡ true }
     ensures effect { (code : ℕ) (outcome : Option Bytes) → process_answer_of number.new code (inline_value room.new) outcome ≡ Ended effect.now outcome }
 {
     match effect {
-        Effect::Keep => *number = JC_KEEP,
-        Effect::Set(value) => show_with(value, JC_SET, number, room),
-        Effect::Remove => *number = JC_TAKE_OUT,
+        Effect::Keep => *number = JC_EFFECT_KEEP,
+        Effect::Set(value) => show_with(value, JC_EFFECT_SET, number, room),
+        Effect::Remove => *number = JC_EFFECT_REMOVE,
     }
 }
 
@@ -120,20 +120,20 @@ fn show_outcome(outcome: &Option<Value>, has: &mut bool, room: &mut InlineValue)
 /// Writes the answer of a processor, if one ran.
 fn show_process(process: &ProcessAnswer, out: &mut ProcessorAnswers)
     ensures process { process_if_run out.new ≡ process.now }
-    ensures number { ((out.new.effect == JC_NOT_RUN) || effect_number_fits out.new.effect) ≡ true }
+    ensures number { ((out.new.effect == JC_EFFECT_NOT_RUN) || effect_number_fits out.new.effect) ≡ true }
     ensures set { is_inline_value out.old.set ≡ true → is_inline_value out.new.set ≡ true }
     ensures outcome { is_inline_value out.old.outcome ≡ true → is_inline_value out.new.outcome ≡ true }
     ensures load { (out.new.load ≡ out.old.load) × (out.new.load_code ≡ out.old.load_code) × (out.new.loaded ≡ out.old.loaded) }
     ensures write { (out.new.write ≡ out.old.write) × (out.new.write_code ≡ out.old.write_code) }
 {
     match process {
-        ProcessAnswer::NotAsked => out.effect = JC_NOT_RUN,
+        ProcessAnswer::NotAsked => out.effect = JC_EFFECT_NOT_RUN,
         ProcessAnswer::Ended { effect, outcome } => {
             show_effect(effect, &mut out.effect, &mut out.set);
             show_outcome(outcome, &mut out.has_outcome, &mut out.outcome);
         }
         ProcessAnswer::Failed(failed) => {
-            out.effect = JC_PROCESS_FAILED;
+            out.effect = JC_EFFECT_FAILED;
             out.code = *failed;
         }
     }
@@ -142,9 +142,9 @@ fn show_process(process: &ProcessAnswer, out: &mut ProcessorAnswers)
 /// Writes the outside answers.
 fn show_outside(answers: &Out, out: &mut ProcessorAnswers)
     ensures answers { read_outside out.new ≡ answers.now }
-    ensures load { ((out.new.load == JC_NOT_ASKED) || load_number_fits out.new.load) ≡ true }
-    ensures write { ((out.new.write == JC_NOT_ASKED) || write_number_fits out.new.write) ≡ true }
-    ensures effect { ((out.new.effect == JC_NOT_RUN) || effect_number_fits out.new.effect) ≡ true }
+    ensures load { ((out.new.load == JC_ANSWER_NOT_ASKED) || load_number_fits out.new.load) ≡ true }
+    ensures write { ((out.new.write == JC_ANSWER_NOT_ASKED) || write_number_fits out.new.write) ≡ true }
+    ensures effect { ((out.new.effect == JC_EFFECT_NOT_RUN) || effect_number_fits out.new.effect) ≡ true }
     ensures fits { HasOutsideLengths out.old → HasOutsideLengths out.new }
 {
     show_load(
@@ -171,7 +171,7 @@ fn show_event(event: &Event, out: &mut FlatEvent)
             shared_with,
             reply,
         } => {
-            out.kind = JC_STEP;
+            out.kind = JC_EVENT_STEP;
             out.session = caller.session;
             out.call = caller.call;
             show_op(op, &mut out.op, &mut out.value, &mut out.other);
@@ -181,11 +181,11 @@ fn show_event(event: &Event, out: &mut FlatEvent)
             show_reply(reply, &mut out.reply, &mut out.reply_code, &mut out.replied);
         }
         Event::Evict { key, cause } => {
-            out.kind = JC_EVICTION;
+            out.kind = JC_EVENT_EVICTION;
             out.key.set(key);
             out.cause = match cause {
-                Cause::Full => JC_FOR_ROOM,
-                Cause::Memory => JC_FOR_MEMORY,
+                Cause::Full => JC_CAUSE_ROOM,
+                Cause::Memory => JC_CAUSE_MEMORY,
             };
         }
     }
@@ -204,22 +204,22 @@ fn show_shared(shared: Option<u32>, is_shared: &mut bool, place: &mut u32)
     }
 }
 
-/// Writes the event at a place of the present generation, from 0. `JC_NONE` says that it has no such place.
+/// Writes the event at a place of the present generation, from 0. `JC_CODE_NONE` says that it has no such place.
 #[unsafe(no_mangle)]
 pub extern "C" fn jc_event(h: &mut Handle, alloc: Global, place: usize, out: &mut FlatEvent) -> u32
-    ensures code { result ≡ export_code h.old.is_open true (nat_lt place (length h.old.desk.stripe.history)) JC_NONE }
+    ensures code { result ≡ export_code h.old.is_open true (nat_lt place (length h.old.desk.stripe.history)) JC_CODE_NONE }
     ensures shown { result ≡ JC_OK → (event : Event) × (slice_get h.old.desk.stripe.history place ≡ Some event) × ShowsEvent event out.new }
     ensures fits { result ≡ JC_OK → HasLengths out.old → HasLengths out.new }
     ensures none { (result ≡ JC_OK) ⊎ (out.new ≡ out.old) }
     ensures same { (h.new.is_open ≡ h.old.is_open) × (h.new.desk ≡ h.old.desk) }
 {
     if !h.is_open() {
-        return JC_WRONG_HANDLE;
+        return JC_CODE_WRONG_HANDLE;
     }
     let rooms = h.take(alloc).into_box();
     if rooms.desk.events_len() <= place {
         h.put(Loose::of(rooms));
-        return JC_NONE;
+        return JC_CODE_NONE;
     }
     let event = rooms.desk.event(place);
     h.put(Loose::of(rooms));
@@ -231,7 +231,7 @@ pub extern "C" fn jc_event(h: &mut Handle, alloc: Global, place: usize, out: &mu
 fn read_cause(number: u32) -> Cause
     ensures { result ≡ read_cause number }
 {
-    if number == JC_FOR_ROOM {
+    if number == JC_CAUSE_ROOM {
         Cause::Full
     } else {
         Cause::Memory
@@ -240,18 +240,18 @@ fn read_cause(number: u32) -> Cause
 
 /// Reads a reply, by its number.
 fn read_reply(number: u32, code: u32, value: Value) -> Option<Reply>
-    ensures fits { is_some result ≡ nat_le number JC_PROCESSOR_FAILED }
+    ensures fits { is_some result ≡ nat_le number JC_REPLY_PROCESSOR_FAILED }
     ensures reply { IfSome result (λ reply. reply ≡ read_reply number code value) }
 {
     match number {
-        JC_UNIT => Some(Reply::Unit),
-        JC_NO => Some(Reply::Flag(false)),
-        JC_YES => Some(Reply::Flag(true)),
-        JC_NULL => Some(Reply::Value(None)),
-        JC_VALUE => Some(Reply::Value(Some(value))),
-        JC_LOADER_FAILED => Some(Reply::Fault(Refusal::LoaderFailed(code))),
-        JC_WRITER_FAILED => Some(Reply::Fault(Refusal::WriterFailed(code))),
-        JC_PROCESSOR_FAILED => Some(Reply::Fault(Refusal::ProcessorFailed(code))),
+        JC_REPLY_UNIT => Some(Reply::Unit),
+        JC_REPLY_NO => Some(Reply::Flag(false)),
+        JC_REPLY_YES => Some(Reply::Flag(true)),
+        JC_REPLY_NULL => Some(Reply::Value(None)),
+        JC_REPLY_VALUE => Some(Reply::Value(Some(value))),
+        JC_REPLY_LOADER_FAILED => Some(Reply::Fault(Refusal::LoaderFailed(code))),
+        JC_REPLY_WRITER_FAILED => Some(Reply::Fault(Refusal::WriterFailed(code))),
+        JC_REPLY_PROCESSOR_FAILED => Some(Reply::Fault(Refusal::ProcessorFailed(code))),
         _ => None,
     }
 }
@@ -262,7 +262,7 @@ fn read_outside(outside: &ProcessorAnswers) -> Option<Out>
     ensures answers { IfSome result (λ out. out ≡ read_outside outside.now) }
 {
     let _types: Option<&(Effect, Value)> = None;
-    if outside.effect == JC_NOT_RUN {
+    if outside.effect == JC_EFFECT_NOT_RUN {
         return answers_beside(outside, ProcessAnswer::NotAsked);
     }
     let process = read_process(outside)?;
@@ -310,8 +310,8 @@ fn read_event(flat: &FlatEvent) -> Option<Event>
     ensures event { IfSome result (λ event. event ≡ read_event flat.now) }
 {
     let key = flat.key.key()?;
-    if flat.kind == JC_EVICTION {
-        if flat.cause > JC_FOR_MEMORY {
+    if flat.kind == JC_EVENT_EVICTION {
+        if flat.cause > JC_CAUSE_MEMORY {
             return None;
         }
         return Some(Event::Evict {
@@ -319,7 +319,7 @@ fn read_event(flat: &FlatEvent) -> Option<Event>
             cause: read_cause(flat.cause),
         });
     }
-    if flat.kind != JC_STEP {
+    if flat.kind != JC_EVENT_STEP {
         return None;
     }
     read_step(flat, key)
@@ -350,7 +350,7 @@ fn read_events(alloc: Global, events: &[FlatEvent]) -> Result<Vec<Event>, AllocE
 }
 
 /// Writes whether these events are a legal history of one stripe of a cache of this shape, that began with these entries. It
-/// needs no desk. `JC_BAD_ARGUMENT` says that an entry or an event has a number that is unknown, or a length that doesn't fit.
+/// needs no desk. `JC_CODE_BAD_ARGUMENT` says that an entry or an event has a number that is unknown, or a length that doesn't fit.
 #[unsafe(no_mangle)]
 pub extern "C" fn jc_legal(
     alloc: Global,
@@ -360,24 +360,24 @@ pub extern "C" fn jc_legal(
     is_legal: &mut bool,
 ) -> u32
     ensures told { result ≡ JC_OK → (IsTrue is_legal.new ↔ Legal (config_of shape.now) (inline_entries opening.now) (map read_event events.now)) }
-    ensures bad { (result ≡ JC_BAD_ARGUMENT) ↔ ((list_all entry_fits opening.now && list_all event_fits events.now) ≡ false) }
-    ensures codes { (result ≡ JC_OK) ⊎ (result ≡ JC_BAD_ARGUMENT) ⊎ (result ≡ JC_NO_MEMORY) }
+    ensures bad { (result ≡ JC_CODE_BAD_ARGUMENT) ↔ ((list_all entry_fits opening.now && list_all event_fits events.now) ≡ false) }
+    ensures codes { (result ≡ JC_OK) ⊎ (result ≡ JC_CODE_BAD_ARGUMENT) ⊎ (result ≡ JC_CODE_NO_MEMORY) }
     ensures none { (result ≡ JC_OK) ⊎ (is_legal.new ≡ is_legal.old) }
 {
     if !entries_fit(opening) || !flat_events_fit(events) {
-        return JC_BAD_ARGUMENT;
+        return JC_CODE_BAD_ARGUMENT;
     }
     let Ok(contents) = contents_of(alloc, opening) else {
-        return JC_NO_MEMORY;
+        return JC_CODE_NO_MEMORY;
     };
     let Ok(history) = read_events(alloc, events) else {
-        return JC_NO_MEMORY;
+        return JC_CODE_NO_MEMORY;
     };
     match legal(alloc, &config_of(shape), &contents, &history) {
         Ok(told) => {
             *is_legal = told;
             JC_OK
         }
-        Err(AllocError) => JC_NO_MEMORY,
+        Err(AllocError) => JC_CODE_NO_MEMORY,
     }
 }

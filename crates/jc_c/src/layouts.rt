@@ -156,11 +156,11 @@ pub struct FlatEvent {
     pub key: InlineKey,
     /// The operation's value, or the one that it expects.
     pub value: InlineValue,
-    /// The new value of a `JC_REPLACE_IF`.
+    /// The new value of a `JC_OP_REPLACE_IF`.
     pub other: InlineValue,
     /// The value of the reply.
     pub replied: InlineValue,
-    /// The outside answers; `effect` is `JC_NOT_RUN` if no processor ran.
+    /// The outside answers; `effect` is `JC_EFFECT_NOT_RUN` if no processor ran.
     pub outside: ProcessorAnswers,
 }
 

@@ -7,12 +7,12 @@ ghost use Rattle.jc_stripe.specs.Occurrences.{all_occurrences};
 ghost use Rattle.jc_stripe.specs.OrderOfUse.{by_use};
 ghost use Rattle.jc_stripe.specs.Generations.{after_renewal};
 ghost use Rattle.jc_stripe.specs.Renewal.{can_renew};
-ghost use Rattle.jc_c.specs.declared.codes.TheConstants.{JC_OK, JC_WRONG_HANDLE, JC_NO_MEMORY, JC_NONE, JC_IN_USE};
+ghost use Rattle.jc_c.specs.declared.codes.TheConstants.{JC_OK, JC_CODE_WRONG_HANDLE, JC_CODE_NO_MEMORY, JC_CODE_NONE, JC_CODE_IN_USE};
 ghost use Rattle.jc_c.specs.Layouts.{inline_value, is_inline_value};
 ghost use Rattle.jc_c.specs.Requests.{key_fits};
 ghost use Rattle.jc_c.specs.Exports.{export_code, counts_written, ListsEntries};
 
-use crate::codes::{JC_BAD_ARGUMENT, JC_IN_USE, JC_NO_MEMORY, JC_NONE, JC_OK, JC_WRONG_HANDLE};
+use crate::codes::{JC_CODE_BAD_ARGUMENT, JC_CODE_IN_USE, JC_CODE_NO_MEMORY, JC_CODE_NONE, JC_OK, JC_CODE_WRONG_HANDLE};
 use crate::handle::Handle;
 use crate::layouts::{CountsOut, InlineEntry, InlineValue};
 use crate::replies::show_value;
@@ -21,19 +21,19 @@ use jc_parcel::Loose;
 use jc_types::{Key, Value};
 use std::alloc::Global;
 
-/// Writes the key's value. No call is made, and the order of use stays. `JC_NONE` says that it has no entry.
+/// Writes the key's value. No call is made, and the order of use stays. `JC_CODE_NONE` says that it has no entry.
 #[unsafe(no_mangle)]
 pub extern "C" fn jc_peek(h: &mut Handle, alloc: Global, key: &[u8], out: &mut InlineValue) -> u32
-    ensures code { result ≡ export_code h.old.is_open (key_fits key.now) (is_some (entry_at h.old.desk.stripe.cache key.now)) JC_NONE }
+    ensures code { result ≡ export_code h.old.is_open (key_fits key.now) (is_some (entry_at h.old.desk.stripe.cache key.now)) JC_CODE_NONE }
     ensures peeked { result ≡ JC_OK → (entry_at h.old.desk.stripe.cache key.now ≡ Some (inline_value out.new)) × (is_inline_value out.new ≡ true) }
     ensures none { (result ≡ JC_OK) ⊎ (out.new ≡ out.old) }
     ensures same { (h.new.is_open ≡ h.old.is_open) × (h.new.desk ≡ h.old.desk) }
 {
     if !h.is_open() {
-        return JC_WRONG_HANDLE;
+        return JC_CODE_WRONG_HANDLE;
     }
     let Some(key) = read_key(key) else {
-        return JC_BAD_ARGUMENT;
+        return JC_CODE_BAD_ARGUMENT;
     };
     let rooms = h.take(alloc).into_box();
     let code = match rooms.desk.entry(&key) {
@@ -41,7 +41,7 @@ pub extern "C" fn jc_peek(h: &mut Handle, alloc: Global, key: &[u8], out: &mut I
             show_value(value, out);
             JC_OK
         }
-        None => JC_NONE,
+        None => JC_CODE_NONE,
     };
     h.put(Loose::of(rooms));
     code
@@ -56,7 +56,7 @@ pub extern "C" fn jc_statistics_of(h: &mut Handle, alloc: Global, out: &mut Coun
     ensures same { (h.new.is_open ≡ h.old.is_open) × (h.new.desk ≡ h.old.desk) }
 {
     if !h.is_open() {
-        return JC_WRONG_HANDLE;
+        return JC_CODE_WRONG_HANDLE;
     }
     let rooms = h.take(alloc).into_box();
     let counts = rooms.desk.statistics();
@@ -88,22 +88,22 @@ pub extern "C" fn jc_entries(
     out: &mut [InlineEntry],
     count: &mut usize,
 ) -> u32
-    ensures wrong { (result ≡ JC_WRONG_HANDLE) ↔ (h.old.is_open ≡ false) }
-    ensures codes { (result ≡ JC_OK) ⊎ (result ≡ JC_WRONG_HANDLE) ⊎ (result ≡ JC_NO_MEMORY) }
+    ensures wrong { (result ≡ JC_CODE_WRONG_HANDLE) ↔ (h.old.is_open ≡ false) }
+    ensures codes { (result ≡ JC_OK) ⊎ (result ≡ JC_CODE_WRONG_HANDLE) ⊎ (result ≡ JC_CODE_NO_MEMORY) }
     ensures listed { result ≡ JC_OK → ListsEntries (by_use h.old.desk.stripe.opening h.old.desk.stripe.history) out.old out.new }
     ensures none { (result ≡ JC_OK) ⊎ ((out.new ≡ out.old) × (count.new ≡ count.old)) }
     ensures count { result ≡ JC_OK → count.new ≡ length (by_use h.old.desk.stripe.opening h.old.desk.stripe.history) }
     ensures same { (h.new.is_open ≡ h.old.is_open) × (h.new.desk ≡ h.old.desk) }
 {
     if !h.is_open() {
-        return JC_WRONG_HANDLE;
+        return JC_CODE_WRONG_HANDLE;
     }
     let mut entries: Vec<(Key, Value)> = Vec::new(alloc);
     let rooms = h.take(alloc).into_box();
     let listed = rooms.desk.entries(&mut entries);
     h.put(Loose::of(rooms));
     if listed.is_err() {
-        return JC_NO_MEMORY;
+        return JC_CODE_NO_MEMORY;
     }
     *count = entries.len();
     list_entries(&entries, out);
@@ -127,19 +127,19 @@ pub extern "C" fn jc_events_len(h: &mut Handle, alloc: Global) -> usize
     len
 }
 
-/// Ends the present generation. `JC_IN_USE` says that it has no event, or that an answer is parked for a joiner; then nothing was done.
+/// Ends the present generation. `JC_CODE_IN_USE` says that it has no event, or that an answer is parked for a joiner; then nothing was done.
 #[unsafe(no_mangle)]
 pub extern "C" fn jc_end_generation(h: &mut Handle, alloc: Global) -> u32
-    ensures code { result ≡ export_code h.old.is_open true (can_renew h.old.desk.stripe) JC_IN_USE }
+    ensures code { result ≡ export_code h.old.is_open true (can_renew h.old.desk.stripe) JC_CODE_IN_USE }
     ensures ended { result ≡ JC_OK → h.new.desk ≡ record h.old.desk { stripe = after_renewal h.old.desk.stripe } }
     ensures refused { (result ≡ JC_OK) ⊎ (h.new.desk ≡ h.old.desk) }
     ensures is_open { h.new.is_open ≡ h.old.is_open }
 {
     if !h.is_open() {
-        return JC_WRONG_HANDLE;
+        return JC_CODE_WRONG_HANDLE;
     }
     let mut rooms = h.take(alloc).into_box();
     let ended = rooms.desk.end_generation();
     h.put(Loose::of(rooms));
-    if ended { JC_OK } else { JC_IN_USE }
+    if ended { JC_OK } else { JC_CODE_IN_USE }
 }

@@ -7,13 +7,13 @@ ghost use Rattle.jc_model.specs.Cache.{key_cmp};
 ghost use Rattle.jc_model.specs.Listed.{has_distinct_keys};
 ghost use Rattle.jc_stripe.specs.Reached.{IsReached};
 ghost use Rattle.jc_stripe.specs.DeskState.{opened_desk, nothing_is_out};
-ghost use Rattle.jc_c.specs.declared.codes.TheConstants.{JC_VERSION, JC_OK, JC_NO_MEMORY, JC_IN_USE};
+ghost use Rattle.jc_c.specs.declared.codes.TheConstants.{JC_VERSION, JC_OK, JC_CODE_NO_MEMORY, JC_CODE_IN_USE};
 ghost use Rattle.jc_c.specs.Layouts.{inline_entries, config_of};
 ghost use Rattle.jc_c.specs.Requests.{entry_fits};
 ghost use Rattle.jc_c.specs.Exports.{export_code, opens_fit};
 
 use crate::codes::{
-    JC_BAD_ARGUMENT, JC_IN_USE, JC_NO_MEMORY, JC_OK, JC_OUT_SIZE, JC_VERSION, JC_WRONG_HANDLE,
+    JC_CODE_BAD_ARGUMENT, JC_CODE_IN_USE, JC_CODE_NO_MEMORY, JC_OK, JC_OUT_SIZE, JC_VERSION, JC_CODE_WRONG_HANDLE,
 };
 use crate::handle::Handle;
 use crate::layouts::{CacheShape, InlineEntry};
@@ -132,7 +132,7 @@ pub extern "C" fn jc_version() -> u32
     JC_VERSION
 }
 
-/// Opens a desk over the stripe with this number, with these entries, the first one the most recently used. `JC_BAD_ARGUMENT`
+/// Opens a desk over the stripe with this number, with these entries, the first one the most recently used. `JC_CODE_BAD_ARGUMENT`
 /// says that the shape or an entry is out of its limits, that the host's `jc_out` has another size, that there is no such stripe,
 /// that a key is there twice or is of another stripe, or that there are more entries than the stripe keeps. All this is tested
 /// before an allocation.
@@ -148,46 +148,46 @@ pub extern "C" fn jc_open(
         × (h.new.desk ≡ opened_desk (config_of shape.now) number shape.now.keeps_events (inline_entries entries.now)) }
     ensures reached { result ≡ JC_OK → IsReached h.new.desk.stripe }
     ensures code { (result ≡ export_code (not h.old.is_open) (opens_fit shape.now number entries.now) true JC_OK)
-        ⊎ ((result ≡ JC_NO_MEMORY) × (h.old.is_open ≡ false) × (opens_fit shape.now number entries.now ≡ true)) }
+        ⊎ ((result ≡ JC_CODE_NO_MEMORY) × (h.old.is_open ≡ false) × (opens_fit shape.now number entries.now ≡ true)) }
     ensures refused { (result ≡ JC_OK) ⊎ (h.new ≡ h.old) }
 {
     if h.is_open() {
-        return JC_WRONG_HANDLE;
+        return JC_CODE_WRONG_HANDLE;
     }
     if !opens_fit(shape, number, entries) {
-        return JC_BAD_ARGUMENT;
+        return JC_CODE_BAD_ARGUMENT;
     }
     let Ok(contents) = contents_of(alloc, entries) else {
-        return JC_NO_MEMORY;
+        return JC_CODE_NO_MEMORY;
     };
     let config = config_of(shape);
     let desk = match Desk::open(alloc, &config, number, shape.keeps_events, &contents) {
         Ok(desk) => desk,
-        Err(OpenFault::Memory) => return JC_NO_MEMORY,
+        Err(OpenFault::Memory) => return JC_CODE_NO_MEMORY,
         Err(OpenFault::Shape) | Err(OpenFault::Contents) => unreachable!(),
     };
     let Ok(kept) = Box::new(alloc, DeskRooms::of(desk)) else {
-        return JC_NO_MEMORY;
+        return JC_CODE_NO_MEMORY;
     };
     may_go::<Desk>();
     h.put(Loose::of(kept));
     JC_OK
 }
 
-/// Frees the desk. `JC_IN_USE` says that a ticket or a join is out; then it stays open.
+/// Frees the desk. `JC_CODE_IN_USE` says that a ticket or a join is out; then it stays open.
 #[unsafe(no_mangle)]
 pub extern "C" fn jc_close(h: &mut Handle, alloc: Global) -> u32
-    ensures code { result ≡ export_code h.old.is_open true (nothing_is_out h.old.desk.stripe) JC_IN_USE }
+    ensures code { result ≡ export_code h.old.is_open true (nothing_is_out h.old.desk.stripe) JC_CODE_IN_USE }
     ensures shut { result ≡ JC_OK → h.new.is_open ≡ false }
     ensures refused { (result ≡ JC_OK) ⊎ ((h.new.is_open ≡ h.old.is_open) × (h.new.desk ≡ h.old.desk)) }
 {
     if !h.is_open() {
-        return JC_WRONG_HANDLE;
+        return JC_CODE_WRONG_HANDLE;
     }
     let rooms = h.take(alloc).into_box();
     if rooms.desk.is_idle() {
         return JC_OK;
     }
     h.put(Loose::of(rooms));
-    JC_IN_USE
+    JC_CODE_IN_USE
 }

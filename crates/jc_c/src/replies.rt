@@ -2,16 +2,16 @@
 ghost use Rattle.std.specs.Prelude.{◌≡◌, ◌≤◌, true, if◌then◌else◌};
 ghost use Rattle.std.specs.Option.{option_copied};
 ghost use Rattle.jc_stripe.specs.DeskPhases.{is_first_misuse, is_pick_up_misuse};
-ghost use Rattle.jc_c.specs.declared.codes.TheConstants.{JC_OK, JC_MISUSE, JC_OWN_EVICTED_MEMORY};
+ghost use Rattle.jc_c.specs.declared.codes.TheConstants.{JC_OK, JC_CODE_MISUSE, JC_MOVE_OWN_EVICTED_MEMORY};
 ghost use Rattle.jc_c.specs.Layouts.{inline_value, is_inline_value};
 ghost use Rattle.jc_c.specs.Replies.{ShowsFault, ShowsReply, ShowsMoves, own_number, ShowsDone, ShowsFirst, refusal_number, ShowsFirstAnswer, ShowsPickUp};
 
 use crate::codes::{
-    JC_AGAIN, JC_ASK_LOADER, JC_BUSY, JC_DONE, JC_EVICTED, JC_FULL, JC_HAVE_DELETED,
-    JC_HAVE_WRITTEN, JC_HISTORY_FULL, JC_JOINED, JC_KEPT, JC_LEFT, JC_LOADER_FAILED, JC_MISUSE,
-    JC_NO, JC_NOT_YET, JC_NULL, JC_OK, JC_OTHER, JC_OTHER_FAULT, JC_OWN_EVICTED_FULL,
-    JC_OWN_EVICTED_MEMORY, JC_PROCESSOR_FAILED, JC_REFUSED, JC_RUN_PROCESSOR,
-    JC_TOO_MANY_IN_FLIGHT, JC_TOO_MANY_JOINERS, JC_UNIT, JC_VALUE, JC_WRITER_FAILED, JC_YES,
+    JC_NEXT_AGAIN, JC_ASK_LOAD, JC_REFUSAL_BUSY, JC_NEXT_DONE, JC_MOVE_EVICTED, JC_NEXT_FULL, JC_ASK_DELETE,
+    JC_ASK_WRITE, JC_REFUSAL_HISTORY_FULL, JC_NEXT_JOINED, JC_MOVE_STORED, JC_MOVE_REMOVED, JC_REPLY_LOADER_FAILED, JC_CODE_MISUSE,
+    JC_REPLY_NO, JC_NEXT_NOT_YET, JC_REPLY_NULL, JC_OK, JC_REFUSAL_OTHER, JC_REPLY_OTHER_FAULT, JC_MOVE_OWN_EVICTED_FULL,
+    JC_MOVE_OWN_EVICTED_MEMORY, JC_REPLY_PROCESSOR_FAILED, JC_NEXT_REFUSED, JC_ASK_PROCESS,
+    JC_REFUSAL_TOO_MANY_IN_FLIGHT, JC_REFUSAL_TOO_MANY_JOINERS, JC_REPLY_UNIT, JC_REPLY_VALUE, JC_REPLY_WRITER_FAILED, JC_REPLY_YES,
 };
 use crate::layouts::{InlineKey, InlineValue, PhaseOut};
 use jc_model::{Cause, Change, Reply};
@@ -34,15 +34,15 @@ fn show_fault(fault: &Refusal, number: &mut u32, code: &mut u32)
 {
     match fault {
         Refusal::LoaderFailed(failed) => {
-            *number = JC_LOADER_FAILED;
+            *number = JC_REPLY_LOADER_FAILED;
             *code = *failed;
         }
         Refusal::WriterFailed(failed) => {
-            *number = JC_WRITER_FAILED;
+            *number = JC_REPLY_WRITER_FAILED;
             *code = *failed;
         }
         Refusal::ProcessorFailed(failed) => {
-            *number = JC_PROCESSOR_FAILED;
+            *number = JC_REPLY_PROCESSOR_FAILED;
             *code = *failed;
         }
         Refusal::HistoryFull
@@ -56,7 +56,7 @@ fn show_fault(fault: &Refusal, number: &mut u32, code: &mut u32)
         | Refusal::NoWriter
         | Refusal::TooManySessions
         | Refusal::StillReserved
-        | Refusal::RepeatedKey => *number = JC_OTHER_FAULT,
+        | Refusal::RepeatedKey => *number = JC_REPLY_OTHER_FAULT,
     }
 }
 
@@ -66,12 +66,12 @@ pub(crate) fn show_reply(reply: &Reply, number: &mut u32, code: &mut u32, out: &
     ensures fits { is_inline_value out.old ≡ true → is_inline_value out.new ≡ true }
 {
     match reply {
-        Reply::Unit => *number = JC_UNIT,
-        Reply::Flag(false) => *number = JC_NO,
-        Reply::Flag(true) => *number = JC_YES,
-        Reply::Value(None) => *number = JC_NULL,
+        Reply::Unit => *number = JC_REPLY_UNIT,
+        Reply::Flag(false) => *number = JC_REPLY_NO,
+        Reply::Flag(true) => *number = JC_REPLY_YES,
+        Reply::Value(None) => *number = JC_REPLY_NULL,
         Reply::Value(Some(value)) => {
-            *number = JC_VALUE;
+            *number = JC_REPLY_VALUE;
             show_value(value, out);
         }
         Reply::Fault(fault) => show_fault(fault, number, code),
@@ -81,12 +81,12 @@ pub(crate) fn show_reply(reply: &Reply, number: &mut u32, code: &mut u32, out: &
 /// The number of the cause for which the step's own key was evicted, or 0.
 fn number_of_own(own: Option<Cause>) -> u32
     ensures number { result ≡ own_number own }
-    ensures few { result ≤ JC_OWN_EVICTED_MEMORY }
+    ensures few { result ≤ JC_MOVE_OWN_EVICTED_MEMORY }
 {
     match own {
         None => 0,
-        Some(Cause::Full) => JC_OWN_EVICTED_FULL,
-        Some(Cause::Memory) => JC_OWN_EVICTED_MEMORY,
+        Some(Cause::Full) => JC_MOVE_OWN_EVICTED_FULL,
+        Some(Cause::Memory) => JC_MOVE_OWN_EVICTED_MEMORY,
     }
 }
 
@@ -102,16 +102,16 @@ fn show_moves(
 {
     let mut sum = 0;
     if moves.is_kept() {
-        sum = JC_KEPT;
+        sum = JC_MOVE_STORED;
     }
     if let Some(value) = moves.left() {
         show_value(value, left);
-        sum += JC_LEFT;
+        sum += JC_MOVE_REMOVED;
     }
     if let Some((key, value)) = moves.victim() {
         victim.set(key);
         show_value(value, evicted);
-        sum += JC_EVICTED;
+        sum += JC_MOVE_EVICTED;
     }
     *flags = sum + number_of_own(moves.own());
 }
@@ -127,7 +127,7 @@ pub(crate) fn show_done(
     ensures shown { ShowsDone place shared reply.now moves.now out.new }
     ensures call { out.new.call ≡ out.old.call }
 {
-    out.next = JC_DONE;
+    out.next = JC_NEXT_DONE;
     out.place = place;
     out.shared = shared;
     show_reply(reply, &mut out.reply, &mut out.code, &mut out.value);
@@ -151,22 +151,22 @@ fn show_first(
     ensures { ShowsFirst first.now next.new number.new code.new out.new }
 {
     match first {
-        First::Nobody => *next = JC_DONE,
-        First::Loader => *next = JC_ASK_LOADER,
+        First::Nobody => *next = JC_NEXT_DONE,
+        First::Loader => *next = JC_ASK_LOAD,
         First::Writer(Change::Write(value)) => {
-            *next = JC_HAVE_WRITTEN;
+            *next = JC_ASK_WRITE;
             show_value(value, out);
         }
-        First::Writer(Change::Delete) => *next = JC_HAVE_DELETED,
+        First::Writer(Change::Delete) => *next = JC_ASK_DELETE,
         First::Processor { entry, may_load } => {
-            *next = JC_RUN_PROCESSOR;
+            *next = JC_ASK_PROCESS;
             *code = if *may_load { 1 } else { 0 };
             match entry {
                 Some(value) => {
-                    *number = JC_VALUE;
+                    *number = JC_REPLY_VALUE;
                     show_value(value, out);
                 }
-                None => *number = JC_NULL,
+                None => *number = JC_REPLY_NULL,
             }
         }
     }
@@ -177,10 +177,10 @@ fn number_of(refusal: &Refusal) -> u32
     ensures { result ≡ refusal_number refusal.now }
 {
     match refusal {
-        Refusal::HistoryFull => JC_HISTORY_FULL,
-        Refusal::Busy => JC_BUSY,
-        Refusal::TooManyInFlight => JC_TOO_MANY_IN_FLIGHT,
-        Refusal::TooManyJoiners => JC_TOO_MANY_JOINERS,
+        Refusal::HistoryFull => JC_REFUSAL_HISTORY_FULL,
+        Refusal::Busy => JC_REFUSAL_BUSY,
+        Refusal::TooManyInFlight => JC_REFUSAL_TOO_MANY_IN_FLIGHT,
+        Refusal::TooManyJoiners => JC_REFUSAL_TOO_MANY_JOINERS,
         Refusal::LoaderFailed(_)
         | Refusal::WriterFailed(_)
         | Refusal::ProcessorFailed(_)
@@ -191,7 +191,7 @@ fn number_of(refusal: &Refusal) -> u32
         | Refusal::NoWriter
         | Refusal::TooManySessions
         | Refusal::StillReserved
-        | Refusal::RepeatedKey => JC_OTHER,
+        | Refusal::RepeatedKey => JC_REFUSAL_OTHER,
     }
 }
 
@@ -205,7 +205,7 @@ pub(crate) fn show_asked(
 ) -> u32
     ensures shown { result ≡ JC_OK → ShowsFirstAnswer asked.now (option_copied newest.entry) reply.now moves.now out.new }
     ensures call { out.new.call ≡ out.old.call }
-    ensures code { result ≡ (if is_first_misuse asked.now then JC_MISUSE else JC_OK) }
+    ensures code { result ≡ (if is_first_misuse asked.now then JC_CODE_MISUSE else JC_OK) }
 {
     out.moves = 0;
     match asked {
@@ -224,14 +224,14 @@ pub(crate) fn show_asked(
         }
         FirstAnswer::Joined(load) => {
             out.number = *load;
-            out.next = JC_JOINED;
+            out.next = JC_NEXT_JOINED;
         }
         FirstAnswer::Refused(refusal) => {
-            out.next = JC_REFUSED;
+            out.next = JC_NEXT_REFUSED;
             out.reply = number_of(refusal);
         }
-        FirstAnswer::Full => out.next = JC_FULL,
-        FirstAnswer::Misuse => return JC_MISUSE,
+        FirstAnswer::Full => out.next = JC_NEXT_FULL,
+        FirstAnswer::Misuse => return JC_CODE_MISUSE,
     }
     JC_OK
 }
@@ -239,7 +239,7 @@ pub(crate) fn show_asked(
 /// Writes the answer to a joiner.
 pub(crate) fn show_picked(picked: &PickUpAnswer, reply: &Reply, out: &mut PhaseOut) -> u32
     ensures shown { result ≡ JC_OK → ShowsPickUp picked.now reply.now out.new }
-    ensures code { result ≡ (if is_pick_up_misuse picked.now then JC_MISUSE else JC_OK) }
+    ensures code { result ≡ (if is_pick_up_misuse picked.now then JC_CODE_MISUSE else JC_OK) }
 {
     out.moves = 0;
     match picked {
@@ -247,13 +247,13 @@ pub(crate) fn show_picked(picked: &PickUpAnswer, reply: &Reply, out: &mut PhaseO
             place,
             shared_with: _,
         } => {
-            out.next = JC_DONE;
+            out.next = JC_NEXT_DONE;
             out.place = *place;
             show_reply(reply, &mut out.reply, &mut out.code, &mut out.value);
         }
-        PickUpAnswer::Again => out.next = JC_AGAIN,
-        PickUpAnswer::NotYet => out.next = JC_NOT_YET,
-        PickUpAnswer::Misuse => return JC_MISUSE,
+        PickUpAnswer::Again => out.next = JC_NEXT_AGAIN,
+        PickUpAnswer::NotYet => out.next = JC_NEXT_NOT_YET,
+        PickUpAnswer::Misuse => return JC_CODE_MISUSE,
     }
     JC_OK
 }

@@ -1,6 +1,6 @@
 //! The arguments of C, read as values of a stripe.
 ghost use Rattle.std.specs.Prelude.{◌≡◌, ◌==◌, ◌||◌, not, is_some, IfSome};
-ghost use Rattle.jc_c.specs.declared.codes.TheConstants.{JC_NOT_ASKED};
+ghost use Rattle.jc_c.specs.declared.codes.TheConstants.{JC_ANSWER_NOT_ASKED};
 ghost use Rattle.std.specs.Bool.{OnTrue};
 ghost use Rattle.jc_model.specs.Cache.{Bytes};
 ghost use Rattle.jc_model.specs.declared.event.Op.TheVariants.{Put};
@@ -8,10 +8,10 @@ ghost use Rattle.jc_c.specs.Layouts.{inline_value, is_inline_value};
 ghost use Rattle.jc_c.specs.Requests.{key_fits, value_fits, takes_no_value, takes_value, op_fits, op_of_number, load_of_number, load_number_fits, write_of_number, write_number_fits, effect_number_fits, process_answer_of, read_outcome, read_process, process_fits, answers_beside, others_fit, processor_out, processed_fits};
 
 use crate::codes::{
-    JC_CLEAR_KEY, JC_CONTAINS_KEY, JC_FAILED, JC_FOUND, JC_GET, JC_GET_AND_PUT, JC_GET_AND_REMOVE,
-    JC_GET_AND_REPLACE, JC_INVOKE, JC_KEEP, JC_LOAD, JC_NOT_ASKED, JC_NOTHING, JC_PROCESS_FAILED,
-    JC_PUT, JC_PUT_IF_ABSENT, JC_RELOAD, JC_REMOVE, JC_REMOVE_IF, JC_REPLACE, JC_REPLACE_IF,
-    JC_SET, JC_TAKE_OUT, JC_WRITTEN,
+    JC_OP_CLEAR_KEY, JC_OP_CONTAINS_KEY, JC_ANSWER_FAILED, JC_ANSWER_FOUND, JC_OP_GET, JC_OP_GET_AND_PUT, JC_OP_GET_AND_REMOVE,
+    JC_OP_GET_AND_REPLACE, JC_OP_INVOKE, JC_EFFECT_KEEP, JC_OP_LOAD, JC_ANSWER_NOT_ASKED, JC_ANSWER_NOTHING, JC_EFFECT_FAILED,
+    JC_OP_PUT, JC_OP_PUT_IF_ABSENT, JC_OP_RELOAD, JC_OP_REMOVE, JC_OP_REMOVE_IF, JC_OP_REPLACE, JC_OP_REPLACE_IF,
+    JC_EFFECT_SET, JC_EFFECT_REMOVE, JC_ANSWER_WRITTEN,
 };
 use crate::layouts::ProcessorAnswers;
 use jc_model::{Effect, LoadAnswer, Op, Out, ProcessAnswer, WriteAnswer};
@@ -45,14 +45,14 @@ fn op_without_value(op: u32) -> Option<Op>
     ensures op { IfSome result (λ called. (value : Bytes) (other : Bytes) → called ≡ op_of_number op value other) }
 {
     match op {
-        JC_GET => Some(Op::Get),
-        JC_CONTAINS_KEY => Some(Op::ContainsKey),
-        JC_REMOVE => Some(Op::Remove),
-        JC_GET_AND_REMOVE => Some(Op::GetAndRemove),
-        JC_CLEAR_KEY => Some(Op::Clear),
-        JC_LOAD => Some(Op::LoadAll { replace: false }),
-        JC_RELOAD => Some(Op::LoadAll { replace: true }),
-        JC_INVOKE => Some(Op::Invoke),
+        JC_OP_GET => Some(Op::Get),
+        JC_OP_CONTAINS_KEY => Some(Op::ContainsKey),
+        JC_OP_REMOVE => Some(Op::Remove),
+        JC_OP_GET_AND_REMOVE => Some(Op::GetAndRemove),
+        JC_OP_CLEAR_KEY => Some(Op::Clear),
+        JC_OP_LOAD => Some(Op::LoadAll { replace: false }),
+        JC_OP_RELOAD => Some(Op::LoadAll { replace: true }),
+        JC_OP_INVOKE => Some(Op::Invoke),
         _ => None,
     }
 }
@@ -63,12 +63,12 @@ fn op_with_value(op: u32, value: &Value) -> Option<Op>
     ensures op { IfSome result (λ called. (other : Bytes) → called ≡ op_of_number op value.now other) }
 {
     match op {
-        JC_PUT => Some(Op::Put(*value)),
-        JC_GET_AND_PUT => Some(Op::GetAndPut(*value)),
-        JC_PUT_IF_ABSENT => Some(Op::PutIfAbsent(*value)),
-        JC_REMOVE_IF => Some(Op::RemoveIf(*value)),
-        JC_REPLACE => Some(Op::Replace(*value)),
-        JC_GET_AND_REPLACE => Some(Op::GetAndReplace(*value)),
+        JC_OP_PUT => Some(Op::Put(*value)),
+        JC_OP_GET_AND_PUT => Some(Op::GetAndPut(*value)),
+        JC_OP_PUT_IF_ABSENT => Some(Op::PutIfAbsent(*value)),
+        JC_OP_REMOVE_IF => Some(Op::RemoveIf(*value)),
+        JC_OP_REPLACE => Some(Op::Replace(*value)),
+        JC_OP_GET_AND_REPLACE => Some(Op::GetAndReplace(*value)),
         _ => None,
     }
 }
@@ -85,7 +85,7 @@ pub(crate) fn read_op(op: u32, value: &[u8], other: &[u8]) -> Option<Op>
     if let Some(called) = op_with_value(op, &old) {
         return Some(called);
     }
-    if op != JC_REPLACE_IF {
+    if op != JC_OP_REPLACE_IF {
         return None;
     }
     let new = read_value(other)?;
@@ -99,11 +99,11 @@ pub(crate) fn write_op(op: u32, value: &[u8], other: &[u8], room: &mut Op) -> bo
     ensures op { OnTrue result (room.new ≡ op_of_number op value.now other.now) }
 {
     match op {
-        JC_GET => {
+        JC_OP_GET => {
             room.copy_from(&Op::Get);
             true
         }
-        JC_PUT => write_put(value, room),
+        JC_OP_PUT => write_put(value, room),
         _ => write_other_op(op, value, other, room),
     }
 }
@@ -147,9 +147,9 @@ pub(crate) fn read_load(answer: u32, code: u32, value: &Value) -> Option<LoadAns
     ensures answer { IfSome result (λ given. given ≡ load_of_number answer code value.now) }
 {
     match answer {
-        JC_FOUND => Some(LoadAnswer::Found(*value)),
-        JC_NOTHING => Some(LoadAnswer::Nothing),
-        JC_FAILED => Some(LoadAnswer::Failed(code)),
+        JC_ANSWER_FOUND => Some(LoadAnswer::Found(*value)),
+        JC_ANSWER_NOTHING => Some(LoadAnswer::Nothing),
+        JC_ANSWER_FAILED => Some(LoadAnswer::Failed(code)),
         _ => None,
     }
 }
@@ -160,18 +160,18 @@ pub(crate) fn read_write(answer: u32, code: u32) -> Option<WriteAnswer>
     ensures answer { IfSome result (λ given. given ≡ write_of_number answer code) }
 {
     match answer {
-        JC_WRITTEN => Some(WriteAnswer::Done),
-        JC_FAILED => Some(WriteAnswer::Failed(code)),
+        JC_ANSWER_WRITTEN => Some(WriteAnswer::Done),
+        JC_ANSWER_FAILED => Some(WriteAnswer::Failed(code)),
         _ => None,
     }
 }
 
 /// The loader's answer, or that it wasn't asked.
 fn load_if_asked(answer: u32, code: u32, value: &Value) -> Option<LoadAnswer>
-    ensures fits { is_some result ≡ ((answer == JC_NOT_ASKED) || load_number_fits answer) }
+    ensures fits { is_some result ≡ ((answer == JC_ANSWER_NOT_ASKED) || load_number_fits answer) }
     ensures answer { IfSome result (λ given. given ≡ load_of_number answer code value.now) }
 {
-    if answer == JC_NOT_ASKED {
+    if answer == JC_ANSWER_NOT_ASKED {
         return Some(LoadAnswer::NotAsked);
     }
     read_load(answer, code, value)
@@ -179,10 +179,10 @@ fn load_if_asked(answer: u32, code: u32, value: &Value) -> Option<LoadAnswer>
 
 /// The writer's answer, or that it wasn't asked.
 fn write_if_asked(answer: u32, code: u32) -> Option<WriteAnswer>
-    ensures fits { is_some result ≡ ((answer == JC_NOT_ASKED) || write_number_fits answer) }
+    ensures fits { is_some result ≡ ((answer == JC_ANSWER_NOT_ASKED) || write_number_fits answer) }
     ensures answer { IfSome result (λ given. given ≡ write_of_number answer code) }
 {
-    if answer == JC_NOT_ASKED {
+    if answer == JC_ANSWER_NOT_ASKED {
         return Some(WriteAnswer::NotAsked);
     }
     read_write(answer, code)
@@ -194,19 +194,19 @@ fn read_effect(number: u32, code: u32, set: Value, outcome: Option<Value>) -> Op
     ensures answer { IfSome result (λ given. given ≡ process_answer_of number code set outcome) }
 {
     match number {
-        JC_KEEP => Some(ProcessAnswer::Ended {
+        JC_EFFECT_KEEP => Some(ProcessAnswer::Ended {
             effect: Effect::Keep,
             outcome,
         }),
-        JC_SET => Some(ProcessAnswer::Ended {
+        JC_EFFECT_SET => Some(ProcessAnswer::Ended {
             effect: Effect::Set(set),
             outcome,
         }),
-        JC_TAKE_OUT => Some(ProcessAnswer::Ended {
+        JC_EFFECT_REMOVE => Some(ProcessAnswer::Ended {
             effect: Effect::Remove,
             outcome,
         }),
-        JC_PROCESS_FAILED => Some(ProcessAnswer::Failed(code)),
+        JC_EFFECT_FAILED => Some(ProcessAnswer::Failed(code)),
         _ => None,
     }
 }

@@ -3,11 +3,11 @@ ghost use Rattle.std.specs.Prelude.{◌≡◌, ◌⊎◌, true, if◌then◌else
 ghost use Rattle.jc_model.specs.Group.{load_only, write_only};
 ghost use Rattle.jc_stripe.specs.DeskState.{may_call_next};
 ghost use Rattle.jc_stripe.specs.DeskPhases.{hits_next, without_hit, takes_load, takes_write, takes_process, is_join_out};
-ghost use Rattle.jc_c.specs.declared.codes.TheConstants.{JC_OK, JC_MISUSE, JC_NONE};
+ghost use Rattle.jc_c.specs.declared.codes.TheConstants.{JC_OK, JC_CODE_MISUSE, JC_CODE_NONE};
 ghost use Rattle.jc_c.specs.Requests.{op_fits};
 ghost use Rattle.jc_c.specs.Exports.{export_code, BeginsForC, CommitsForC, PicksUpForC, HitsForC};
 
-use crate::codes::{JC_BAD_ARGUMENT, JC_MISUSE, JC_NONE, JC_OK};
+use crate::codes::{JC_CODE_BAD_ARGUMENT, JC_CODE_MISUSE, JC_CODE_NONE, JC_OK};
 use crate::layouts::{InlineValue, PhaseOut};
 use crate::replies::{show_asked, show_done, show_picked, show_value};
 use crate::requests::write_op;
@@ -64,13 +64,13 @@ impl DeskRooms {
         other: &[u8],
         out: &mut PhaseOut,
     ) -> u32
-        ensures code { result ≡ export_code true (op_fits op value.now other.now) (may_call_next self.old session key.now) JC_MISUSE }
+        ensures code { result ≡ export_code true (op_fits op value.now other.now) (may_call_next self.old session key.now) JC_CODE_MISUSE }
         ensures begins { result ≡ JC_OK → BeginsForC self.old session op key.now value.now other.now out.new self.new }
         ensures refused { (result ≡ JC_OK) ⊎ (self.new ≡ self.old) }
-        ensures untouched { (result ≡ JC_OK) ⊎ (result ≡ JC_MISUSE) ⊎ (out.new ≡ out.old) }
+        ensures untouched { (result ≡ JC_OK) ⊎ (result ≡ JC_CODE_MISUSE) ⊎ (out.new ≡ out.old) }
     {
         if !write_op(op, value, other, &mut self.op) {
-            return JC_BAD_ARGUMENT;
+            return JC_CODE_BAD_ARGUMENT;
         }
         let (call, asked) = self
             .desk
@@ -82,12 +82,12 @@ impl DeskRooms {
     /// A `get` that finds its entry, with its value written for C.
     #[inline(always)]
     pub(crate) fn hit(&mut self, session: u32, key: &Key, out: &mut InlineValue) -> u32
-        ensures code { result ≡ (if hits_next self.old session key.now then JC_OK else JC_NONE) }
+        ensures code { result ≡ (if hits_next self.old session key.now then JC_OK else JC_CODE_NONE) }
         ensures hit { result ≡ JC_OK → HitsForC self.old session key.now out.new self.new }
         ensures none { (result ≡ JC_OK) ⊎ ((out.new ≡ out.old) × (self.new ≡ without_hit self.old session key.now)) }
     {
         let Some(_call) = self.desk.hit(session, key, &mut self.value) else {
-            return JC_NONE;
+            return JC_CODE_NONE;
         };
         show_value(&self.value, out);
         JC_OK
@@ -96,7 +96,7 @@ impl DeskRooms {
     /// The last phase of a call whose loader was asked, with its outcome written for C.
     #[inline(always)]
     pub(crate) fn commit_load(&mut self, number: u64, answer: LoadAnswer, out: &mut PhaseOut) -> u32
-        ensures code { result ≡ (if takes_load self.old.stripe number answer then JC_OK else JC_MISUSE) }
+        ensures code { result ≡ (if takes_load self.old.stripe number answer then JC_OK else JC_CODE_MISUSE) }
         ensures commits { result ≡ JC_OK → CommitsForC self.old number (load_only answer) out.new self.new }
         ensures refused { (result ≡ JC_OK) ⊎ ((self.new ≡ self.old) × (out.new ≡ out.old)) }
     {
@@ -104,7 +104,7 @@ impl DeskRooms {
             .desk
             .commit_load(number, answer, &mut self.reply, &mut self.moves);
         let Some(done) = done else {
-            return JC_MISUSE;
+            return JC_CODE_MISUSE;
         };
         show_done(done.place, done.shared, &self.reply, &self.moves, out);
         JC_OK
@@ -118,7 +118,7 @@ impl DeskRooms {
         answer: WriteAnswer,
         out: &mut PhaseOut,
     ) -> u32
-        ensures code { result ≡ (if takes_write self.old.stripe number answer then JC_OK else JC_MISUSE) }
+        ensures code { result ≡ (if takes_write self.old.stripe number answer then JC_OK else JC_CODE_MISUSE) }
         ensures commits { result ≡ JC_OK → CommitsForC self.old number (write_only answer) out.new self.new }
         ensures refused { (result ≡ JC_OK) ⊎ ((self.new ≡ self.old) × (out.new ≡ out.old)) }
     {
@@ -126,7 +126,7 @@ impl DeskRooms {
             .desk
             .commit_write(number, answer, &mut self.reply, &mut self.moves);
         let Some(done) = done else {
-            return JC_MISUSE;
+            return JC_CODE_MISUSE;
         };
         show_done(done.place, done.shared, &self.reply, &self.moves, out);
         JC_OK
@@ -135,7 +135,7 @@ impl DeskRooms {
     /// The last phase of a call whose processor ran, with its outcome written for C.
     #[inline(always)]
     pub(crate) fn commit_process(&mut self, number: u64, said: Out, out: &mut PhaseOut) -> u32
-        ensures code { result ≡ (if takes_process self.old.stripe number said then JC_OK else JC_MISUSE) }
+        ensures code { result ≡ (if takes_process self.old.stripe number said then JC_OK else JC_CODE_MISUSE) }
         ensures commits { result ≡ JC_OK → CommitsForC self.old number said out.new self.new }
         ensures refused { (result ≡ JC_OK) ⊎ ((self.new ≡ self.old) × (out.new ≡ out.old)) }
     {
@@ -148,7 +148,7 @@ impl DeskRooms {
             &mut self.moves,
         );
         let Some(done) = done else {
-            return JC_MISUSE;
+            return JC_CODE_MISUSE;
         };
         show_done(done.place, done.shared, &self.reply, &self.moves, out);
         JC_OK
@@ -163,7 +163,7 @@ impl DeskRooms {
         load: u64,
         out: &mut PhaseOut,
     ) -> u32
-        ensures code { result ≡ (if is_join_out self.old.stripe (record { caller = caller; key = key.now; load = load }) then JC_OK else JC_MISUSE) }
+        ensures code { result ≡ (if is_join_out self.old.stripe (record { caller = caller; key = key.now; load = load }) then JC_OK else JC_CODE_MISUSE) }
         ensures picks_up { result ≡ JC_OK → PicksUpForC self.old (record { caller = caller; key = key.now; load = load }) out.new self.new }
         ensures refused { (result ≡ JC_OK) ⊎ (self.new ≡ self.old) }
     {

@@ -60,9 +60,9 @@ impl Event {
     /// What happened.
     pub fn what(&self) -> What<'_> {
         let event = &self.0;
-        if event.kind == raw::EVICTION {
+        if event.kind == raw::EVENT_EVICTION {
             return What::Eviction(match event.cause {
-                raw::FOR_MEMORY => Cause::Memory,
+                raw::CAUSE_MEMORY => Cause::Memory,
                 _ => Cause::Full,
             });
         }
@@ -80,21 +80,21 @@ impl Event {
 fn outside_of(told: &raw::Processed) -> Outside<'_> {
     Outside {
         load: match told.load {
-            raw::FOUND => Some(Loaded::Found(told.loaded.get())),
-            raw::NOTHING => Some(Loaded::Nothing),
-            raw::FAILED => Some(Loaded::Failed(told.load_code)),
+            raw::ANSWER_FOUND => Some(Loaded::Found(told.loaded.get())),
+            raw::ANSWER_NOTHING => Some(Loaded::Nothing),
+            raw::ANSWER_FAILED => Some(Loaded::Failed(told.load_code)),
             _ => None,
         },
         write: match told.write {
-            raw::WRITTEN => Some(Written::Done),
-            raw::FAILED => Some(Written::Failed(told.write_code)),
+            raw::ANSWER_WRITTEN => Some(Written::Done),
+            raw::ANSWER_FAILED => Some(Written::Failed(told.write_code)),
             _ => None,
         },
         effect: match told.effect {
-            raw::NOT_RUN => None,
-            raw::SET => Some(Effect::Set(told.set.get())),
-            raw::TAKE_OUT => Some(Effect::Remove),
-            raw::PROCESS_FAILED => Some(Effect::Failed(told.code)),
+            raw::EFFECT_NOT_RUN => None,
+            raw::EFFECT_SET => Some(Effect::Set(told.set.get())),
+            raw::EFFECT_REMOVE => Some(Effect::Remove),
+            raw::EFFECT_FAILED => Some(Effect::Failed(told.code)),
             _ => Some(Effect::Keep),
         },
         outcome: told.has_outcome.then(|| told.outcome.get()),

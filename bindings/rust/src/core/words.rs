@@ -271,9 +271,9 @@ pub enum Loaded<'a> {
 impl<'a> Loaded<'a> {
     pub(super) fn parts(self) -> (u32, u32, &'a [u8]) {
         match self {
-            Loaded::Found(value) => (raw::FOUND, 0, value),
-            Loaded::Nothing => (raw::NOTHING, 0, b""),
-            Loaded::Failed(code) => (raw::FAILED, code, b""),
+            Loaded::Found(value) => (raw::ANSWER_FOUND, 0, value),
+            Loaded::Nothing => (raw::ANSWER_NOTHING, 0, b""),
+            Loaded::Failed(code) => (raw::ANSWER_FAILED, code, b""),
         }
     }
 }
