@@ -129,7 +129,8 @@ class _Calls(rounds.Round):
     async def run(self):
         """All rounds: what was found."""
         while self.items:
-            blocked = await self._round()
+            with waiting.in_round(self):
+                blocked = await self._round()
             if blocked is not None:
                 await self._wait(blocked)
         return self.result()
@@ -140,11 +141,10 @@ class _Calls(rounds.Round):
         if not reserved and not joined:
             return blocked
         try:
-            with waiting.joining(*[item.call for item in joined]):
-                if reserved and reserved[0].call.next == _core.ASK_LOADER:
-                    await self._load(reserved)
-                elif reserved:
-                    await self._cache._to_its_end(self._write(reserved))
+            if reserved and reserved[0].call.next == _core.ASK_LOADER:
+                await self._load(reserved)
+            elif reserved:
+                await self._cache._to_its_end(self._write(reserved))
             for item in joined:
                 await self._pick_up(item)
         finally:

@@ -140,7 +140,8 @@ class _Calls(rounds.Round):
     def run(self):
         """All rounds: what was found."""
         while self.items:
-            blocked = self._round()
+            with waiting.in_round(self):
+                blocked = self._round()
             if blocked is not None:
                 self._wait(blocked)
         return self.result()
@@ -151,7 +152,7 @@ class _Calls(rounds.Round):
         if not reserved and not joined:
             return blocked
         try:
-            with waiting.holding(*[item.call.flight for item in reserved]), waiting.joining(*[item.call for item in joined]):
+            with waiting.holding(*[item.call.flight for item in reserved]):
                 if reserved and reserved[0].call.next == _core.ASK_LOADER:
                     self._load(reserved)
                     self.commit_loads(reserved)

@@ -65,6 +65,7 @@ class Round:
         self.items = [Item(op, key, value, life(key, value)) for op, key, value in work]
         """What has no reply."""
         self._stripes = stripes
+        self._current = []
         self._replies = []
         self._failed = []
         self._error = None
@@ -72,7 +73,8 @@ class Round:
     def begin(self):
         """The first phases: what is reserved, what is joined, and what the first busy key waits for. If one is stopped, what was reserved
         is given up; if nothing was done, what has stopped it is raised."""
-        items, self.items = self.items, []
+        items = self._current = self.items
+        self.items = []
         reserved, joined, blocked, begun = [], [], None, None
         try:
             for place, item in enumerate(items):
@@ -95,6 +97,11 @@ class Round:
                 self.stop([*self.items, *reserved, *joined, *items[place:]], error)
             raise
         return reserved, joined, blocked
+
+    @property
+    def is_over(self):
+        """Whether no call of its round is out. (An interrupt may have ended the round wherever it was.)"""
+        return all(item.call is None or item.call.is_over for item in self._current)
 
     @staticmethod
     def forget(items):

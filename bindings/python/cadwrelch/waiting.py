@@ -10,8 +10,8 @@ from .errors import DeadlockError
 
 HELD = contextvars.ContextVar('held', default=())
 """The flights of the calls that run outside."""
-_JOINS = contextvars.ContextVar('joins', default=())
-"""The loads that were joined by calls of many keys that run outside for other keys. They take room."""
+_ROUNDS = contextvars.ContextVar('rounds', default=())
+"""The rounds of calls of many keys that run. Such a one has calls out at several keys, and waits for no room with them."""
 _LOCK = threading.Lock()
 """Of all waits_for."""
 
@@ -41,14 +41,14 @@ def holding(*flights):
     return _Restored(HELD, HELD.get() + flights)
 
 
-def joining(*calls):
-    """What runs with it is asked while these loads are joined."""
-    return _Restored(_JOINS, _JOINS.get() + calls)
+def in_round(calls):
+    """What runs with it is a round of this call of many keys."""
+    return _Restored(_ROUNDS, (*_ROUNDS.get(), calls))
 
 
 def check_outside():
     """Who waits for room may not be inside a call, whose end may be what makes room."""
-    if not all(out.is_over for out in HELD.get() + _JOINS.get()):
+    if not all(out.is_over for out in HELD.get() + _ROUNDS.get()):
         raise DeadlockError('a call inside another one needs a stripe that has no room: give the cache more stripes, or a history of up to 260')
 
 

@@ -247,9 +247,8 @@ static PyObject *stripes_hit(Stripes *self, PyObject *key) {
 
 static int stripes_contains(Stripes *self, PyObject *key) {
     uint64_t hash;
-    answer said;
-    if (!hash_of(self, key, &hash) || !whole_call(self, JC_OP_CONTAINS_KEY, key, hash, NULL, NULL, AS_THE_CACHE_SAYS, &said)) return -1;
-    return said.reply == JC_REPLY_YES;
+    bool is_cached;
+    return hash_of(self, key, &hash) && contains(self, key, hash, &is_cached) ? is_cached : -1;
 }
 
 /* _get_or_load(key, function, arguments, words): see get_or_load. */

@@ -157,12 +157,13 @@ static inline uint64_t number_in(const jc_value *value) {
     return number;
 }
 
-/* A hash of Python is often the key itself, or an address. The mixing loses nothing: two mixed hashes are equal if the hashes are. */
+/* A hash of Python is often the key itself, or an address. These are the last steps of SplitMix64, which lose nothing: two mixed hashes are
+ * equal if the hashes are. */
 static inline uint64_t mixed(const Stripes *self, Py_hash_t hash) {
-    uint64_t x = ((uint64_t)hash ^ self->seed) * UINT64_C(0x9e3779b97f4a7c15);
-    x ^= x >> 32;
-    x *= UINT64_C(0xd6e8feb86659fd93);
-    return x ^ x >> 32;
+    uint64_t x = (uint64_t)hash ^ self->seed;
+    x = (x ^ x >> 30) * UINT64_C(0xbf58476d1ce4e5b9);
+    x = (x ^ x >> 27) * UINT64_C(0x94d049bb133111eb);
+    return x ^ x >> 31;
 }
 
 /* The upper half of a hash says the stripe, the lower half the bucket. */
@@ -196,6 +197,7 @@ void *other_value(void);
 bool read_clock(Stripes *self, int64_t *now);
 bool as_life(PyObject *seconds, int64_t *life);
 bool given_life(PyObject *seconds, int64_t *life);
+bool contains(Stripes *self, PyObject *key, uint64_t hash, bool *is_cached);
 PyObject *hit(Stripes *self, PyObject *key, uint64_t hash);
 bool expire(Stripes *self, stripe *s, node *n, int64_t now, leavings *left);
 void begin(Stripes *self, uint32_t op, PyObject *key, uint64_t hash, PyObject *value, PyObject *old, int64_t life, ended *end);

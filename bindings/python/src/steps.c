@@ -219,12 +219,25 @@ void begin(Stripes *self, uint32_t op, PyObject *key, uint64_t hash, PyObject *v
             if (said > 0) continue;
         }
         if (!has_session_room(s) || (n == NULL && (n = add_node(s, key, hash)) == NULL)) { PyErr_NoMemory(); return; }
-        if (!is_dead || expire(self, s, n, now, &left)) begin_at(self, s, n, op, value, is_equal ? compared : 0, life, now, &left, end);
-        else if (op == JC_OP_CONTAINS_KEY) *end = (ended){.kind = DONE, .answer = {.reply = JC_REPLY_NO}};   /* it waits for nobody */
-        else blocked(end, s, n->flight);
+        if (is_dead && !expire(self, s, n, now, &left)) blocked(end, s, n->flight);
+        else begin_at(self, s, n, op, value, is_equal ? compared : 0, life, now, &left, end);
         drop_all(&left);
         return;
     }
+}
+
+/* Whether a key is cached. It waits for nobody: without room for a step in the history of the core it makes none. False: an exception. */
+bool contains(Stripes *self, PyObject *key, uint64_t hash, bool *is_cached) {
+    ended end;
+    int64_t now;
+    node *n;
+    begin(self, JC_OP_CONTAINS_KEY, key, hash, NULL, NULL, AS_THE_CACHE_SAYS, &end);
+    *is_cached = end.answer.reply == JC_REPLY_YES;
+    if (end.kind != BLOCKED) return end.kind == DONE;
+    Py_XDECREF(end.flight);
+    if (!read_clock(self, &now) || !find(end.at, key, hash, &n)) return false;
+    *is_cached = n != NULL && n->version && !has_expired(self, n, now);
+    return true;
 }
 
 /* A get that finds its entry: a new reference; or NULL, and nothing was done. */

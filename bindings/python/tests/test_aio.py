@@ -148,6 +148,20 @@ class Coroutines(unittest.IsolatedAsyncioTestCase):
             cause = cause.__cause__
         self.assertIsInstance(cause, cadwrelch.DeadlockError)
 
+    async def test_a_look_waits_for_no_room(self):
+        """Five loads and a join take all sixteen places of a history."""
+        cache = cadwrelch.AsyncCache(loader=self.store, stripes=1, history=16)
+        await cache.put('there', 1)
+        gets = [asyncio.create_task(cache.get(key)) for key in ('a', 'b', 'c', 'd', 'e', 'a')]
+        await turns()
+        waits = asyncio.create_task(cache.get('there'))
+        await turns()
+        self.assertFalse(waits.done())
+        self.assertEqual(('there' in cache, 'a' in cache, len(cache), cache.keys(), cache.hit('there')), (True, False, 1, ['there'], None))
+        self.store.may_answer.set()
+        await asyncio.gather(*gets, waits)
+        self.assertEqual((cache.hit('there'), cache._agrees()), (1, True))
+
     async def test_a_failed_write(self):
         self.store.may_answer.set()
         self.store.fails = Broken('no')

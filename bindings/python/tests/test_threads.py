@@ -125,69 +125,94 @@ class Deadlocks(unittest.TestCase):
         self.assertTrue(cache._agrees())
 
 
+class Calling:
+    """Whose methods call a cache, one of them at a time on a thread."""
+
+    cache = None
+    calls = {}
+    inside = threading.local()
+
+    def __init__(self, number):
+        self.number = number
+
+    def call_the_cache(self, what):
+        if getattr(self.inside, 'is_on', False) or self.cache.closed:
+            return
+        self.inside.is_on = True
+        self.calls[what] = self.calls.get(what, 0) + 1
+        try:
+            self.cache.put('own', 1)
+            self.cache.get('other')
+            self.cache.remove('own')
+        except cadwrelch.DeadlockError:
+            # The thread has a call out, and the stripe has no room.
+            pass
+        self.inside.is_on = False
+
+
+class Key(Calling):
+    def __hash__(self):
+        self.call_the_cache('hash')
+        return 7
+
+    def __eq__(self, other):
+        self.call_the_cache('eq of a key')
+        return isinstance(other, Key) and other.number == self.number
+
+    def __del__(self):
+        self.call_the_cache('del of a key')
+
+
+class Value(Calling):
+    def __eq__(self, other):
+        self.call_the_cache('eq of a value')
+        return other.number == self.number
+
+    def __del__(self):
+        self.call_the_cache('del of a value')
+
+
 class Reentrant(unittest.TestCase):
     """Keys and values whose own methods call the cache: nothing of the user's runs with a lock held, or these would never end."""
 
-    def test_methods_of_keys_and_values_may_call_the_cache(self):
-        cache = cadwrelch.Cache(loader=lambda key: Value(1), stripes=1, capacity=3)
-        calls = {}
-        inside = threading.local()
+    def work(self, cache):
+        for number in range(30):
+            cache.get(Key(number % 6))
+            cache.put(Key(number % 6), Value(2))
+            cache.replace_if(Key(number % 6), Value(2), Value(3))
+            cache.put_many({Key(number % 6): Value(4)})
+            cache.invoke(Key(number % 6), lambda entry: setattr(entry, 'value', Value(5)))
+            cache.get_many([Key(1), Key(2), Key(1)])
+            cache.remove_if(Key(number % 6), Value(5))
+            cache.remove(Key(number % 6))
+        cache.clear()
 
-        def call_the_cache(what):
-            if getattr(inside, 'is_on', False) or cache.closed:
-                return
-            inside.is_on = True
-            calls[what] = calls.get(what, 0) + 1
-            try:
-                cache.put('own', 1)
-                cache.get('other')
-                cache.remove('own')
-            except cadwrelch.DeadlockError:
-                # The thread has a call out, and the stripe has no room.
-                pass
-            inside.is_on = False
+    def test_a_key_that_needs_room_in_the_middle_of_a_round(self):
+        """Five keys of a round take fifteen of sixteen places when the sixth one asks for three."""
+        raised = []
 
-        class Key:
-            def __init__(self, number):
-                self.number = number
-
+        class Asks(str):
             def __hash__(self):
-                call_the_cache('hash')
-                return 7
+                try:
+                    cache.put('own', 1)
+                except cadwrelch.DeadlockError as error:
+                    raised.append(error)
+                return str.__hash__(self)
 
-            def __eq__(self, other):
-                call_the_cache('eq of a key')
-                return isinstance(other, Key) and other.number == self.number
+        cache = cadwrelch.Cache(loader=lambda key: 1, stripes=1, history=16)
+        self.assertEqual(cache.get_many([*'abcde', Asks('f')]), dict.fromkeys('abcdef', 1))
+        self.assertEqual(len(raised), 1)
+        self.assertTrue(cache._agrees())
 
-            def __del__(self):
-                call_the_cache('del of a key')
-
-        class Value(Key):
-            def __eq__(self, other):
-                call_the_cache('eq of a value')
-                return other.number == self.number
-
-            def __del__(self):
-                call_the_cache('del of a value')
-
-        def work():
-            for number in range(30):
-                cache.get(Key(number % 6))
-                cache.put(Key(number % 6), Value(2))
-                cache.replace_if(Key(number % 6), Value(2), Value(3))
-                cache.put_many({Key(number % 6): Value(4)})
-                cache.invoke(Key(number % 6), lambda entry: setattr(entry, 'value', Value(5)))
-                cache.get_many([Key(1), Key(2), Key(1)])
-                cache.remove_if(Key(number % 6), Value(5))
-                cache.remove(Key(number % 6))
-            cache.clear()
-
-        self.assertEqual(run(work, work)(), [None, None])
+    def test_methods_of_keys_and_values_may_call_the_cache(self):
+        Calling.cache = cache = cadwrelch.Cache(loader=lambda key: Value(1), stripes=1, capacity=3)
+        self.assertEqual(run(lambda: self.work(cache), lambda: self.work(cache))(), [None, None])
         self.assertTrue(cache._agrees())
         cache.close()
-        self.assertEqual(sorted(calls), ['del of a key', 'del of a value', 'eq of a key', 'eq of a value', 'hash'])
+        self.assertEqual(sorted(Calling.calls), ['del of a key', 'del of a value', 'eq of a key', 'eq of a value', 'hash'])
         # Its keys and values are gone, with their finalizers.
         gc.collect()
+        Calling.cache = cadwrelch.Cache()
 
 
 class Shaky(Store):
