@@ -100,6 +100,7 @@ class AsyncEntry(Entry):
     def value(self):
         """The value, or None. The loader isn't asked."""
         self._check()
+        self._is_used = True
         return self._value
 
     @value.setter
@@ -114,6 +115,7 @@ class AsyncEntry(Entry):
         """The value, or None. With read-through the loader is asked if there is none and the processor has changed nothing: once, and a
         LoaderError of it is raised at each further load, too (JCache: getValue)."""
         self._check()
+        self._is_used = True
         if self._may_ask():
             self._note_load(*await _attempt(self._cache._loader.load, self.key))
         return self._read()

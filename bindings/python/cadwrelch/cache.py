@@ -39,6 +39,7 @@ class Entry:
         self._loaded = None
         self._error = None
         self._effect = _core.KEEP
+        self._is_used = False
         self._is_over = False
         self.key = key
 
@@ -52,6 +53,7 @@ class Entry:
         """The value, or None. With read-through the loader is asked if there is none and the processor has changed nothing: once, and a
         LoaderError of it is raised at each further read, too (JCache: getValue, setValue)."""
         self._check()
+        self._is_used = True
         if self._may_ask():
             self._note_load(*rounds.attempt(self._cache._loader.load, self.key))
         return self._read()
@@ -112,7 +114,7 @@ class Processing:
     def end(self, call, entry):
         """The last phase. It returns what the processor returned, or raises why the call failed."""
         effect = entry._effect if self.failure is None or self.write != _core.NOT_ASKED else _core.PROCESS_FAILED
-        call.commit_process(entry._load, entry._loaded, effect, entry._value, self.write, self.ttl)
+        call.commit_process(entry._load, entry._loaded, effect, entry._value, self.write, self.ttl, entry._is_used)
         loading, failure, key = entry._error, self.failure, entry.key
         entry._end()
         self.failure = None

@@ -39,13 +39,16 @@ class ClosedError(CacheError):
 class BulkError(CacheError):
     """A call of many keys failed at some of them; its __cause__ is the first failure. At all others it took effect.
 
-    failed: the keys at which it failed, and those that it has not reached.
+    failed: the keys at which it failed, and those that it has not reached. None, if a writer failed that has written all.
     found: what a get_many has found at the others, as a dict.
     """
 
     def __init__(self, failed, found=None):
         named = ', '.join(map(short, failed[:3])) + (', ..' if len(failed) > 3 else '')
-        super().__init__(f'{len(failed)} keys failed: {named}' if len(failed) != 1 else f'a key failed: {named}')
+        if not failed:
+            super().__init__('the writer failed, and no key did')
+        else:
+            super().__init__(f'{len(failed)} keys failed: {named}' if len(failed) != 1 else f'a key failed: {named}')
         self.failed = failed
         self.found = {} if found is None else found
 

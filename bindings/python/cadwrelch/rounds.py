@@ -123,9 +123,8 @@ class Round:
         for place, item in enumerate(reserved):
             item.answer, item.error = None if values is None else values[place], error
 
-    @staticmethod
-    def written(reserved, error):
-        """Why a writer of many keys hasn't done all, or None."""
+    def written(self, reserved, error):
+        """Why a writer of many keys hasn't done all, or None. One that fails and leaves no key fails the call alone."""
         if not isinstance(error, NotWritten):
             for item in reserved:
                 item.answer, item.error = outcome_of(error), error
@@ -133,6 +132,8 @@ class Round:
         keys, cause = set(error.keys), error.__cause__ or error
         for item in reserved:
             item.answer, item.error = (_core.FAILED, cause) if item.key in keys else (_core.WRITTEN, None)
+        if not keys:
+            self._note(cause)
 
     def commit_loads(self, reserved):
         """The last phases of calls whose loader was asked."""

@@ -98,9 +98,10 @@ static void give(jc_value *to, uint64_t number) { to->len = EIGHT; memcpy(to->by
 static PyObject *call_commit_process(Call *call, PyObject *arguments) {
     unsigned load, effect, write;
     PyObject *loaded, *value, *brought = NULL, *span = Py_None;
+    int is_used = 0;
     int64_t life;
     answer said;
-    if (!PyArg_ParseTuple(arguments, "IOIOI|O", &load, &loaded, &effect, &value, &write, &span) || !given_life(span, &life) ||
+    if (!PyArg_ParseTuple(arguments, "IOIOI|Op", &load, &loaded, &effect, &value, &write, &span, &is_used) || !given_life(span, &life) ||
         !is_out(call, JC_ASK_PROCESS, JC_ASK_PROCESS)) return NULL;
     stripe *s = call->seat.at;
     uint64_t version = 0;
@@ -110,7 +111,7 @@ static PyObject *call_commit_process(Call *call, PyObject *arguments) {
     done.load_code = done.code = done.write_code = 1;
     if (load == JC_ANSWER_FOUND) { brought = loaded; give(&done.loaded, version = ++s->last_version); }
     if (effect == JC_EFFECT_SET) { brought = value; give(&done.set, version = ++s->last_version); }
-    return commit_process(call, &done, brought, version, life, write == UNKNOWN, &said) ? reply_tuple(&said) : NULL;
+    return commit_process(call, &done, brought, version, life, write == UNKNOWN, is_used, &said) ? reply_tuple(&said) : NULL;
 }
 
 static PyObject *call_withdraw(Call *call, PyObject *nothing) {
@@ -192,7 +193,7 @@ static PyMethodDef call_methods[] = {
     {"commit_write", (PyCFunction)call_commit_write, METH_VARARGS,
      "commit_write(outcome): the last phase of a call whose writer was asked. WRITTEN, FAILED, or UNKNOWN: then the key is cleared."},
     {"commit_process", (PyCFunction)call_commit_process, METH_VARARGS,
-     "commit_process(load, loaded, effect, value, write, ttl=None): the last phase of a call whose processor ran."},
+     "commit_process(load, loaded, effect, value, write, ttl=None, is_used=False): the last phase of a call whose processor ran, and has looked at the value."},
     {"withdraw", (PyCFunction)call_withdraw, METH_NOARGS, "Gives up a call that has asked nobody."},
     {"pick_up", (PyCFunction)call_pick_up, METH_NOARGS, "Of a load that was joined and is over: what it replies, or None to begin anew."},
     {"abandon", (PyCFunction)call_abandon, METH_NOARGS, "Nobody waits for a load that was joined."},

@@ -203,7 +203,7 @@ bool expire(Stripes *self, stripe *s, node *n, int64_t now, leavings *left);
 void begin(Stripes *self, uint32_t op, PyObject *key, uint64_t hash, PyObject *value, PyObject *old, int64_t life, ended *end);
 bool commit_load(Call *call, PyObject *value, PyObject *error, int64_t life, answer *to);
 bool commit_write(Call *call, uint32_t outcome, answer *to);
-bool commit_process(Call *call, const jc_processed *done, PyObject *brought, uint64_t version, int64_t life, bool is_unknown, answer *to);
+bool commit_process(Call *call, const jc_processed *done, PyObject *brought, uint64_t version, int64_t life, bool is_unknown, bool is_used, answer *to);
 bool withdraw(Call *call);
 bool pick_up(Call *call, bool *is_done, answer *to);
 bool abandon(Call *call);

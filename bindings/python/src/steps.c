@@ -160,6 +160,11 @@ static uint32_t begin_in_core(stripe *s, const node *n, uint32_t op, bool has_va
     return jc_begin(&s->desk, free_session(s), op, key, EIGHT, brought, length, key, 0, &s->out);
 }
 
+/* Whether a call that is over at once has used the entry that it leaves: a get, and a comparison that found another value. */
+static bool is_use(uint32_t op, uint32_t reply) {
+    return op == JC_OP_GET || ((op == JC_OP_REPLACE_IF || op == JC_OP_REMOVE_IF) && reply == JC_REPLY_NO);
+}
+
 /* The first phase of a call of an operation, at a node that was found. */
 static void begin_at(Stripes *self, stripe *s, node *n, uint32_t op, PyObject *value, uint64_t expected, int64_t life, int64_t now,
                      leavings *left, ended *end) {
@@ -171,7 +176,7 @@ static void begin_at(Stripes *self, stripe *s, node *n, uint32_t op, PyObject *v
     } else if (s->out.next == JC_NEXT_DONE) {
         if (replied(s, n, 0, NULL, &end->answer) && follow(self, s, n, version, value, life, now, left)) end->kind = DONE;
         else other_value();
-        if (end->kind == DONE && self->idle && op == JC_OP_GET && n->version) n->used = now;
+        if (end->kind == DONE && self->idle && is_use(op, end->answer.reply) && n->version) n->used = now;
     } else if (s->out.next == JC_NEXT_REFUSED) {
         if (s->out.reply == JC_REFUSAL_HISTORY_FULL) PyErr_SetString(PyExc_AssertionError, "the cache has counted 2^64 calls");
         else blocked(end, s, s->out.reply == JC_REFUSAL_BUSY || s->out.reply == JC_REFUSAL_TOO_MANY_JOINERS ? n->flight : NULL);
@@ -351,11 +356,13 @@ bool commit_write(Call *call, uint32_t outcome, answer *to) {
     return end_call(call, code, &with, 0, NULL, to);
 }
 
-bool commit_process(Call *call, const jc_processed *done, PyObject *value, uint64_t version, int64_t life, bool is_unknown, answer *to) {
+/* The last phase of a call whose processor ran: is_used says whether that has looked at the value. */
+bool commit_process(Call *call, const jc_processed *done, PyObject *value, uint64_t version, int64_t life, bool is_unknown, bool is_used, answer *to) {
     brought with = {.version = version, .value = value, .life = life, .is_unknown = is_unknown};
     if (!read_clock(call->cache, &with.now) || !is_out(call, JC_ASK_PROCESS, JC_ASK_PROCESS)) return false;
     stripe *s = call->seat.at;
     uint32_t code = jc_commit_process(&s->desk, call->flight->number, done, &s->out);
+    if (is_used && code == JC_OK && s->out.reply <= JC_REPLY_VALUE) call->seat.node->used = with.now;
     return end_call(call, code, &with, 0, NULL, to);
 }
 
