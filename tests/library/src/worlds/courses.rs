@@ -217,7 +217,7 @@ start 3 a: stepped; none
 ";
 
 /// Asserts which keys are foreign, and which of them are untold: as many as this.
-fn counts(rt: &HostRuntime, alloc: Global, world: &World, foreign: usize, untold: usize) {
+fn counts(rt: &impl Abort, alloc: Global, world: &World, foreign: usize, untold: usize) {
     let keys = world.foreign_keys(alloc).expect(rt, "memory");
     assert!(rt; keys.len() == foreign);
     let keys = world.untold_keys(alloc).expect(rt, "memory");
