@@ -233,7 +233,14 @@ fn tells_by_a_clear(rt: HostRuntime) {
     let write = WorldEvent::Foreign { key, value: None };
     plays(&rt, alloc, &mut world, RESERVED);
     counts(&rt, alloc, &world, 0, 0);
-    shows(&rt, alloc, &mut world, write, "written", "a write of others");
+    shows(
+        &rt,
+        alloc,
+        &mut world,
+        write,
+        "written",
+        "a write of others",
+    );
     assert!(rt; world.is_untold(&key));
     counts(&rt, alloc, &world, 1, 1);
     plays(&rt, alloc, &mut world, CLEARED);
