@@ -217,7 +217,7 @@ start 3 a: stepped; none
 ";
 
 /// Asserts which keys are foreign, and which of them are untold: as many as this.
-fn counts(rt: &HostRuntime, alloc: Global, world: &World, foreign: usize, untold: usize) {
+fn counts(rt: &impl Abort, alloc: Global, world: &World, foreign: usize, untold: usize) {
     let keys = world.foreign_keys(alloc).expect(rt, "memory");
     assert!(rt; keys.len() == foreign);
     let keys = world.untold_keys(alloc).expect(rt, "memory");
@@ -233,7 +233,14 @@ fn tells_by_a_clear(rt: HostRuntime) {
     let write = WorldEvent::Foreign { key, value: None };
     plays(&rt, alloc, &mut world, RESERVED);
     counts(&rt, alloc, &world, 0, 0);
-    shows(&rt, alloc, &mut world, write, "written", "a write of others");
+    shows(
+        &rt,
+        alloc,
+        &mut world,
+        write,
+        "written",
+        "a write of others",
+    );
     assert!(rt; world.is_untold(&key));
     counts(&rt, alloc, &world, 1, 1);
     plays(&rt, alloc, &mut world, CLEARED);
