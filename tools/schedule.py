@@ -1,4 +1,4 @@
-"""What the gate costs after a change, reckoned from what its parts took in one run (docs/matrix/costs.txt)."""
+"""What the gate costs after a change, reckoned from what its parts took when they were last measured (docs/matrix/costs.txt)."""
 import os
 
 from sources import ALL, LISTED, TOP, read
