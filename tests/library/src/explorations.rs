@@ -191,7 +191,7 @@ const CASES: &[Case] = &[
         stored: "1",
         stripes: 1,
         faults: NO_FAULTS,
-        states: 13,
+        states: 15,
         found: 2,
     },
     Case {
