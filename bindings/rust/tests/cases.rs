@@ -459,6 +459,14 @@ fn play(lines: &[Line]) -> Result<(), String> {
     }
 }
 
+/// The text of a file, which is there for as long as the process lives: threads have words of it.
+fn text_of(path: &std::path::Path) -> Word {
+    static TEXTS: Mutex<Vec<Word>> = Mutex::new(Vec::new());
+    let text = std::fs::read_to_string(path).unwrap().leak();
+    TEXTS.lock().unwrap().push(text);
+    text
+}
+
 #[test]
 fn the_table_of_cases() {
     let folder = std::env::var("CADWRELCH_CASES");
@@ -471,7 +479,7 @@ fn the_table_of_cases() {
         if path.extension().is_none_or(|it| it != "cases") {
             continue;
         }
-        for (name, lines) in cases_of(std::fs::read_to_string(&path).unwrap().leak()) {
+        for (name, lines) in cases_of(text_of(&path)) {
             let has = |word| name == word || lines.iter().any(|line| line.1.contains(&word));
             if let Some(lack) = LEFT_OUT.iter().find(|lack| has(lack.0)) {
                 *left_out.entry(lack).or_insert(0) += 1;
