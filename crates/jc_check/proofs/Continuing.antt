@@ -1,7 +1,7 @@
 -- What is left of an order: turns that explain, from a node on, what isn't done yet. An order explains a record exactly if it continues
 -- from the opening, and it continues from a node exactly if its first turn leads to a node from which the others continue.
-use Rattle.std.proofs.Common.{◌≡◌, ℕ, zero, suc, ◌+◌, ◌<◌, ◌≤◌, ◌⊎◌, inl, inr, max, List, [], ◌∷◌, ◌++◌, length, get_or, Bool, true, false, Option, Some, None, slice_get, sym, subst, ap, refl, ◌∙◌, arith, true≢false}
-use Rattle.std.specs.List.{All, AllPairs, Any}
+use Rattle.std.proofs.Common.{◌≡◌, ℕ, ◌-◌, ◌⊎◌, inl, inr, List, [], ◌∷◌, get_or, Bool, true, false, Option, Some, None, slice_get, sym, subst, ap, refl, ◌∙◌, arith, true≢false}
+use Rattle.std.specs.List.{All}
 use Rattle.jc_check.specs.declared.record.Act.{Act}
 use Rattle.jc_check.specs.declared.record.Act.TheVariants.{Step, Share, Land, Foreign, LeaveEntry, LeaveStore, LeaveBoth, LeaveLoad}
 use Rattle.jc_check.specs.declared.record.Recorded.{Recorded}
@@ -9,9 +9,10 @@ use Rattle.jc_check.specs.declared.record.Rules.{Rules}
 use Rattle.jc_check.specs.declared.record.Spot.{Spot}
 use Rattle.jc_check.specs.declared.record.Turn.{Turn}
 use Rattle.jc_check.specs.declared.record.Turn.TheVariants.{Vanish, Call}
-use Rattle.jc_check.specs.Explains.{ActGoes, AreAll, AreApart, AreInOrder, AreOnce, CallGoes, CallPrecedes, CallsPrecede, Differ, Explains, Goes, IsExplained, IsLeft, IsPlaced, MustPrecede, PlaysTurns, call_at, call_of, must_be_placed, placed_call, stored_call}
-use Rattle.jc_check.specs.Nodes.{AreBehind, IsAmong, IsBehind, IsClosed, IsClosedAt, IsFresh, IsFreeIn, IsWhole, LosesCall, MayFollow, NodeGoes, NodeValue, front_at, fronts_with, is_marked, is_must, latest_with, marked, node_with, opening_node}
-use Rattle.jc_check.proofs.Marks.{free-after, free-before, front-other, front-same, mark-either, mark-more, mark-this, lt_or_le, same_or_not}
+use Rattle.jc_check.specs.Explains.{ActGoes, AreApart, AreInOrder, AreOnce, CallGoes, Differ, Explains, Goes, IsExplained, IsLeft, IsPlaced, MustPrecede, NumbersPrecede, PlaysTurns, call_of, must_be_placed, placed_call}
+use Rattle.jc_check.specs.Nodes.{HasLanded, IsAmong, IsClosed, IsClosedAt, IsCovered, IsCovering, IsFresh, IsNot, IsSettled, IsWhole, MayGo, NodeGoes, NodeValue, PlaysNodes, is_must, landed_call, must_at, opening_node}
+use Rattle.jc_check.proofs.Quantified.{all-cons, all-tail, any-either, any-here, any-there, pairs-cons, pairs-head, pairs-tail}
+use Rattle.jc_check.proofs.Landings.{apart-landed, apart-placed, apart-stored, lands-right, not-more, unlanded-after, unlanded-before}
 
 pub record Continues (rules : Rules) (calls : List Recorded) (n : NodeValue) (turns : List Turn) : Type 0 where
   pub last : Spot
@@ -19,40 +20,12 @@ pub record Continues (rules : Rules) (calls : List Recorded) (n : NodeValue) (tu
   pub once : AreOnce calls turns
   pub fresh : All (IsFresh calls n) turns
   pub order : AreInOrder rules calls turns
-  pub after : All (MayFollow rules calls n) turns
-  pub each : (i : ℕ) (c : Recorded) → slice_get calls i ≡ Some c → must_be_placed c ≡ true → (is_marked n.placed i ≡ true) ⊎ IsPlaced turns i
+  pub each : (call : ℕ) → must_at calls call ≡ true → IsSettled n call ⊎ IsPlaced turns call
 
--- 1. Lists by their first element.
+abbrev later-not : Rules → List Recorded → Turn → Turn → Type 0
+later-not rules calls t u = MustPrecede rules calls u t → ⊥
 
-all-cons : {X : Type 0} (P : X → Type 0) (x : X) (xs : List X) → P x → All P xs → All P (x ∷ xs)
-all-cons P x xs first rest zero d h = first
-all-cons P x xs first rest (suc k) d h = rest k d (omega (arith, h))
-
-all-tail : {X : Type 0} (P : X → Type 0) (x : X) (xs : List X) → All P (x ∷ xs) → All P xs
-all-tail P x xs all k d h = all (suc k) d (omega (arith, h))
-
-pairs-cons : {X : Type 0} (R : X → X → Type 0) (x : X) (xs : List X) → All (R x) xs → AllPairs R xs → AllPairs R (x ∷ xs)
-pairs-cons R x xs first rest i zero d less h = absurd (omega (arith, less))
-pairs-cons R x xs first rest zero (suc j) d less h = first j d (omega (arith, h))
-pairs-cons R x xs first rest (suc i) (suc j) d less h = rest i j d (omega (arith, less)) (omega (arith, h))
-
-pairs-head : {X : Type 0} (R : X → X → Type 0) (x : X) (xs : List X) → AllPairs R (x ∷ xs) → All (R x) xs
-pairs-head R x xs pairs k d h = pairs 0 (suc k) d (omega (arith, h)) (omega (arith, h))
-
-pairs-tail : {X : Type 0} (R : X → X → Type 0) (x : X) (xs : List X) → AllPairs R (x ∷ xs) → AllPairs R xs
-pairs-tail R x xs pairs i j d less h = pairs (suc i) (suc j) d (omega (arith, less)) (omega (arith, h))
-
-any-here : {X : Type 0} (P : X → Type 0) (x : X) (xs : List X) → P x → Any P (x ∷ xs)
-any-here P x xs is = (0, x, omega arith, refl, is)
-
-any-there : {X : Type 0} (P : X → Type 0) (x : X) (xs : List X) → Any P xs → Any P (x ∷ xs)
-any-there P x xs any = (suc any.0, any.1, omega (arith, any.2), any.3, any.4)
-
-any-either : {X : Type 0} (P : X → Type 0) (x : X) (xs : List X) → Any P (x ∷ xs) → P x ⊎ Any P xs
-any-either P x xs (zero, y, h, is, holds) = inl (subst P (sym is) holds)
-any-either P x xs (suc k, y, h, is, holds) = inr (k, y, omega (arith, h), is, holds)
-
--- 2. A turn has one result.
+-- 1. A turn has one result.
 
 left-one : (o : Option (Option (List ℕ))) (s a b : Spot) → IsLeft o s a → IsLeft o s b → a ≡ b
 left-one None s a b x y = absurd x
@@ -72,166 +45,127 @@ act-one : (rules : Rules) (o : Option Recorded) (s : Spot) (act : Act) (a b : Sp
 act-one rules None s act a b x y = absurd x
 act-one rules (Some c) s act a b x y = call-one rules c s act a b x y
 
-pub goes-one : (rules : Rules) (calls : List Recorded) (s : Spot) (t : Turn) (a b : Spot) → Goes rules calls s t a → Goes rules calls s t b → a ≡ b
+goes-one : (rules : Rules) (calls : List Recorded) (s : Spot) (t : Turn) (a b : Spot) → Goes rules calls s t a → Goes rules calls s t b → a ≡ b
 goes-one rules calls s Vanish a b x y = x.1 ∙ sym y.1
 goes-one rules calls s (Call i act) a b x y = act-one rules (slice_get calls i) s act a b x y
 
--- 3. The order, after one more turn.
+-- 2. The first turn may be made.
 
-abbrev with-call : NodeValue → Option Recorded → List Bool → List Bool → Spot → NodeValue
-with-call n o placed stored spot =
-    record { placed = placed; stored = stored; latest = latest_with o n.latest; fronts = fronts_with o n.fronts; spot = spot }
+placed-late : (rules : Rules) (calls : List Recorded) (t : Turn) (ts : List Turn) (call : ℕ) → All (later-not rules calls t) ts
+    → NumbersPrecede rules calls (Some call) (call_of t) → IsPlaced ts call → ⊥
+placed-late rules calls t ts call order before (k, x, h, at, placed) =
+    order k x h
+    (subst (λ (u : Turn). MustPrecede rules calls u t) (sym at) (subst (λ (o : Option ℕ). NumbersPrecede rules calls o (call_of t)) (sym placed) before))
 
-behind-front : (rules : Rules) (n : NodeValue) (a b : Recorded) (ps ss : List Bool) (spot : Spot) → IsBehind rules (with-call n (Some b) ps ss spot) a
-    → front_at n.fronts a.thread ≤ a.began
-behind-front rules n a b ps ss spot is =
-    elim (same_or_not a.thread b.thread) [
-      | inl same ↦ omega (arith, is.thread, front-same b n.fronts a.thread same, ap (front_at n.fronts) same)
-      | inr other ↦ omega (arith, is.thread, front-other b n.fronts a.thread other)
-    ]
-
-precede-not : (rules : Rules) (n : NodeValue) (a b : Recorded) (ps ss : List Bool) (spot : Spot) → IsBehind rules (with-call n (Some b) ps ss spot) a
-    → CallPrecedes rules a b → ⊥
-precede-not rules n a b ps ss spot is (inl real) = omega (arith, is.real real.0 real.1.at real.1.ended, real.1.before)
-precede-not rules n a b ps ss spot is (inr own) = omega (arith, is.thread, front-same b n.fronts a.thread own.one, own.before)
-
-behind-before : (rules : Rules) (n : NodeValue) (a b : Option Recorded) (ps ss : List Bool) (spot : Spot) → AreBehind rules (with-call n b ps ss spot) a
-    → AreBehind rules n a × (CallsPrecede rules a b → ⊥)
-behind-before rules n None b ps ss spot is = (tt, λ h. h)
-behind-before rules n (Some a) None ps ss spot is = (record { real = is.real; thread = is.thread }, λ h. h)
-behind-before rules n (Some a) (Some b) ps ss spot is =
-    (record { real = λ r at ended. omega (arith, is.real r at ended); thread = behind-front rules n a b ps ss spot is }, precede-not rules n a b ps ss spot is)
-
-not-less : (x y : ℕ) → (x < y → ⊥) → y ≤ x
-not-less x y never = elim (lt_or_le x y) [ inl less ↦ absurd (never less) | inr more ↦ more ]
-
-front-after : (rules : Rules) (n : NodeValue) (a b : Recorded) → IsBehind rules n a → (CallPrecedes rules a b → ⊥)
-    → front_at (fronts_with (Some b) n.fronts) a.thread ≤ a.began
-front-after rules n a b is never =
-    elim (same_or_not a.thread b.thread) [
-      | inl same ↦ omega (
-        arith,
-        is.thread,
-        front-same b n.fronts a.thread same,
-        ap (front_at n.fronts) same,
-        not-less a.began b.began (λ less. never (inr (record { one = same; before = less }))),
-      )
-      | inr other ↦ omega (arith, is.thread, front-other b n.fronts a.thread other)
-    ]
-
-real-after : (rules : Rules) (n : NodeValue) (a b : Recorded) → IsBehind rules n a → (CallPrecedes rules a b → ⊥) → rules.is_real ≡ true
-    → (at : ℕ) → a.ended ≡ Some at → max n.latest b.began ≤ at
-real-after rules n a b is never r at ended =
-    let early = not-less at b.began (λ less. never (inl (r, record { at = at; ended = ended; before = less }))) in
-    omega (arith, is.real r at ended, early)
-
-behind-after : (rules : Rules) (n : NodeValue) (a b : Option Recorded) (ps ss : List Bool) (spot : Spot) → AreBehind rules n a
-    → (CallsPrecede rules a b → ⊥) → AreBehind rules (with-call n b ps ss spot) a
-behind-after rules n None b ps ss spot is never = tt
-behind-after rules n (Some a) None ps ss spot is never = record { real = is.real; thread = is.thread }
-behind-after rules n (Some a) (Some b) ps ss spot is never =
-    record { real = real-after rules n a b is never; thread = front-after rules n a b is never }
-
-follow-before : (rules : Rules) (calls : List Recorded) (n : NodeValue) (t u : Turn) (spot : Spot) → MayFollow rules calls (node_with calls n t spot) u
-    → MayFollow rules calls n u × (MustPrecede rules calls u t → ⊥)
-follow-before rules calls n t u spot is =
-    behind-before rules n (call_at calls (placed_call u)) (call_at calls (call_of t)) (marked (placed_call t) n.placed) (marked (stored_call calls t) n.stored) spot is
-
-follow-after : (rules : Rules) (calls : List Recorded) (n : NodeValue) (t u : Turn) (spot : Spot) → MayFollow rules calls n u
-    → (MustPrecede rules calls u t → ⊥) → MayFollow rules calls (node_with calls n t spot) u
-follow-after rules calls n t u spot is never =
-    behind-after rules n (call_at calls (placed_call u)) (call_at calls (call_of t)) (marked (placed_call t) n.placed) (marked (stored_call calls t) n.stored) spot is never
-
-fresh-before : (calls : List Recorded) (n : NodeValue) (t u : Turn) (spot : Spot) → IsFresh calls (node_with calls n t spot) u
-    → IsFresh calls n u × Differ calls t u
-fresh-before calls n t u spot is =
-    let p = free-before (placed_call t) (placed_call u) n.placed is.0 in
-    let s = free-before (stored_call calls t) (stored_call calls u) n.stored is.1 in
-    ((p.0, s.0), (p.1, s.1))
-
-fresh-after : (calls : List Recorded) (n : NodeValue) (t u : Turn) (spot : Spot) → IsFresh calls n u → Differ calls t u
-    → IsFresh calls (node_with calls n t spot) u
-fresh-after calls n t u spot is apart =
-    (free-after (placed_call t) (placed_call u) n.placed is.0 apart.0, free-after (stored_call calls t) (stored_call calls u) n.stored is.1 apart.1)
-
--- 4. One turn after the other.
-
-abbrev PlacesEach : List Recorded → NodeValue → List Turn → Type 0
-PlacesEach calls n turns =
-    (i : ℕ) (c : Recorded) → slice_get calls i ≡ Some c → must_be_placed c ≡ true → (is_marked n.placed i ≡ true) ⊎ IsPlaced turns i
-
-each-after : (calls : List Recorded) (n : NodeValue) (t : Turn) (ts : List Turn) (spot : Spot) → PlacesEach calls n (t ∷ ts)
-    → PlacesEach calls (node_with calls n t spot) ts
-each-after calls n t ts spot each i c at must =
-    elim (each i c at must) [
-      | inl was ↦ inl (mark-more (placed_call t) n.placed i was)
-      | inr now ↦ elim (any-either (λ (x : Turn). placed_call x ≡ Some i) t ts now) [
-        | inl is ↦ inl (mark-this (placed_call t) n.placed i is)
-        | inr rest ↦ inr rest
-      ]
-    ]
-
-each-before : (calls : List Recorded) (n : NodeValue) (t : Turn) (ts : List Turn) (spot : Spot) → PlacesEach calls (node_with calls n t spot) ts
-    → PlacesEach calls n (t ∷ ts)
-each-before calls n t ts spot each i c at must =
-    elim (each i c at must) [
-      | inl now ↦ elim (mark-either (placed_call t) n.placed i now) [
+pub first-may : (rules : Rules) (calls : List Recorded) (n : NodeValue) (t : Turn) (ts : List Turn) (is : Continues rules calls n (t ∷ ts))
+    → MayGo rules calls n t is.plays.0
+first-may rules calls n t ts is =
+    record {
+      goes = is.plays.1;
+      fresh = is.fresh 0 t (omega arith);
+      keeps = λ call must before. elim (is.each call must) [
         | inl was ↦ inl was
-        | inr is ↦ inr (any-here (λ (x : Turn). placed_call x ≡ Some i) t ts is)
-      ]
-      | inr rest ↦ inr (any-there (λ (x : Turn). placed_call x ≡ Some i) t ts rest)
+        | inr now ↦ elim (any-either (λ (x : Turn). placed_call x ≡ Some call) t ts now) [
+          | inl first ↦ inr first
+          | inr rest ↦ absurd (placed-late rules calls t ts call (pairs-head (later-not rules calls) t ts is.order) before rest)
+        ]
+      ];
+    }
+
+-- 3. From a node to the next one.
+
+settled-after : (rules : Rules) (calls : List Recorded) (n next : NodeValue) (t : Turn) → NodeGoes rules calls n t next → (x : Option ℕ)
+    → IsNot (IsSettled n) x → AreApart (placed_call t) x → (NumbersPrecede rules calls x (call_of t) → ⊥) → IsNot (IsSettled next) x
+settled-after rules calls n next t goes None was apart never = tt
+settled-after rules calls n next t goes (Some call) was apart never = λ s.
+    elim ((goes.settled call).0 s) [
+      | inl before ↦ was before
+      | inr rest ↦ elim rest [ inl now ↦ apart-placed (placed_call t) call now apart | inr out ↦ never out.1 ]
     ]
 
-abbrev pub next-of : (rules : Rules) (calls : List Recorded) (n : NodeValue) (t : Turn) (ts : List Turn) → Continues rules calls n (t ∷ ts) → NodeValue
-next-of rules calls n t ts is = node_with calls n t is.plays.0
-
-pub first-goes : (rules : Rules) (calls : List Recorded) (n : NodeValue) (t : Turn) (ts : List Turn) (is : Continues rules calls n (t ∷ ts))
-    → NodeGoes rules calls n t (next-of rules calls n t ts is)
-first-goes rules calls n t ts is =
-    record { goes = is.plays.1; fresh = is.fresh 0 t (omega arith); order = is.after 0 t (omega arith); is = refl }
-
-abbrev later-not : Rules → List Recorded → Turn → Turn → Type 0
-later-not rules calls t u = MustPrecede rules calls u t → ⊥
-
-pub rest-continues : (rules : Rules) (calls : List Recorded) (n : NodeValue) (t : Turn) (ts : List Turn) (is : Continues rules calls n (t ∷ ts))
-    → Continues rules calls (next-of rules calls n t ts is) ts
-rest-continues rules calls n t ts is =
-    let spot = is.plays.0 in
+pub rest-continues : (rules : Rules) (calls : List Recorded) (n next : NodeValue) (t : Turn) (ts : List Turn) → NodeGoes rules calls n t next
+    → Continues rules calls n (t ∷ ts) → Continues rules calls next ts
+rest-continues rules calls n next t ts goes is =
+    let spot = goes-one rules calls n.spot t is.plays.0 next.spot is.plays.1 goes.may.goes in
     let apart = pairs-head (Differ calls) t ts is.once in
     let order = pairs-head (later-not rules calls) t ts is.order in
     record {
       last = is.last;
-      plays = is.plays.2;
+      plays = subst (λ (s : Spot). PlaysTurns rules calls s ts is.last) spot is.plays.2;
       once = pairs-tail (Differ calls) t ts is.once;
-      fresh = λ k d h. fresh-after calls n t (get_or ts k d) spot (all-tail (IsFresh calls n) t ts is.fresh k d h) (apart k d h);
+      fresh = λ k d h.
+          let u = get_or ts k d in
+          let was = all-tail (IsFresh calls n) t ts is.fresh k d h in (
+            settled-after rules calls n next t goes (placed_call u) was.0 (apart k d h).0 (order k d h),
+            subst (λ (l : List ℕ). IsNot (HasLanded l) (landed_call calls u)) (sym goes.landed)
+                (unlanded-after (landed_call calls t) (landed_call calls u) n.landed was.1 (apart-landed calls t u (apart k d h).1)),
+          );
       order = pairs-tail (later-not rules calls) t ts is.order;
-      after = λ k d h. follow-after rules calls n t (get_or ts k d) spot (all-tail (MayFollow rules calls n) t ts is.after k d h) (order k d h);
-      each = each-after calls n t ts spot is.each;
+      each = λ call must. elim (is.each call must) [
+        | inl was ↦ inl ((goes.settled call).1 (inl was))
+        | inr now ↦ elim (any-either (λ (x : Turn). placed_call x ≡ Some call) t ts now) [
+          | inl first ↦ inl ((goes.settled call).1 (inr (inl first)))
+          | inr rest ↦ inr rest
+        ]
+      ];
     }
 
--- the other way round
-pub continues-before : (rules : Rules) (calls : List Recorded) (n : NodeValue) (t : Turn) (ts : List Turn) (next : NodeValue)
-    → NodeGoes rules calls n t next → Continues rules calls next ts → Continues rules calls n (t ∷ ts)
-continues-before rules calls n t ts next goes rest =
-    let spot = next.spot in
-    let is : Continues rules calls (node_with calls n t spot) ts = subst (λ (m : NodeValue). Continues rules calls m ts) goes.is rest in
+settled-before : (rules : Rules) (calls : List Recorded) (n next : NodeValue) (t : Turn) → NodeGoes rules calls n t next → (x : Option ℕ)
+    → IsNot (IsSettled next) x → IsNot (IsSettled n) x × AreApart (placed_call t) x × (NumbersPrecede rules calls x (call_of t) → ⊥)
+settled-before rules calls n next t goes None is = (tt, not-more (placed_call t), λ h. h)
+settled-before rules calls n next t goes (Some call) is = (
+  λ s. is ((goes.settled call).1 (inl s)),
+  apart-not (placed_call t) refl,
+  λ before. must-or-not (must_at calls call) refl before,
+)
+  where
+    apart-not : (x : Option ℕ) → placed_call t ≡ x → AreApart x (Some call)
+    apart-not None same = tt
+    apart-not (Some i) same = λ e. is ((goes.settled call).1 (inr (inl (same ∙ ap Some e))))
+
+    must-or-not : (b : Bool) → must_at calls call ≡ b → NumbersPrecede rules calls (Some call) (call_of t) → ⊥
+    must-or-not true must before =
+        elim (goes.may.keeps call must before) [
+          | inl was ↦ is ((goes.settled call).1 (inl was))
+          | inr now ↦ is ((goes.settled call).1 (inr (inl now)))
+        ]
+    must-or-not false must before = is ((goes.settled call).1 (inr (inr (must, before))))
+
+pub continues-before : (rules : Rules) (calls : List Recorded) (n next : NodeValue) (t : Turn) (ts : List Turn) → NodeGoes rules calls n t next
+    → Continues rules calls next ts → Continues rules calls n (t ∷ ts)
+continues-before rules calls n next t ts goes is =
+    let before : All (λ u. IsNot (IsSettled n) (placed_call u) × AreApart (placed_call t) (placed_call u) × later-not rules calls t u) ts =
+    λ k d h. settled-before rules calls n next t goes (placed_call (get_or ts k d)) (is.fresh k d h).0 in
+    let landed : All (λ u. IsNot (HasLanded n.landed) (landed_call calls u) × AreApart (landed_call calls t) (landed_call calls u)) ts =
+    λ k d h. unlanded-before (landed_call calls t) (landed_call calls (get_or ts k d)) n.landed
+    (subst (λ (l : List ℕ). IsNot (HasLanded l) (landed_call calls (get_or ts k d))) goes.landed (is.fresh k d h).1) in
+    let rights = lands-right rules calls next.spot ts is.last is.plays in
+    let right = lands-right rules calls n.spot (t ∷ []) next.spot (next.spot, goes.may.goes, refl) 0 t (omega arith) in
     record {
       last = is.last;
-      plays = (spot, goes.goes, is.plays);
-      once = pairs-cons (Differ calls) t ts (λ k d h. (fresh-before calls n t (get_or ts k d) spot (is.fresh k d h)).1) is.once;
-      fresh = all-cons (IsFresh calls n) t ts goes.fresh (λ k d h. (fresh-before calls n t (get_or ts k d) spot (is.fresh k d h)).0);
-      order = pairs-cons (later-not rules calls) t ts (λ k d h. (follow-before rules calls n t (get_or ts k d) spot (is.after k d h)).1) is.order;
-      after = all-cons (MayFollow rules calls n) t ts goes.order (λ k d h. (follow-before rules calls n t (get_or ts k d) spot (is.after k d h)).0);
-      each = each-before calls n t ts spot is.each;
+      plays = (next.spot, goes.may.goes, is.plays);
+      once = pairs-cons (Differ calls) t ts
+          (λ k d h. ((before k d h).1, apart-stored calls t (get_or ts k d) right (rights k d h) (before k d h).1 (landed k d h).1)) is.once;
+      fresh = all-cons (IsFresh calls n) t ts goes.may.fresh (λ k d h. ((before k d h).0, (landed k d h).0));
+      order = pairs-cons (later-not rules calls) t ts (λ k d h. (before k d h).2) is.order;
+      each = λ call must. elim (is.each call must) [
+        | inl now ↦ elim ((goes.settled call).0 now) [
+          | inl was ↦ inl was
+          | inr rest ↦ elim rest [
+            | inl placed ↦ inr (any-here (λ (x : Turn). placed_call x ≡ Some call) t ts placed)
+            | inr out ↦ absurd (true≢false (sym must ∙ out.0))
+          ]
+        ]
+        | inr rest ↦ inr (any-there (λ (x : Turn). placed_call x ≡ Some call) t ts rest)
+      ];
     }
 
--- a turn leads to one node
-pub node-one : (rules : Rules) (calls : List Recorded) (n : NodeValue) (t : Turn) (a b : NodeValue) → NodeGoes rules calls n t a → NodeGoes rules calls n t b
-    → a ≡ b
-node-one rules calls n t a b x y =
-    x.is ∙ ap (node_with calls n t) (goes-one rules calls n.spot t a.spot b.spot x.goes y.goes) ∙ sym y.is
+-- 4. The opening, and the end.
 
--- 5. From the opening, and at the end.
+must-some : (calls : List Recorded) (call : ℕ) (o : Option Recorded) → slice_get calls call ≡ o → is_must o ≡ true
+    → (c : Recorded) × (slice_get calls call ≡ Some c) × (must_be_placed c ≡ true)
+must-some calls call None at must = absurd (true≢false (sym must))
+must-some calls call (Some c) at must = (c, at, must)
 
 pub opens : (rules : Rules) (calls : List Recorded) (opening : Spot) (turns : List Turn) → Explains rules calls opening turns
     → Continues rules calls (opening_node opening) turns
@@ -240,19 +174,20 @@ opens rules calls opening turns is =
       last = is.last;
       plays = is.plays;
       once = is.once;
-      fresh = λ k d h. (free-none (placed_call (get_or turns k d)), free-none (stored_call calls (get_or turns k d)));
+      fresh = λ k d h. (none-settled (placed_call (get_or turns k d)), none-landed (landed_call calls (get_or turns k d)));
       order = is.order;
-      after = λ k d h. behind-none (call_at calls (placed_call (get_or turns k d)));
-      each = λ i c at must. inr (is.each i c at must);
+      each = λ call must.
+          let some = must-some calls call (slice_get calls call) refl must in
+          inr (is.each call some.0 some.1 some.2);
     }
   where
-    free-none : (o : Option ℕ) → IsFreeIn [] o
-    free-none None = tt
-    free-none (Some i) = refl
+    none-settled : (o : Option ℕ) → IsNot (IsSettled (opening_node opening)) o
+    none-settled None = tt
+    none-settled (Some i) = λ s. elim s [ inl less ↦ omega (arith, less) | inr more ↦ omega (arith, more.0) ]
 
-    behind-none : (o : Option Recorded) → AreBehind rules (opening_node opening) o
-    behind-none None = tt
-    behind-none (Some c) = record { real = λ r at ended. omega arith; thread = omega arith }
+    none-landed : (o : Option ℕ) → IsNot (HasLanded []) o
+    none-landed None = tt
+    none-landed (Some i) = λ any. omega (arith, any.2)
 
 pub opened : (rules : Rules) (calls : List Recorded) (opening : Spot) (turns : List Turn) → Continues rules calls (opening_node opening) turns
     → Explains rules calls opening turns
@@ -261,7 +196,12 @@ opened rules calls opening turns is =
       last = is.last;
       plays = is.plays;
       once = is.once;
-      each = λ i c at must. elim (is.each i c at must) [ inl was ↦ absurd (true≢false (sym was)) | inr now ↦ now ];
+      each = λ call c at must.
+          let is_there : must_at calls call ≡ true = ap is_must at ∙ must in
+          elim (is.each call is_there) [
+            | inl was ↦ elim was [ inl less ↦ absurd (omega (arith, less)) | inr more ↦ absurd (omega (arith, more.0)) ]
+            | inr now ↦ now
+          ];
       order = is.order;
     }
 
@@ -273,46 +213,82 @@ ends rules calls n whole =
       once = λ i j d less h. absurd (omega (arith, h));
       fresh = λ k d h. absurd (omega (arith, h));
       order = λ i j d less h. absurd (omega (arith, h));
-      after = λ k d h. absurd (omega (arith, h));
-      each = λ i c at must. inl (whole i c at must);
+      each = λ call must. inl (whole call must);
     }
 
 pub ended : (rules : Rules) (calls : List Recorded) (n : NodeValue) → Continues rules calls n [] → IsWhole calls n
-ended rules calls n is i c at must =
-    elim (is.each i c at must) [ inl was ↦ was | inr none ↦ absurd (omega (arith, none.2)) ]
+ended rules calls n is call must = elim (is.each call must) [ inl was ↦ was | inr none ↦ absurd (omega (arith, none.2)) ]
+
+-- 5. Turns that lead to a whole node explain.
+
+plays-continue : (rules : Rules) (calls : List Recorded) (n last : NodeValue) (turns : List Turn) → PlaysNodes rules calls n turns last
+    → IsWhole calls last → Continues rules calls n turns
+plays-continue rules calls n last [] plays whole = ends rules calls n (subst (IsWhole calls) plays whole)
+plays-continue rules calls n last (t ∷ ts) plays whole =
+    continues-before rules calls n plays.0 t ts plays.1 (plays-continue rules calls plays.0 last ts plays.2 whole)
+
+pub whole-explains : (rules : Rules) (calls : List Recorded) (opening : Spot) (turns : List Turn) (n : NodeValue)
+    → PlaysNodes rules calls (opening_node opening) turns n → IsWhole calls n → Explains rules calls opening turns
+whole-explains rules calls opening turns n plays whole =
+    opened rules calls opening turns (plays-continue rules calls (opening_node opening) n turns plays whole)
 
 -- 6. Closed nodes: no order continues from one of them.
 
-not-lost : (rules : Rules) (calls : List Recorded) (n : NodeValue) (t : Turn) (ts : List Turn) → Continues rules calls n (t ∷ ts)
-    → LosesCall rules calls n t → ⊥
-not-lost rules calls n t ts is lost =
-    elim (each-must (slice_get calls lost.call) refl lost.must) [
-      | inl was ↦ true≢false (sym was ∙ lost.left)
-      | inr now ↦ elim (any-either (λ (x : Turn). placed_call x ≡ Some lost.call) t ts now) [
-        | inl first ↦ lost.other first
-        | inr rest ↦ too-late rest
-      ]
-    ]
-  where
-    each-must : (o : Option Recorded) → slice_get calls lost.call ≡ o → is_must o ≡ true → (is_marked n.placed lost.call ≡ true) ⊎ IsPlaced (t ∷ ts) lost.call
-    each-must None at must = absurd (true≢false (sym must))
-    each-must (Some c) at must = is.each lost.call c at must
+fewer-landed : (m n : NodeValue) → IsCovering m n → (x : Option ℕ) → IsNot (HasLanded n.landed) x → IsNot (HasLanded m.landed) x
+fewer-landed m n is None was = tt
+fewer-landed m n is (Some call) was = λ has. was (is.landed call has)
 
-    too-late : IsPlaced ts lost.call → ⊥
-    too-late (k, x, h, at, placed) =
-        pairs-head (later-not rules calls) t ts is.order k x h
-        (subst (λ (u : Turn). MustPrecede rules calls u t) (sym at) (subst (λ (o : Option ℕ). CallsPrecede rules (call_at calls o) (call_at calls (call_of t))) (sym placed) lost.late))
+same-settled : (m n : NodeValue) → IsCovering m n → (call : ℕ) → IsSettled n call → IsSettled m call
+same-settled m n is call (inl less) = inl (omega (arith, less, is.from))
+same-settled m n is call (inr more) =
+    inr (
+      omega (arith, more.0, is.end),
+      ap (λ (from : ℕ). get_or m.rest (call - from) false) is.from ∙ ap (λ (rest : List Bool). get_or rest (call - n.from) false) is.rest ∙ more.1,
+    )
 
-pub none-continues : (rules : Rules) (calls : List Recorded) (opening : Spot) (nodes : List NodeValue) → IsClosed rules calls opening nodes
-    → (turns : List Turn) (n : NodeValue) → IsAmong nodes n → Continues rules calls n turns → ⊥
-none-continues rules calls opening nodes closed [] n (k, m, h, at, same) is =
-    (closed.each k m h).undone (subst (IsWhole calls) (sym (at ∙ same)) (ended rules calls n is))
-none-continues rules calls opening nodes closed (t ∷ ts) n (k, m, h, at, same) is =
-    let here : IsClosedAt rules calls nodes n = subst (IsClosedAt rules calls nodes) (at ∙ same) (closed.each k m h) in
-    none-continues rules calls opening nodes closed ts (next-of rules calls n t ts is)
-    (here.goes t (next-of rules calls n t ts is) (first-goes rules calls n t ts is) (not-lost rules calls n t ts is)) (rest-continues rules calls n t ts is)
+settled-same : (m n : NodeValue) → IsCovering m n → (call : ℕ) → IsSettled m call → IsSettled n call
+settled-same m n is call (inl less) = inl (omega (arith, less, is.from))
+settled-same m n is call (inr more) =
+    inr (
+      omega (arith, more.0, is.end),
+      sym (ap (λ (from : ℕ). get_or m.rest (call - from) false) is.from ∙ ap (λ (rest : List Bool). get_or rest (call - n.from) false) is.rest) ∙ more.1,
+    )
+
+not-settled : (m n : NodeValue) → IsCovering m n → (x : Option ℕ) → IsNot (IsSettled n) x → IsNot (IsSettled m) x
+not-settled m n is None was = tt
+not-settled m n is (Some call) was = λ s. was (settled-same m n is call s)
+
+covering-continues : (rules : Rules) (calls : List Recorded) (m n : NodeValue) (turns : List Turn) → IsCovering m n → Continues rules calls n turns
+    → Continues rules calls m turns
+covering-continues rules calls m n turns is h =
+    record {
+      last = h.last;
+      plays = subst (λ (s : Spot). PlaysTurns rules calls s turns h.last) (sym is.spot) h.plays;
+      once = h.once;
+      fresh = λ k d less. (
+        not-settled m n is (placed_call (get_or turns k d)) (h.fresh k d less).0,
+        fewer-landed m n is (landed_call calls (get_or turns k d)) (h.fresh k d less).1,
+      );
+      order = h.order;
+      each = λ call must. elim (h.each call must) [ inl was ↦ inl (same-settled m n is call was) | inr now ↦ inr now ];
+    }
+
+none-continues : (rules : Rules) (calls : List Recorded) (nodes : List NodeValue) → All (IsClosedAt rules calls nodes) nodes
+    → (turns : List Turn) (n : NodeValue) → IsCovered nodes n → Continues rules calls n turns → ⊥
+none-continues rules calls nodes closed [] n (k, m, h, at, covers) is =
+    let here : IsClosedAt rules calls nodes m = subst (IsClosedAt rules calls nodes) at (closed k m h) in
+    here.undone (ended rules calls m (covering-continues rules calls m n [] covers is))
+none-continues rules calls nodes closed (t ∷ ts) n (k, m, h, at, covers) is =
+    let here : IsClosedAt rules calls nodes m = subst (IsClosedAt rules calls nodes) at (closed k m h) in
+    let mine = covering-continues rules calls m n (t ∷ ts) covers is in
+    let inside = here.goes t mine.plays.0 (first-may rules calls m t ts mine) in
+    none-continues rules calls nodes closed ts inside.next inside.inside (rest-continues rules calls m inside.next t ts inside.goes mine)
 
 pub refutes : (rules : Rules) (calls : List Recorded) (opening : Spot) (nodes : List NodeValue) → IsClosed rules calls opening nodes
     → IsExplained rules calls opening → ⊥
 refutes rules calls opening nodes closed order =
-    none-continues rules calls opening nodes closed order.0 (opening_node opening) closed.first (opens rules calls opening order.0 order.1)
+    none-continues rules calls nodes closed.each order.0 (opening_node opening) (first closed.first) (opens rules calls opening order.0 order.1)
+  where
+    first : IsAmong nodes (opening_node opening) → IsCovered nodes (opening_node opening)
+    first (k, m, h, at, same) =
+        (k, m, h, at, subst (IsCovering m) same (record { from = refl; end = refl; rest = refl; spot = refl; landed = λ call has. has }))

@@ -1,7 +1,12 @@
+pub mod Numbers
 pub mod Lists
 pub mod Mutations
-pub mod Marks
+pub mod Quantified
+pub mod Landings
+pub mod Ordering
+pub mod Marking
 pub mod Continuing
+pub mod Settling
 pub mod Orders
 pub mod Known
 pub mod Covering

@@ -1,13 +1,12 @@
 -- Orders that are played, turn by turn, over nodes.
-use Rattle.std.proofs.Common.{◌≡◌, Option, Some, None, IfNone, IfSome, ℕ, zero, suc, refl, ◌+◌, ◌<◌, ◌≤◌, ◌↔◌, List, [], ◌∷◌, length, get_or, drop, drop-cons, sym, subst, ap, ◌∙◌, arith}
-use Rattle.jc_check.specs.declared.node.Node.{Node}
+use Rattle.std.proofs.Common.{◌≡◌, ℕ, zero, suc, ◌+◌, ◌<◌, ◌≤◌, ◌↔◌, List, [], ◌∷◌, length, get_or, drop, drop-cons, sym, subst, ap, refl, ◌∙◌, arith}
 use Rattle.jc_check.specs.declared.record.Recorded.{Recorded}
 use Rattle.jc_check.specs.declared.record.Rules.{Rules}
 use Rattle.jc_check.specs.declared.record.Spot.{Spot}
 use Rattle.jc_check.specs.declared.record.Turn.{Turn}
 use Rattle.jc_check.specs.Explains.{Explains}
-use Rattle.jc_check.specs.Nodes.{IsWhole, NodeGoes, NodeValue, node_value, opening_node}
-use Rattle.jc_check.proofs.Continuing.{Continues, continues-before, ended, ends, first-goes, next-of, node-one, opened, opens, rest-continues}
+use Rattle.jc_check.specs.Nodes.{IsWhole, MayGo, NodeGoes, NodeValue, opening_node}
+use Rattle.jc_check.proofs.Continuing.{Continues, continues-before, ended, ends, first-may, opened, opens, rest-continues}
 
 abbrev pub Explaining : Rules → List Recorded → Spot → List Turn → NodeValue → List Turn → Type 0
 Explaining rules calls opening turns n rest = Continues rules calls n rest ↔ Explains rules calls opening turns
@@ -23,14 +22,6 @@ drop-end (suc k) [] h = refl
 drop-end zero (t ∷ ts) h = absurd (omega (arith, h))
 drop-end (suc k) (t ∷ ts) h = drop-end k ts (omega (arith, h))
 
-pub some-goes : (rules : Rules) (calls : List Recorded) (n : NodeValue) (t : Turn) (found : Option Node) (next : Node) → found ≡ Some next
-    → IfSome found (λ m. NodeGoes rules calls n t (node_value m)) → NodeGoes rules calls n t (node_value next)
-some-goes rules calls n t found next is goes = subst (λ (o : Option Node). IfSome o (λ m. NodeGoes rules calls n t (node_value m))) is goes
-
-pub none-goes : (rules : Rules) (calls : List Recorded) (n : NodeValue) (t : Turn) (found : Option Node) → found ≡ None
-    → IfNone found ((next : NodeValue) → NodeGoes rules calls n t next → ⊥) → (next : NodeValue) → NodeGoes rules calls n t next → ⊥
-none-goes rules calls n t found is never = subst (λ (o : Option Node). IfNone o ((next : NodeValue) → NodeGoes rules calls n t next → ⊥)) is never
-
 pub explaining-first : (rules : Rules) (calls : List Recorded) (opening : Spot) (turns : List Turn) (n : NodeValue) → n ≡ opening_node opening
     → Explaining rules calls opening turns n turns
 explaining-first rules calls opening turns n is = (
@@ -44,21 +35,18 @@ pub explaining-next : (rules : Rules) (calls : List Recorded) (opening : Spot) (
 explaining-next rules calls opening turns n next k d h both goes =
     let t = get_or turns k d in
     let ts = drop (k + 1) turns in (
-      λ is. both.0 (subst (Continues rules calls n) (sym (at-drop turns k d h)) (continues-before rules calls n t ts next goes is)),
-      λ is.
-          let here : Continues rules calls n (t ∷ ts) = subst (Continues rules calls n) (at-drop turns k d h) (both.1 is) in
-          subst (λ (m : NodeValue). Continues rules calls m ts)
-          (node-one rules calls n t (next-of rules calls n t ts here) next (first-goes rules calls n t ts here) goes) (rest-continues rules calls n t ts here),
+      λ is. both.0 (subst (Continues rules calls n) (sym (at-drop turns k d h)) (continues-before rules calls n next t ts goes is)),
+      λ is. rest-continues rules calls n next t ts goes (subst (Continues rules calls n) (at-drop turns k d h) (both.1 is)),
     )
 
 pub explaining-never : (rules : Rules) (calls : List Recorded) (opening : Spot) (turns : List Turn) (n : NodeValue) (k : ℕ) (d : Turn) → k < length turns
-    → Explaining rules calls opening turns n (drop k turns) → ((next : NodeValue) → NodeGoes rules calls n (get_or turns k d) next → ⊥)
+    → Explaining rules calls opening turns n (drop k turns) → ((spot : Spot) → MayGo rules calls n (get_or turns k d) spot → ⊥)
     → Explains rules calls opening turns → ⊥
 explaining-never rules calls opening turns n k d h both never is =
     let t = get_or turns k d in
     let ts = drop (k + 1) turns in
     let here : Continues rules calls n (t ∷ ts) = subst (Continues rules calls n) (at-drop turns k d h) (both.1 is) in
-    never (next-of rules calls n t ts here) (first-goes rules calls n t ts here)
+    never here.plays.0 (first-may rules calls n t ts here)
 
 pub explaining-last : (rules : Rules) (calls : List Recorded) (opening : Spot) (turns rest : List Turn) (n : NodeValue) → rest ≡ []
     → Explaining rules calls opening turns n rest → IsWhole calls n ↔ Explains rules calls opening turns

@@ -1,7 +1,8 @@
 pub mod Spot
 pub mod Explains
 pub mod Nodes
+pub mod Orders
 pub mod Laws
 pub mod States
-pub mod Closing
+pub mod Exploring
 pub mod Verdict

@@ -1,6 +1,7 @@
 -- Verdicts.
 --     IsRefuted    no turns explain the record, and these nodes are closed
---     HasMet       more nodes than the budget were met: some turns lead to each of them, and no two are the same
+--     HasMet       more nodes than the budget were met: the opening, and nodes to each of which a turn leads from one before it; no two
+--                  are the same
 --     IsVerdict    a verdict is right: the turns explain the record; or no turns do, since these nodes are closed; or more nodes than
 --                  the budget were met
 use Rattle.std.specs.Prelude.{◌<◌, ℕ, List, length}
@@ -11,15 +12,16 @@ use Rattle.jc_check.specs.declared.states.States.{States}
 use Rattle.jc_check.specs.declared.verdict.Verdict.{Verdict}
 use Rattle.jc_check.specs.declared.verdict.Verdict.TheVariants.{Explained, Refuted, Stopped}
 use Rattle.jc_check.specs.Explains.{Explains, IsExplained}
-use Rattle.jc_check.specs.Nodes.{IsClosed}
-use Rattle.jc_check.specs.States.{AreKnown, node_values}
+use Rattle.jc_check.specs.Nodes.{IsClosed, opening_node}
+use Rattle.jc_check.specs.States.{AreKnown, IsAt, node_values}
 
 pub record IsRefuted (rules : Rules) (calls : List Recorded) (opening : Spot) (states : States) : Type 0 where
   pub none : IsExplained rules calls opening → ⊥
   pub closed : IsClosed rules calls opening (node_values states.list.items)
 
 pub record HasMet (rules : Rules) (calls : List Recorded) (opening : Spot) (budget : ℕ) (states : States) : Type 0 where
-  pub known : AreKnown rules calls opening states
+  pub first : IsAt states 0 (opening_node opening)
+  pub known : AreKnown rules calls states
   pub more : budget < length states.list.items
 
 abbrev pub IsVerdict : Rules → List Recorded → Spot → ℕ → Verdict → Type 0

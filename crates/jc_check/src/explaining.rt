@@ -3,6 +3,7 @@ ghost use Rattle.std.specs.Prelude.{◌↔◌, IfOk, IsTrue};
 ghost use Rattle.jc_check.specs.Explains.{Explains};
 
 use crate::node::Node;
+use crate::order::are_ordered;
 use crate::record::{Recorded, Rules, Spot, Turn};
 use std::alloc::{AllocError, Global};
 
@@ -17,10 +18,11 @@ pub fn does_explain(
 ) -> Result<bool, AllocError>
     ensures { IfOk result (λ explains. IsTrue explains ↔ Explains rules.now calls.now opening.now turns.now) }
 {
+    let is_ordered = are_ordered(calls);
     let mut node = Node::opening(alloc, opening);
     for turn in turns {
-        match node.after(alloc, rules, calls, *turn)? {
-            Some(next) => node = next,
+        match node.spot_after(rules, calls, is_ordered, *turn) {
+            Some(spot) => node = node.next(alloc, rules, calls, is_ordered, *turn, spot)?,
             None => return Ok(false),
         }
     }

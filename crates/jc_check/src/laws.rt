@@ -1,7 +1,12 @@
 //! Laws about verdicts, for provers. None of these functions does anything.
-ghost use Rattle.jc_check.specs.Laws.{ClosedNodesRefute};
+ghost use Rattle.jc_check.specs.Laws.{ClosedNodesRefute, WholeNodesExplain};
 
 /// No order explains a record of which some nodes are closed.
 pub fn closed_nodes_refute()
     ensures { ClosedNodesRefute }
+{}
+
+/// Turns that lead from the opening to a whole node explain a record.
+pub fn whole_nodes_explain()
+    ensures { WholeNodesExplain }
 {}

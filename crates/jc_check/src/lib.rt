@@ -2,24 +2,25 @@
 //! its loader answered and what its writer was asked, by the operation table; or a proof that no order does.
 #![tactic(auto)]
 
-mod closing;
+mod choices;
 mod explaining;
+mod exploring;
 mod fitting;
-mod hints;
+mod guessing;
+mod lanes;
 pub mod laws;
 mod node;
+mod order;
 mod places;
 mod playing;
 mod record;
-mod search;
 mod sights;
 mod states;
-mod turns;
 mod verdict;
 
 pub use explaining::does_explain;
-pub use node::Node;
+pub use node::{Marks, Node};
 pub use places::Places;
 pub use record::{Act, EntrySight, Recorded, Role, Rules, Spot, Stored, Turn};
-pub use states::States;
+pub use states::{States, Step};
 pub use verdict::{Verdict, check};

@@ -1,26 +1,34 @@
 //! Nodes: what the turns so far have done, as far as it counts for those to come.
-ghost use Rattle.std.specs.Prelude.{◌≡◌, ◌↔◌, IfOk, IsTrue, OnOk, Some, None, max, option_map, slice_get};
-ghost use Rattle.std.specs.Prelude.{◌≤◌, ℕ, true, IfSome, IfNone};
+ghost use Rattle.std.specs.Prelude.{◌≡◌, ◌↔◌, ◌<◌, ℕ, IfNone, IfOk, IfSome, IsTrue, OnOk, Some, max, option_map, slice_get, true};
 ghost use Rattle.jc_check.specs.Explains.{call_at, call_of, changes_at, changes_store, is_write_done, placed_call, places, some_if, stored_call};
-ghost use Rattle.jc_check.specs.Nodes.{IsBehind, IsFreeIn, IsFresh, IsWhole, MayFollow, NodeGoes, front_at, fronts_with, is_marked, latest_with};
-ghost use Rattle.jc_check.specs.Nodes.{marked, node_value, node_with, opening_node};
+ghost use Rattle.jc_check.specs.Nodes.{HasLanded, IsFresh, IsLost, IsMarked, IsNot, IsOutrun, IsSettled, IsSettledBy, IsWhole, Keeps, MayGo};
+ghost use Rattle.jc_check.specs.Nodes.{NodeGoes, NotesNext, is_landable, kept, landable_at, landed_call, landed_with, must_at, node_value, opening_node};
+ghost use Rattle.jc_check.specs.Orders.{AreOrdered, IsEnd};
 
+use crate::order::{comes_before, end_of};
 use crate::playing::after_turn;
 use crate::record::{Act, Recorded, Rules, Spot, Turn};
 use jc_model::WriteAnswer;
 use std::alloc::{AllocError, Global};
 
+/// Some calls: those before a number, and those that are marked from there to another one.
+#[derive(Drop)]
+pub struct Marks {
+    /// The first number.
+    pub from: usize,
+    /// The other one.
+    pub end: usize,
+    /// The marks from there on.
+    pub rest: Vec<bool>,
+}
+
 /// What the turns so far have done.
 #[derive(Drop)]
 pub struct Node {
-    /// For each call, up to the last one that is, whether it is placed.
-    pub placed: Vec<bool>,
-    /// For each call, up to the last one that has, whether its write has changed the store.
-    pub stored: Vec<bool>,
-    /// The latest beginning of the calls that have done something.
-    pub latest: u64,
-    /// The same for each thread, up to the last one that has done something.
-    pub fronts: Vec<u64>,
+    /// The calls that are placed, or can't be placed any more.
+    pub settled: Marks,
+    /// Of the calls whose write may land: those whose write has changed the store.
+    pub landed: Vec<usize>,
     /// What is at the key.
     pub spot: Spot,
 }
@@ -108,52 +116,6 @@ impl Turn {
     }
 }
 
-/// Whether a call is marked.
-pub(crate) fn is_marked(marks: &[bool], call: usize) -> bool
-    ensures { result ≡ is_marked marks.now call }
-{
-    if call < marks.len() {
-        marks[call]
-    } else {
-        false
-    }
-}
-
-/// The latest beginning of what a thread's calls have done.
-fn front_at(fronts: &[u64], thread: u32) -> u64
-    ensures { result ≡ front_at fronts.now thread }
-{
-    let at = thread as usize;
-    if at < fronts.len() { fronts[at] } else { 0 }
-}
-
-/// Whether a call, if there is one, isn't marked.
-fn is_free(marks: &[bool], call: Option<usize>) -> bool
-    ensures { IsTrue result ↔ IsFreeIn marks.now call }
-{
-    match call {
-        Some(call) => !is_marked(marks, call),
-        None => true,
-    }
-}
-
-/// Marks a call, if there is one.
-fn mark(marks: &mut Vec<bool>, call: Option<usize>) -> Result<(), AllocError>
-    ensures { OnOk result (marks.new.items ≡ marked call marks.old.items) }
-{
-    match call {
-        Some(call) => {
-            if call >= marks.len() {
-                let count = call.checked_add(1).ok_or(AllocError)?;
-                marks.resize(count, false)?;
-            }
-            marks[call] = true;
-        }
-        None => {}
-    }
-    Ok(())
-}
-
 /// The call with a number, if there is one.
 pub(crate) fn call_at(calls: &[Recorded], call: Option<usize>) -> Option<&Recorded>
     ensures { option_map (λ v. v.now) result ≡ call_at calls.now call }
@@ -164,52 +126,155 @@ pub(crate) fn call_at(calls: &[Recorded], call: Option<usize>) -> Option<&Record
     }
 }
 
-/// The later of two times.
-fn later(one: u64, other: u64) -> u64
+/// Whether a call, if it is there, has to be placed.
+pub(crate) fn must_at(calls: &[Recorded], call: usize) -> bool
+    ensures { result ≡ must_at calls.now call }
+{
+    match calls.get(call) {
+        Some(call) => call.must_be_placed(),
+        None => false,
+    }
+}
+
+/// Whether the write of a call, if it is there, may change the store though the call makes no step, or answered that it failed.
+pub(crate) fn landable_at(calls: &[Recorded], call: usize) -> bool
+    ensures { result ≡ landable_at calls.now call }
+{
+    match calls.get(call) {
+        Some(call) => call.may_land(),
+        None => false,
+    }
+}
+
+/// The same of a call that acts, if one does.
+fn is_landable(call: Option<&Recorded>) -> bool
+    ensures { result ≡ is_landable (option_map (λ v. v.now) call.entry) }
+{
+    match call {
+        Some(call) => call.may_land(),
+        None => false,
+    }
+}
+
+/// A call, under a condition.
+fn kept(is_kept: bool, call: Option<usize>) -> Option<usize>
+    ensures { result ≡ kept is_kept call }
+{
+    if is_kept { call } else { None }
+}
+
+impl Turn {
+    /// The call whose write may land and changes the store, if one does.
+    pub(crate) fn landed_call(&self, calls: &[Recorded]) -> Option<usize>
+        ensures { result ≡ landed_call calls.now self.now }
+    {
+        kept(
+            is_landable(call_at(calls, self.call_of())),
+            self.stored_call(calls),
+        )
+    }
+}
+
+impl Marks {
+    /// Whether a call is marked.
+    fn has(&self, call: usize) -> bool
+        ensures { IsTrue result ↔ IsMarked self.now.from self.now.end self.now.rest.items call }
+    {
+        if call < self.from {
+            return true;
+        }
+        let place = call - self.from;
+        if call < self.end && place < self.rest.len() {
+            self.rest[place]
+        } else {
+            false
+        }
+    }
+}
+
+impl Marks {
+    /// Notes whether the next call is marked. An `Err` says that an allocation failed.
+    fn note(&mut self, call: usize, is_marked: bool) -> Result<(), AllocError>
+        requires { call < usize.MAX }
+        ensures end { OnOk result (self.new.end ≡ self.old.end) }
+        ensures next { OnOk result (NotesNext self.old self.new call is_marked) }
+    {
+        if is_marked && self.rest.is_empty() {
+            self.from = call + 1;
+            return Ok(());
+        }
+        self.rest.push(is_marked)?;
+        Ok(())
+    }
+}
+
+/// The larger of two numbers.
+fn larger(one: usize, other: usize) -> usize
     ensures { result ≡ max one other }
 {
     if one < other { other } else { one }
 }
 
-/// The latest beginning, with one more call, if there is one.
-fn latest_with(latest: u64, call: Option<&Recorded>) -> u64
-    ensures { result ≡ latest_with (option_map (λ v. v.now) call.entry) latest }
+/// Whether a call is in a list.
+fn has_landed(landed: &[usize], call: usize) -> bool
+    ensures { IsTrue result ↔ HasLanded landed.now call }
+{
+    for other in landed {
+        if *other == call {
+            return true;
+        }
+    }
+    false
+}
+
+/// Whether a call, if there is one, isn't in a list.
+fn is_unlanded(landed: &[usize], call: Option<usize>) -> bool
+    ensures { IsTrue result ↔ IsNot (HasLanded landed.now) call }
 {
     match call {
-        Some(call) => later(latest, call.began),
-        None => latest,
+        Some(call) => !has_landed(landed, call),
+        None => true,
     }
 }
 
-/// Notes the beginning of one more call, if there is one.
-fn note_front(fronts: &mut Vec<u64>, call: Option<&Recorded>) -> Result<(), AllocError>
-    ensures { OnOk result (fronts.new.items ≡ fronts_with (option_map (λ v. v.now) call.entry) fronts.old.items) }
+/// Whether each of some calls is in a list.
+pub(crate) fn are_landed(some: &[usize], landed: &[usize]) -> bool
+    ensures { IsTrue result ↔ ((call : ℕ) → HasLanded some.now call → HasLanded landed.now call) }
+{
+    for call in some {
+        if !has_landed(landed, *call) {
+            return false;
+        }
+    }
+    true
+}
+
+/// Appends a call, if there is one.
+fn push_landed(landed: &mut Vec<usize>, call: Option<usize>) -> Result<(), AllocError>
+    ensures { OnOk result (landed.new.items ≡ landed_with call landed.old.items) }
 {
     match call {
-        Some(call) => {
-            let at = call.thread as usize;
-            let front = later(front_at(fronts, call.thread), call.began);
-            if at >= fronts.len() {
-                fronts.resize(at + 1, 0)?;
-            }
-            fronts[at] = front;
-        }
+        Some(call) => landed.push(call)?,
         None => {}
     }
     Ok(())
 }
 
-/// Whether a call that ended then doesn't have to come before what began by `latest`.
-fn is_past(is_real: bool, ended: Option<u64>, latest: u64) -> bool
-    ensures { IsTrue result ↔ (is_real ≡ true → (at : ℕ) → ended ≡ Some at → latest ≤ at) }
+/// Whether this is that call.
+fn is_call(placed: Option<usize>, call: usize) -> bool
+    ensures { IsTrue result ↔ (placed ≡ Some call) }
 {
-    if !is_real {
-        return true;
+    match placed {
+        Some(placed) => placed == call,
+        None => false,
     }
-    match ended {
-        Some(at) => latest <= at,
-        None => true,
-    }
+}
+
+/// Whether a call that need not be placed can't be placed after a turn.
+fn is_outrun(rules: &Rules, calls: &[Recorded], turn: Turn, call: usize) -> bool
+    ensures { IsTrue result ↔ IsOutrun rules.now calls.now turn call }
+{
+    !must_at(calls, call) && comes_before(rules, calls, call, turn)
 }
 
 impl Node {
@@ -218,96 +283,155 @@ impl Node {
         ensures { node_value result ≡ opening_node spot.now }
     {
         Node {
-            placed: Vec::new(alloc),
-            stored: Vec::new(alloc),
-            latest: 0,
-            fronts: Vec::new(alloc),
+            settled: Marks {
+                from: 0,
+                end: 0,
+                rest: Vec::new(alloc),
+            },
+            landed: Vec::new(alloc),
             spot: *spot,
         }
     }
 
-    /// Whether a call doesn't have to come before what has been done.
-    fn is_behind(&self, rules: &Rules, call: &Recorded) -> bool
-        ensures { IsTrue result ↔ IsBehind rules.now (node_value self.now) call.now }
+    /// Whether a call is placed, or can't be placed any more.
+    pub fn is_settled(&self, call: usize) -> bool
+        ensures { IsTrue result ↔ IsSettled (node_value self.now) call }
     {
-        is_past(rules.is_real, call.ended, self.latest)
-            && front_at(&self.fronts, call.thread) <= call.began
+        self.settled.has(call)
     }
 
-    /// Whether the call that a turn places doesn't have to come before what has been done.
-    fn may_follow(&self, rules: &Rules, calls: &[Recorded], turn: Turn) -> bool
-        ensures { IsTrue result ↔ MayFollow rules.now calls.now (node_value self.now) turn }
+    /// Whether the call that a turn places isn't settled.
+    fn is_placeable(&self, turn: Turn) -> bool
+        ensures { IsTrue result ↔ IsNot (IsSettled (node_value self.now)) (placed_call turn) }
     {
-        match call_at(calls, turn.placed_call()) {
-            Some(call) => self.is_behind(rules, call),
+        match turn.placed_call() {
+            Some(call) => !self.is_settled(call),
             None => true,
         }
     }
 
-    /// Whether a turn places no call that is placed, and no write changes the store again in it.
+    /// Whether a turn places no call that is settled, and no write changes the store again in it.
     fn is_fresh(&self, calls: &[Recorded], turn: Turn) -> bool
         ensures { IsTrue result ↔ IsFresh calls.now (node_value self.now) turn }
     {
-        is_free(&self.placed, turn.placed_call()) && is_free(&self.stored, turn.stored_call(calls))
+        self.is_placeable(turn) && is_unlanded(&self.landed, turn.landed_call(calls))
     }
 
-    /// The node with one more turn, after which this is at the key.
-    fn with(
-        &self,
-        alloc: Global,
-        calls: &[Recorded],
-        turn: Turn,
-        spot: Spot,
-    ) -> Result<Node, AllocError>
-        ensures { IfOk result (λ node. node_value node ≡ node_with calls.now (node_value self.now) turn spot) }
+    /// Whether this call has to be placed, isn't settled, and can't be placed after a turn that doesn't place it.
+    fn is_lost(&self, rules: &Rules, calls: &[Recorded], turn: Turn, call: usize) -> bool
+        ensures { IsTrue result ↔ IsLost rules.now calls.now (node_value self.now) turn call }
     {
-        let mut placed = Vec::from_slice(alloc, &self.placed)?;
-        mark(&mut placed, turn.placed_call())?;
-        let mut stored = Vec::from_slice(alloc, &self.stored)?;
-        mark(&mut stored, turn.stored_call(calls))?;
-        let mut fronts = Vec::from_slice(alloc, &self.fronts)?;
-        note_front(&mut fronts, call_at(calls, turn.call_of()))?;
-        let latest = latest_with(self.latest, call_at(calls, turn.call_of()));
-        Ok(Node {
-            placed,
-            stored,
-            latest,
-            fronts,
-            spot,
-        })
+        must_at(calls, call)
+            && !self.is_settled(call)
+            && !is_call(turn.placed_call(), call)
+            && comes_before(rules, calls, call, turn)
     }
 
-    /// The node to which a turn leads, if it may be made. An `Err` says that an allocation failed.
-    pub fn after(
+    /// Whether no call that has to be placed, and isn't, has to come before what a turn does; none from `end` on does.
+    fn keeps(&self, rules: &Rules, calls: &[Recorded], turn: Turn, end: usize) -> bool
+        requires { IsEnd rules.now calls.now turn end }
+        ensures { IsTrue result ↔ Keeps rules.now calls.now (node_value self.now) turn }
+    {
+        for call in self.settled.from..end {
+            if self.is_lost(rules, calls, turn, call) {
+                return false;
+            }
+        }
+        true
+    }
+
+    /// Whether a call is settled after a turn.
+    fn is_settled_by(&self, rules: &Rules, calls: &[Recorded], turn: Turn, call: usize) -> bool
+        ensures { IsTrue result ↔ IsSettledBy rules.now calls.now (node_value self.now) turn call }
+    {
+        self.is_settled(call)
+            || is_call(turn.placed_call(), call)
+            || is_outrun(rules, calls, turn, call)
+    }
+
+    /// The calls that are settled after a turn that may be made.
+    fn settled_by(
         &self,
         alloc: Global,
         rules: &Rules,
         calls: &[Recorded],
         turn: Turn,
-    ) -> Result<Option<Node>, AllocError>
-        ensures some { IfOk result (λ found. IfSome found (λ next.
-            NodeGoes rules.now calls.now (node_value self.now) turn (node_value next))) }
-        ensures none { IfOk result (λ found. IfNone found ((next : _) →
-            NodeGoes rules.now calls.now (node_value self.now) turn next → ⊥)) }
+        end: usize,
+    ) -> Result<Marks, AllocError>
+        requires last { IsEnd rules.now calls.now turn end }
+        requires placed { (call : ℕ) → placed_call turn ≡ Some call → call < end }
+        ensures { IfOk result (λ marks. (call : ℕ) → IsMarked marks.from marks.end marks.rest.items call
+            ↔ IsSettledBy rules.now calls.now (node_value self.now) turn call) }
     {
-        if !self.is_fresh(calls, turn) || !self.may_follow(rules, calls, turn) {
-            return Ok(None);
+        let end = larger(end, self.settled.end);
+        let mut marks = Marks {
+            from: self.settled.from,
+            end,
+            rest: Vec::new(alloc),
+        };
+        for call in self.settled.from..end {
+            let is_settled = self.is_settled_by(rules, calls, turn, call);
+            marks.note(call, is_settled)?;
+        }
+        Ok(marks)
+    }
+
+    /// What is at the key after a turn, if it may be made.
+    pub(crate) fn spot_after(
+        &self,
+        rules: &Rules,
+        calls: &[Recorded],
+        is_ordered: bool,
+        turn: Turn,
+    ) -> Option<Spot>
+        requires { is_ordered ≡ true → AreOrdered calls.now }
+        ensures some { IfSome result (λ spot. MayGo rules.now calls.now (node_value self.now) turn spot) }
+        ensures none { IfNone result ((spot : _) → MayGo rules.now calls.now (node_value self.now) turn spot → ⊥) }
+    {
+        if !self.is_fresh(calls, turn) {
+            return None;
+        }
+        let end = end_of(rules, calls, is_ordered, turn);
+        if !self.keeps(rules, calls, turn, end) {
+            return None;
         }
         match after_turn(rules, calls, &self.spot, turn) {
-            Some(spot) => {
-                let next = self.with(alloc, calls, turn, spot)?;
-                Ok(Some(next))
-            }
-            None => Ok(None),
+            Some(spot) => Some(spot),
+            None => None,
         }
     }
 
-    /// Whether each call that has to be placed is placed.
+    /// The node to which a turn leads that may be made, and leaves this at the key. An `Err` says that an allocation failed.
+    pub(crate) fn next(
+        &self,
+        alloc: Global,
+        rules: &Rules,
+        calls: &[Recorded],
+        is_ordered: bool,
+        turn: Turn,
+        spot: Spot,
+    ) -> Result<Node, AllocError>
+        requires ordered { is_ordered ≡ true → AreOrdered calls.now }
+        requires goes { MayGo rules.now calls.now (node_value self.now) turn spot }
+        ensures { IfOk result (λ next. NodeGoes rules.now calls.now (node_value self.now) turn (node_value next)) }
+    {
+        let end = end_of(rules, calls, is_ordered, turn);
+        let settled = self.settled_by(alloc, rules, calls, turn, end)?;
+        let mut landed = Vec::from_slice(alloc, &self.landed)?;
+        push_landed(&mut landed, turn.landed_call(calls))?;
+        Ok(Node {
+            settled,
+            landed,
+            spot,
+        })
+    }
+
+    /// Whether each call that has to be placed is settled.
     pub fn is_whole(&self, calls: &[Recorded]) -> bool
         ensures { IsTrue result ↔ IsWhole calls.now (node_value self.now) }
     {
-        for call in 0..calls.len() {
-            if calls[call].must_be_placed() && !is_marked(&self.placed, call) {
+        for call in self.settled.from..calls.len() {
+            if must_at(calls, call) && !self.is_settled(call) {
                 return false;
             }
         }

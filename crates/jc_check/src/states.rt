@@ -1,19 +1,29 @@
 //! The nodes that a search has come to, each once.
-ghost use Rattle.std.specs.Prelude.{◌≡◌, ◌↔◌, ◌<◌, ◌++◌, ◌∷◌, [], IsTrue, OnOk, length};
+ghost use Rattle.std.specs.Prelude.{◌≡◌, ◌↔◌, ◌<◌, ◌++◌, ◌∷◌, [], IfOk, IsTrue, OnOk, length, true};
 ghost use Rattle.std.specs.List.{fold};
-ghost use Rattle.jc_check.specs.Nodes.{IsAmong, IsReached, node_value};
-ghost use Rattle.jc_check.specs.States.{AreKnown, HavePlaces, HavePrints, HaveSameParts, HaveSameSpots, IsNodeAt, node_values, print_of, print_with, print_with_entry, print_with_mark};
-ghost use Rattle.jc_check.specs.States.{print_with_store};
+ghost use Rattle.jc_check.specs.Nodes.{IsAmong, IsCovered, IsCovering, NodeValue, PlaysNodes, node_value};
+ghost use Rattle.jc_check.specs.States.{AreKnown, Comes, Grows, HasMorePlaces, HavePlaces, HavePrints, HaveSameMarks, HaveSameParts, HaveSameSpots, IsAt, IsEmpty};
+ghost use Rattle.jc_check.specs.States.{IsNodeAt, node_values, print_of, print_of_rest, print_with, print_with_entry, print_with_load, print_with_mark};
+ghost use Rattle.jc_check.specs.States.{print_with_spot, print_with_store};
 
-use crate::node::Node;
+use crate::node::{Node, are_landed};
 use crate::places::Places;
-use crate::record::{Recorded, Rules, Spot, Stored};
+use crate::record::{Recorded, Rules, Spot, Stored, Turn};
 use jc_model::LoadAnswer;
 use jc_types::Value;
 use std::alloc::{AllocError, Global};
 
 /// The factor of a fingerprint for each further number: that of FNV-1a for 64 bits.
 const PRINT_FACTOR: u64 = 1099511628211;
+
+/// How a search came to a node.
+#[derive(Clone, Copy, PartialEq, Eq)]
+pub struct Step {
+    /// The place of the node before it.
+    pub from: usize,
+    /// The turn that led from there to it.
+    pub turn: Turn,
+}
 
 /// The nodes, in the order in which they were met.
 #[derive(Drop)]
@@ -22,10 +32,14 @@ pub struct States {
     pub alloc: Global,
     /// The nodes.
     pub list: Vec<Node>,
+    /// How each was met; of the opening it says nothing.
+    pub steps: Vec<Step>,
     /// The fingerprint of each.
     pub prints: Vec<u64>,
     /// The places of the fingerprints.
     pub places: Places,
+    /// The places of the fingerprints without the writes that have landed.
+    pub near: Places,
 }
 
 /// A fingerprint with one more number.
@@ -53,6 +67,17 @@ fn with_marks(print: u64, marks: &[bool]) -> u64
     let mut longer = print;
     for mark in marks {
         longer = with_mark(longer, *mark);
+    }
+    longer
+}
+
+/// A fingerprint with calls.
+fn with_calls(print: u64, calls: &[usize]) -> u64
+    ensures { result ≡ fold print_with print calls.now }
+{
+    let mut longer = print;
+    for call in calls {
+        longer = with_word(longer, *call as u64);
     }
     longer
 }
@@ -86,6 +111,28 @@ fn with_store(print: u64, store: &Stored) -> u64
         Stored::Unknown => with_word(print, 4),
         Stored::Known(value) => with_entry(print, value),
     }
+}
+
+/// A fingerprint with a loader's answer.
+fn with_load(print: u64, answer: &LoadAnswer) -> u64
+    ensures { result ≡ print_with_load print answer.now }
+{
+    match answer {
+        LoadAnswer::NotAsked => with_word(print, 5),
+        LoadAnswer::Found(value) => with_bytes(with_word(print, 6), value.bytes()),
+        LoadAnswer::Nothing => with_word(print, 7),
+        LoadAnswer::Failed(code) => with_word(with_word(print, 8), *code as u64),
+    }
+}
+
+/// A fingerprint with what is at a key.
+fn with_spot(print: u64, spot: &Spot) -> u64
+    ensures { result ≡ print_with_spot print spot.now }
+{
+    with_load(
+        with_store(with_entry(print, &spot.entry), &spot.store),
+        &spot.shared,
+    )
 }
 
 /// Whether two lists of marks are the same.
@@ -148,8 +195,8 @@ fn is_same_spot(first: &Spot, second: &Spot) -> bool
         && is_same_load(&first.shared, &second.shared)
 }
 
-/// Whether two lists of times are the same.
-fn are_same_times(first: &[u64], second: &[u64]) -> bool
+/// Whether two lists of calls are the same.
+fn are_same_calls(first: &[usize], second: &[usize]) -> bool
     ensures { IsTrue result ↔ (first.now ≡ second.now) }
 {
     if first.len() != second.len() {
@@ -164,23 +211,37 @@ fn are_same_times(first: &[u64], second: &[u64]) -> bool
 }
 
 impl Node {
+    /// A number by which nodes are looked up that differ at most in the writes that have landed.
+    pub(crate) fn print_of_rest(&self) -> u64
+        ensures { result ≡ print_of_rest (node_value self.now) }
+    {
+        let from = with_word(0, self.settled.from as u64);
+        let marks = with_marks(with_word(from, self.settled.end as u64), &self.settled.rest);
+        with_spot(marks, &self.spot)
+    }
+
     /// A number by which nodes are looked up: equal nodes have the same number.
     pub(crate) fn print(&self) -> u64
         ensures { result ≡ print_of (node_value self.now) }
     {
-        let placed = with_marks(0, &self.placed);
-        let stored = with_marks(with_word(placed, 5), &self.stored);
-        with_store(with_entry(stored, &self.spot.entry), &self.spot.store)
+        with_calls(self.print_of_rest(), &self.landed)
+    }
+
+    /// Whether the same calls are settled in two nodes.
+    fn has_same_marks(&self, other: &Node) -> bool
+        ensures { IsTrue result ↔ HaveSameMarks (node_value self.now) (node_value other.now) }
+    {
+        self.settled.from == other.settled.from
+            && self.settled.end == other.settled.end
+            && are_same_marks(&self.settled.rest, &other.settled.rest)
     }
 
     /// Whether two nodes have the same parts.
     fn has_same_parts(&self, other: &Node) -> bool
         ensures { IsTrue result ↔ HaveSameParts (node_value self.now) (node_value other.now) }
     {
-        are_same_marks(&self.placed, &other.placed)
-            && are_same_marks(&self.stored, &other.stored)
-            && self.latest == other.latest
-            && are_same_times(&self.fronts, &other.fronts)
+        self.has_same_marks(other)
+            && are_same_calls(&self.landed, &other.landed)
             && is_same_spot(&self.spot, &other.spot)
     }
 
@@ -190,19 +251,33 @@ impl Node {
     {
         self.has_same_parts(other)
     }
+
+    /// Whether what may follow another node may follow this one, too.
+    pub(crate) fn covers(&self, other: &Node) -> bool
+        ensures { result ≡ true → IsCovering (node_value self.now) (node_value other.now) }
+    {
+        if !self.has_same_marks(other) {
+            return false;
+        }
+        if !is_same_spot(&self.spot, &other.spot) {
+            return false;
+        }
+        are_landed(&self.landed, &other.landed)
+    }
 }
 
 impl States {
     /// No nodes.
     pub(crate) fn new(alloc: Global) -> States
-        ensures list { result.list.items ≡ [] }
-        ensures prints { result.prints.items ≡ [] }
+        ensures { IsEmpty result }
     {
         States {
             alloc,
             list: Vec::new(alloc),
+            steps: Vec::new(alloc),
             prints: Vec::new(alloc),
             places: Places::new(alloc),
+            near: Places::new(alloc),
         }
     }
 
@@ -273,45 +348,131 @@ impl States {
         }
     }
 
-    /// Adds a node that isn't known. An `Err` says that an allocation failed.
-    pub(crate) fn add(
-        &mut self,
-        rules: &Rules,
-        calls: &[Recorded],
-        opening: &Spot,
-        node: Node,
-    ) -> Result<(), AllocError>
-        requires known { AreKnown rules.now calls.now opening.now self.old }
-        requires reached { IsReached rules.now calls.now opening.now (node_value node) }
-        requires new { IsAmong (node_values self.old.list.items) (node_value node) → ⊥ }
-        ensures known { OnOk result (AreKnown rules.now calls.now opening.now self.new) }
-        ensures list { OnOk result (self.new.list.items ≡ self.old.list.items ++ node ∷ []) }
+    /// Whether a node that differs at most in the writes that have landed covers this one.
+    fn covers(&self, node: &Node) -> bool
+        ensures { result ≡ true → IsCovered (node_values self.now.list.items) (node_value node.now) }
     {
-        let _calls = (*rules, calls.len(), *opening);
+        match self.near.find(node.print_of_rest()) {
+            Some(place) => place < self.list.len() && self.list[place].covers(node),
+            None => false,
+        }
+    }
+
+    /// Notes the place of a node that is to be added, if no other one differs from it at most in the writes that have landed.
+    fn note_near(&mut self, node: &Node) -> Result<(), AllocError>
+        ensures list { OnOk result (self.new.list ≡ self.old.list) }
+        ensures steps { OnOk result (self.new.steps ≡ self.old.steps) }
+        ensures prints { OnOk result (self.new.prints ≡ self.old.prints) }
+        ensures places { OnOk result (self.new.places ≡ self.old.places) }
+    {
+        let print = node.print_of_rest();
+        if self.near.find(print).is_none() {
+            let place = self.list.len();
+            self.near.note(print, place)?;
+        }
+        Ok(())
+    }
+
+    /// Appends a node. An `Err` says that an allocation failed.
+    fn push(&mut self, node: Node, step: Step) -> Result<(), AllocError>
+        ensures list { OnOk result (self.new.list.items ≡ self.old.list.items ++ node ∷ []) }
+        ensures steps { OnOk result (self.new.steps.items ≡ self.old.steps.items ++ step ∷ []) }
+        ensures prints { OnOk result (self.new.prints.items ≡ self.old.prints.items ++ print_of (node_value node) ∷ []) }
+        ensures places { OnOk result (HasMorePlaces self.old.places self.new.places (print_of (node_value node))) }
+    {
+        self.note_near(&node)?;
         let print = node.print();
         let place = self.list.len();
         self.places.note(print, place)?;
         self.prints.push(print)?;
+        self.steps.push(step)?;
         self.list.push(node)?;
         Ok(())
     }
 
-    /// Notes a node, and returns whether it is new. An `Err` says that an allocation failed.
+    /// Adds the first node. An `Err` says that an allocation failed.
+    pub(crate) fn begin(
+        &mut self,
+        rules: &Rules,
+        calls: &[Recorded],
+        node: Node,
+    ) -> Result<(), AllocError>
+        requires { IsEmpty self.old }
+        ensures known { OnOk result (AreKnown rules.now calls.now self.new) }
+        ensures first { OnOk result (IsAt self.new 0 (node_value node)) }
+    {
+        let _calls = (*rules, calls.len());
+        self.push(
+            node,
+            Step {
+                from: 0,
+                turn: Turn::Vanish,
+            },
+        )?;
+        Ok(())
+    }
+
+    /// Adds a node that isn't known. An `Err` says that an allocation failed.
+    fn add(
+        &mut self,
+        rules: &Rules,
+        calls: &[Recorded],
+        node: Node,
+        step: Step,
+    ) -> Result<(), AllocError>
+        requires known { AreKnown rules.now calls.now self.old }
+        requires comes { Comes rules.now calls.now self.old step (node_value node) }
+        requires new { IsAmong (node_values self.old.list.items) (node_value node) → ⊥ }
+        ensures known { OnOk result (AreKnown rules.now calls.now self.new) }
+        ensures list { OnOk result (self.new.list.items ≡ self.old.list.items ++ node ∷ []) }
+    {
+        let _calls = (*rules, calls.len());
+        self.push(node, step)?;
+        Ok(())
+    }
+
+    /// Notes a node to which a turn leads, unless a node covers it that is known. An `Err` says that an allocation failed.
     pub(crate) fn note(
         &mut self,
         rules: &Rules,
         calls: &[Recorded],
-        opening: &Spot,
         node: Node,
-    ) -> Result<bool, AllocError>
-        requires known { AreKnown rules.now calls.now opening.now self.old }
-        requires reached { IsReached rules.now calls.now opening.now (node_value node) }
-        ensures { OnOk result (AreKnown rules.now calls.now opening.now self.new) }
+        step: Step,
+    ) -> Result<(), AllocError>
+        requires known { AreKnown rules.now calls.now self.old }
+        requires comes { Comes rules.now calls.now self.old step (node_value node) }
+        ensures known { OnOk result (AreKnown rules.now calls.now self.new) }
+        ensures grows { OnOk result (Grows self.old self.new) }
+        ensures covers { OnOk result (IsCovered (node_values self.new.list.items) (node_value node)) }
     {
-        if self.has(&node) {
-            return Ok(false);
+        if self.covers(&node) || self.has(&node) {
+            return Ok(());
         }
-        self.add(rules, calls, opening, node)?;
-        Ok(true)
+        self.add(rules, calls, node, step)?;
+        Ok(())
+    }
+
+    /// The turns that lead from the opening to the node at a place. An `Err` says that an allocation failed.
+    pub(crate) fn path_to(
+        &self,
+        rules: &Rules,
+        calls: &[Recorded],
+        place: usize,
+    ) -> Result<Vec<Turn>, AllocError>
+        requires known { AreKnown rules.now calls.now self.now }
+        requires inside { place < length self.now.list.items }
+        ensures { IfOk result (λ turns. (first n : NodeValue) → IsAt self.now 0 first → IsAt self.now place n
+            → PlaysNodes rules.now calls.now first turns.items n) }
+    {
+        let _calls = (*rules, calls.len());
+        let mut turns = Vec::new(self.alloc);
+        let mut at = place;
+        while 0 < at {
+            let step = self.steps[at];
+            turns.push(step.turn)?;
+            at = step.from;
+        }
+        turns.reverse();
+        Ok(turns)
     }
 }

@@ -1,14 +1,15 @@
 //! The verdict on what was recorded at one key.
-ghost use Rattle.std.specs.Prelude.{◌≡◌, IfOk, OnOk};
+ghost use Rattle.std.specs.Prelude.{◌≡◌, IfOk};
+ghost use Rattle.jc_check.specs.Nodes.{opening_node};
 ghost use Rattle.jc_check.specs.Verdict.{IsVerdict};
-ghost use Rattle.jc_check.specs.States.{AreKnown};
+ghost use Rattle.jc_check.specs.States.{AreKnown, IsAt};
 
-use crate::closing::is_closed;
 use crate::explaining::does_explain;
-use crate::laws::closed_nodes_refute;
+use crate::exploring::{Ending, explore, survey_of};
+use crate::guessing::guess;
+use crate::laws::{closed_nodes_refute, whole_nodes_explain};
 use crate::node::Node;
 use crate::record::{Recorded, Rules, Spot, Turn};
-use crate::search::{Ending, search};
 use crate::states::States;
 use std::alloc::{AllocError, Global};
 
@@ -30,19 +31,19 @@ fn first_states(
     calls: &[Recorded],
     opening: &Spot,
 ) -> Result<States, AllocError>
-    ensures { IfOk result (λ states. AreKnown rules.now calls.now opening.now states) }
+    ensures known { IfOk result (λ states. AreKnown rules.now calls.now states) }
+    ensures first { IfOk result (λ states. IsAt states 0 (opening_node opening.now)) }
 {
     let mut states = States::new(alloc);
-    states.note(rules, calls, opening, Node::opening(alloc, opening))?;
+    states.begin(rules, calls, Node::opening(alloc, opening))?;
     Ok(states)
 }
 
 /// Whether some order of turns explains what was recorded at a key, where this was there at first: it tries orders until one explains
-/// it, or all are tried, or it has met more than `budget` nodes. The calls are in the order of their beginnings; in another order
-/// the verdict is right, but more often that the budget is spent.
+/// it, or all are tried, or it has met more than `budget` nodes. The calls are in the order of their beginnings, and none ended before
+/// it began; otherwise the verdict is right, but it takes longer, and more often the budget is spent.
 ///
-/// An `Err` says that an allocation failed, or that the search was wrong: what it found is checked. That never happens, but isn't
-/// proved.
+/// An `Err` says that an allocation failed.
 pub fn check(
     alloc: Global,
     rules: &Rules,
@@ -53,25 +54,20 @@ pub fn check(
     ensures { IfOk result (λ verdict. IsVerdict rules.now calls.now opening.now budget verdict) }
 {
     closed_nodes_refute();
+    whole_nodes_explain();
+    if let Some(turns) = guess(alloc, rules, calls, opening, budget)? {
+        if does_explain(alloc, rules, calls, opening, &turns)? {
+            return Ok(Verdict::Explained(turns));
+        }
+    }
+    let survey = survey_of(alloc, calls)?;
     let mut states = first_states(alloc, rules, calls, opening)?;
-    match search(rules, calls, opening, budget, &mut states)? {
-        Ending::Whole(turns) => {
-            if !does_explain(alloc, rules, calls, opening, &turns)? {
-                return Err(AllocError);
-            }
+    match explore(rules, calls, &survey, budget, &mut states)? {
+        Ending::Whole(place) => {
+            let turns = states.path_to(rules, calls, place)?;
             Ok(Verdict::Explained(turns))
         }
-        Ending::Closed => {
-            if !is_closed(rules, calls, opening, &states)? {
-                return Err(AllocError);
-            }
-            Ok(Verdict::Refuted(states))
-        }
-        Ending::Spent => {
-            if states.list.len() <= budget {
-                return Err(AllocError);
-            }
-            Ok(Verdict::Stopped(states))
-        }
+        Ending::Closed => Ok(Verdict::Refuted(states)),
+        Ending::Spent => Ok(Verdict::Stopped(states)),
     }
 }

@@ -3,7 +3,10 @@ use Rattle.std.proofs.Common.{◌≡◌, ◌≢◌, ◌<◌, ◌^◌, ◌∙◌,
 use Rattle.std.specs.Str.Parse.{IsNumeral, ParsesUnsigned, digits_value, without_leading_plus}
 use Rattle.clap.specs.Walk.{Row, Text, one_of}
 use Rattle.clap.specs.Matches.{ReadsOne}
-use Rattle.jc_commands.specs.CommandLine.{IsAsked, SpellsOr, SpellsIf}
+use Rattle.clap.specs.Words.{first_of}
+use Rattle.jc_commands.specs.CommandLine.{IsAsked, SpellsOr, SpellsIf, choice_of}
+use Rattle.jc_commands.specs.declared.checking.TheConstants.{KEY_STATES_DEFAULT}
+use Rattle.jc_commands.specs.declared.checking.Choice.TheVariants.{First}
 use Rattle.jc_commands.specs.declared.budget.TheConstants.{STATES_DEFAULT}
 use Rattle.jc_commands.specs.declared.commands.Task.{Task}
 use Rattle.jc_commands.specs.declared.commands.Task.TheVariants as task
@@ -41,6 +44,15 @@ explore_is_no_shell e = search rules
 threads_is_no_shell : codes "threads" ≢ codes "shell"
 threads_is_no_shell e = search rules
 
+explore_is_no_check : codes "explore" ≢ codes "check"
+explore_is_no_check e = search rules
+
+threads_is_no_check : codes "threads" ≢ codes "check"
+threads_is_no_check e = search rules
+
+check_is_no_shell : codes "check" ≢ codes "shell"
+check_is_no_shell e = search rules
+
 -- the states of an option that isn't there, or of one that spells their number
 pub by_default : (n : ℕ) → SpellsOr STATES_DEFAULT None n → n ≡ STATES_DEFAULT
 by_default n spells = spells
@@ -57,6 +69,8 @@ pub asks_to_explore : (found : Option (Text × List Row)) (one : Option Text) (w
     → (t : Task) → IsAsked found t → t ≡ task.Explore wanted
 asks_to_explore found one wanted named has reads task.Run not_named = absurd (not_named.1 named)
 asks_to_explore found one wanted named has reads task.Shell is = absurd (explore_is_no_shell (some_injective (sym named ∙ is)))
+asks_to_explore found one wanted named has reads (task.Check plan) (options, is, p) =
+    absurd (explore_is_no_check (some_injective (sym named ∙ ap (option_map (λ named. named.0)) is)))
 asks_to_explore found one wanted named has reads (task.Threads plan) (options, is, s, s', s'') =
     absurd (explore_is_other (some_injective (sym named ∙ ap (option_map (λ named. named.0)) is)))
 asks_to_explore found one wanted named has reads (task.Explore states) (options, is, s) =
@@ -79,6 +93,8 @@ asks found workers rounds history events named has_workers has_rounds has_histor
     absurd (threads_is_no_shell (some_injective (sym named ∙ is)))
 asks found workers rounds history events named has_workers has_rounds has_history w w' r r' reads (task.Explore states) (options, is, s) =
     absurd (explore_is_other (some_injective (sym (ap (option_map (λ named. named.0)) is) ∙ named)))
+asks found workers rounds history events named has_workers has_rounds has_history w w' r r' reads (task.Check plan) (options, is, p) =
+    absurd (threads_is_no_check (some_injective (sym named ∙ ap (option_map (λ named. named.0)) is)))
 asks found workers rounds history events named has_workers has_rounds has_history w w' r r' reads (task.Threads plan) (options, is, s, s', s'') =
     let a = spelled found (codes "workers") workers options plan.workers is has_workers w w' s in
     let b = spelled found (codes "rounds") rounds options plan.rounds is has_rounds r r' s' in
@@ -107,3 +123,29 @@ reads_if gives (Some text) (Some n) unsigned none value = λ numeral small. let 
 reads_if gives (Some text) None unsigned none value = λ numeral small.
     let failed = value text refl in
     absurd (unsigned text (Err failed.0) failed.1 (numeral, small))
+
+pub states_by_default : (n : ℕ) → SpellsOr KEY_STATES_DEFAULT None n → n ≡ KEY_STATES_DEFAULT
+states_by_default n spells = spells
+
+abbrev pub word_in : Text → Option (Text × List Row) → Option (Option Text)
+word_in name = option_map (λ named. first_of name named.1)
+
+-- the task of such a subcommand, if it is `check` and has no option
+pub asks_to_check : (found : Option (Text × List Row))
+    → option_map (λ named. named.0) found ≡ Some (codes "check")
+    → word_in (codes "rules") found ≡ Some None → word_in (codes "order") found ≡ Some None → word_in (codes "evict") found ≡ Some None
+    → option_in (codes "states") found ≡ Some None
+    → (t : Task) → IsAsked found t → t ≡ task.Check (record { rules = First; order = First; evict = First; states = KEY_STATES_DEFAULT })
+asks_to_check found named r o e s task.Run not_named = absurd (not_named.2 named)
+asks_to_check found named r o e s task.Shell is = absurd (check_is_no_shell (some_injective (sym named ∙ is)))
+asks_to_check found named r o e s (task.Explore states) (options, is, p) =
+    absurd (explore_is_no_check (some_injective (sym (ap (option_map (λ named. named.0)) is) ∙ named)))
+asks_to_check found named r o e s (task.Threads plan) (options, is, w, w', w'') =
+    absurd (threads_is_no_check (some_injective (sym (ap (option_map (λ named. named.0)) is) ∙ named)))
+asks_to_check found named r o e s (task.Check plan) (options, is, p) =
+    let rules = p.rules ∙ ap (choice_of (codes "store") (codes "table")) (some_injective (sym (ap (word_in (codes "rules")) is) ∙ r)) in
+    let order = p.order ∙ ap (choice_of (codes "real") (codes "program")) (some_injective (sym (ap (word_in (codes "order")) is) ∙ o)) in
+    let evict = p.evict ∙ ap (choice_of (codes "free") (codes "never")) (some_injective (sym (ap (word_in (codes "evict")) is) ∙ e)) in
+    let at : one_of (codes "states") options ≡ None = some_injective (sym (ap (option_in (codes "states")) is) ∙ s) in
+    let states = states_by_default plan.states (subst (λ o. SpellsOr KEY_STATES_DEFAULT o plan.states) at p.states) in
+    λ i. task.Check (record { rules = rules i; order = order i; evict = evict i; states = states i })

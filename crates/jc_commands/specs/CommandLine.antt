@@ -2,14 +2,20 @@
 --     option_rule               an option with a number, which is required or not
 --     explore                   the command of the subcommand `explore`: one such option, with its range
 --     threads                   the command of the subcommand `threads`: three such options, with their ranges
+--     word_rule                 an option with a word
+--     judging, check            the command of the subcommand `check`: three options with a word, and one with a number
 --     player                    the command with its first subcommands, `run` and `shell`: it has a version, and a subcommand
 --                               must be named
---     program                   the command, as `clap` sees it, with its other subcommands, `explore` and `threads`
+--     player_of_threads         the same with `explore` and `threads`
+--     program                   the command, as `clap` sees it, with its last subcommand, `check`
 --     faults_at                 the kinds of error that these words, the first of which is the program's name, may have; none if
 --                               they are right
 --     subcommand_at             the subcommand that these words name, with its options
 --     SpellsOr, SpellsIf        the number that an option's text spells in decimal digits, or if it isn't given a default, or
 --                               none
+--     choice_of, is_wrong_choice, is_wrong
+--                               one of two words, and whether a word is neither, and whether one of a plan is
+--     IsCheckPlan               the plan of a check with these options
 --     Names                     the subcommand has this name
 --     IsAsked                   the task of a subcommand with its options
 --     RunIsRight                `run` alone is right, whatever the name of the program, and asks for a script
@@ -17,6 +23,8 @@
 --     ExploresUpTo              these words are right, and ask for an exploration of at most a number of states
 --     ExploreIsRight            `explore` alone is right, and asks for 200,000 states; with its option it asks for that number of
 --                               states
+--     AsksToCheck, CheckIsRight these words are right, and ask for a check by this plan; `check` alone does, with the first of each
+--                               two words
 --     is_too_much               a plan has more increments than one history has room for, and its cache doesn't live on
 --     AsksForThreads            these words are right, and ask for threads by this plan
 --     ThreadsIsRight            `threads` with both required options is right, in any order of them, and asks for these numbers
@@ -33,14 +41,19 @@
 --     HelpIsShown               `--help` and `-h` ask for help, before a subcommand and after it
 --     HelpWordIsShownOrWrong    `help` asks for help, or is wrong: `clap`'s contract leaves it open
 --     VersionIsShown            `--version` and `-V` ask for the version
-use Rattle.std.specs.Prelude.{◌≡◌, ◌≢◌, ◌<◌, ◌^◌, ℕ, List, [], ◌∷◌, Bool, true, false, codes, pos, Option, None, Some, option_map, ◌*◌, ◌&&◌, is_none, nat_lt}
+use Rattle.std.specs.Prelude.{◌≡◌, ◌≢◌, ◌<◌, ◌^◌, ℕ, List, [], ◌∷◌, Bool, true, false, codes, pos, Option, None, Some, option_map, ◌*◌, ◌&&◌, ◌||◌, is_none, nat_lt, if◌then◌else◌}
+use Rattle.std.specs.Str.{bytes_eq}
 use Rattle.std.specs.Str.Parse.{IsNumeral, digits_value, without_leading_plus}
 use Rattle.clap.specs.Walk.{Row, Rule, Text, one_of}
-use Rattle.clap.specs.Words.{App, Kinds, fault_of, new_app, new_rule, subcommand_of, with_rule, with_subcommand}
+use Rattle.clap.specs.Words.{App, Kinds, fault_of, first_of, new_app, new_rule, subcommand_of, with_rule, with_subcommand}
 use Rattle.clap.specs.declared.builder.value_parser.ValueParser.{ValueParser}
-use Rattle.clap.specs.declared.builder.value_parser.ValueParser.TheVariants.{Signed}
+use Rattle.clap.specs.declared.builder.value_parser.ValueParser.TheVariants.{Signed, String}
 use Rattle.clap.specs.declared.error.kind.ErrorKind.TheVariants as kind
 use Rattle.jc_commands.specs.declared.budget.TheConstants.{STATES_DEFAULT, STATES_MAX}
+use Rattle.jc_commands.specs.declared.checking.TheConstants.{KEY_STATES_DEFAULT, KEY_STATES_MAX}
+use Rattle.jc_commands.specs.declared.checking.CheckPlan.{CheckPlan}
+use Rattle.jc_commands.specs.declared.checking.Choice.{Choice}
+use Rattle.jc_commands.specs.declared.checking.Choice.TheVariants.{First, Second, Wrong}
 use Rattle.jc_commands.specs.declared.commands.Task.{Task}
 use Rattle.jc_commands.specs.declared.commands.Task.TheVariants as task
 use Rattle.jc_commands.specs.declared.plan.Plan.{Plan}
@@ -61,6 +74,18 @@ threads =
     (option_rule (codes "rounds") (Signed (pos 1) (pos ROUNDS_MAX)) true))
     (option_rule (codes "history") (Signed (pos EVENTS_MIN) (pos EVENTS_MAX)) false)
 
+-- an option with a word
+abbrev pub word_rule : Text → Rule
+word_rule name = option_rule name String false
+
+abbrev pub judging : App
+judging =
+    with_rule (with_rule (with_rule (new_app (codes "check")) (word_rule (codes "rules"))) (word_rule (codes "order"))) (word_rule (codes "evict"))
+
+abbrev pub check : App
+check =
+    with_rule judging (option_rule (codes "states") (Signed (pos 1) (pos KEY_STATES_MAX)) false)
+
 abbrev pub player : App
 player =
     let app = new_app (codes "jcache") in
@@ -68,8 +93,11 @@ player =
     (with_subcommand (record app { top = record app.top { has_version = true; subcommand_required = true } }) (new_app (codes "run")).top)
     (new_app (codes "shell")).top
 
+abbrev pub player_of_threads : App
+player_of_threads = with_subcommand (with_subcommand player explore.top) threads.top
+
 abbrev pub program : App
-program = with_subcommand (with_subcommand player explore.top) threads.top
+program = with_subcommand player_of_threads check.top
 
 abbrev pub faults_at : List (List ℕ) → Kinds
 faults_at words = fault_of program words
@@ -89,6 +117,27 @@ SpellsIf None number = number ≡ None
 SpellsIf (Some text) number =
     IsNumeral 10 (without_leading_plus text) → digits_value 10 (without_leading_plus text) < 2 ^ 32 → number ≡ Some (digits_value 10 (without_leading_plus text))
 
+abbrev pub choice_of : Text → Text → Option Text → Choice
+choice_of first second None = First
+choice_of first second (Some word) =
+    if bytes_eq word first then First else
+    if bytes_eq word second then Second else
+    Wrong
+
+abbrev pub is_wrong_choice : Choice → Bool
+is_wrong_choice First = false
+is_wrong_choice Second = false
+is_wrong_choice Wrong = true
+
+abbrev pub is_wrong : CheckPlan → Bool
+is_wrong plan = is_wrong_choice plan.rules || is_wrong_choice plan.order || is_wrong_choice plan.evict
+
+pub record IsCheckPlan (options : List Row) (plan : CheckPlan) : Type 0 where
+  pub rules : plan.rules ≡ choice_of (codes "store") (codes "table") (first_of (codes "rules") options)
+  pub order : plan.order ≡ choice_of (codes "real") (codes "program") (first_of (codes "order") options)
+  pub evict : plan.evict ≡ choice_of (codes "free") (codes "never") (first_of (codes "evict") options)
+  pub states : SpellsOr KEY_STATES_DEFAULT (one_of (codes "states") options) plan.states
+
 abbrev pub Names : Option (Text × List Row) → Text → Type 0
 Names found name = option_map (λ named. named.0) found ≡ Some name
 
@@ -96,6 +145,7 @@ abbrev pub IsAsked : Option (Text × List Row) → Task → Type 0
 IsAsked found task.Run =
     (option_map (λ named. named.0) found ≢ Some (codes "threads"))
     × (option_map (λ named. named.0) found ≢ Some (codes "explore"))
+    × (option_map (λ named. named.0) found ≢ Some (codes "check"))
     × (option_map (λ named. named.0) found ≢ Some (codes "shell"))
 IsAsked found task.Shell = Names found (codes "shell")
 IsAsked found (task.Explore states) =
@@ -106,6 +156,8 @@ IsAsked found (task.Threads plan) =
     × SpellsOr 0 (one_of (codes "workers") options) plan.workers
     × SpellsOr 0 (one_of (codes "rounds") options) plan.rounds
     × SpellsIf (one_of (codes "history") options) plan.history
+IsAsked found (task.Check plan) =
+    (options : List Row) × (found ≡ Some (codes "check", options)) × IsCheckPlan options plan
 
 -- 3. Words that are written out.
 
@@ -123,6 +175,12 @@ ExploreIsRight = (name : List ℕ)
     → ExploresUpTo (name ∷ codes "explore" ∷ []) 200000
     × ExploresUpTo (name ∷ codes "explore" ∷ codes "--states" ∷ codes "1" ∷ []) 1
     × ExploresUpTo (name ∷ codes "explore" ∷ codes "--states=1000000" ∷ []) 1000000
+
+abbrev pub AsksToCheck : List (List ℕ) → CheckPlan → Type 0
+AsksToCheck words plan = (faults_at words ≡ []) × ((t : Task) → IsAsked (subcommand_at words) t → t ≡ task.Check plan)
+
+abbrev pub CheckIsRight : Type 0
+CheckIsRight = (name : List ℕ) → AsksToCheck (name ∷ codes "check" ∷ []) (record { rules = First; order = First; evict = First; states = 500000 })
 
 abbrev pub is_too_much : Plan → Bool
 is_too_much plan = is_none plan.history && nat_lt INCREMENTS_MAX (plan.workers * plan.rounds)

@@ -3,13 +3,14 @@ ghost use Rattle.std.specs.Prelude.{◌≡◌, map, string_bytes, IfOk, IfErr, f
 ghost use Rattle.clap.specs.declared.builder.value_parser.ValueParser.TheVariants.{Signed};
 ghost use Rattle.clap.specs.Walk.{one_of};
 ghost use Rattle.clap.specs.declared.builder.command.Command.TheViews.{out-Command};
-ghost use Rattle.clap.specs.Words.{FailsBy, app_of, found_of, kind_of, rows_of, rule_of, subcommand_rows_of};
-ghost use Rattle.jc_commands.specs.CommandLine.{program, player, explore, threads, option_rule, faults_at, subcommand_at, IsAsked, SpellsOr, SpellsIf};
-ghost use Rattle.jc_commands.specs.CommandLine.{RunIsRight, ShellIsRight, ExploreIsRight, ThreadsIsRight, OptionMissingIsWrong, NumberIsWrong, NoWordIsWrong, UnknownWordIsWrong};
+ghost use Rattle.clap.specs.Words.{FailsBy, app_of, first_of, found_of, kind_of, rows_of, rule_of, subcommand_rows_of};
+ghost use Rattle.jc_commands.specs.CommandLine.{program, player, player_of_threads, check, choice_of, judging, explore, threads, option_rule, faults_at, subcommand_at, IsAsked, IsCheckPlan, SpellsOr, SpellsIf};
+ghost use Rattle.jc_commands.specs.CommandLine.{CheckIsRight, RunIsRight, ShellIsRight, ExploreIsRight, ThreadsIsRight, OptionMissingIsWrong, NumberIsWrong, NoWordIsWrong, UnknownWordIsWrong};
 ghost use Rattle.jc_commands.specs.CommandLine.{WordTooManyIsWrong, FlagIsWrong, HelpIsShown, HelpWordIsShownOrWrong};
 ghost use Rattle.jc_commands.specs.CommandLine.{VersionIsShown};
 
 use crate::budget::{STATES_DEFAULT, STATES_MAX};
+use crate::checking::{CheckPlan, Choice, KEY_STATES_DEFAULT, KEY_STATES_MAX, choice_of};
 use crate::plan::{EVENTS_MAX, EVENTS_MIN, Plan, ROUNDS_MAX, WORKERS_MAX};
 use clap::builder::ValueParser;
 use clap::error::ErrorKind;
@@ -30,6 +31,8 @@ pub enum Task {
     },
     /// Count on threads.
     Threads(Plan),
+    /// Judge the record of calls on standard input.
+    Check(CheckPlan),
 }
 
 /// The numbers from one to another.
@@ -116,6 +119,66 @@ fn threads_command<'a>(alloc: Global) -> Result<Command<'a>, Error>
     )
 }
 
+/// An option with a word.
+fn word_option<'a>(alloc: Global, name: &'a str, help: &'a str) -> Arg<'a>
+    ensures rule { rule_of result ≡ option_rule name.now ValueParser.String false }
+    ensures local { result.global ≡ false }
+{
+    Arg::new(alloc, name)
+        .long(name)
+        .value_name("WORD")
+        .help(help)
+        .required(false)
+        .value_parser(ValueParser::String)
+}
+
+/// The command of the subcommand `check` with the options that take a word.
+fn judging_command<'a>(alloc: Global) -> Result<Command<'a>, Error>
+    ensures made { IfOk result (λ c. app_of c ≡ judging) }
+    ensures local { IfOk result (λ c. (out-Command c).has_globals ≡ false) }
+    ensures memory { IfErr result (λ e. kind_of e ≡ ErrorKind.OutOfMemory) }
+{
+    let rules = word_option(
+        alloc,
+        "rules",
+        "store: cache and store are judged as one; table: a loader may answer anything; by default store",
+    );
+    let order = word_option(
+        alloc,
+        "order",
+        "real: a call that ended before another one began comes first; program: only the order of each thread counts; by default real",
+    );
+    let evict = word_option(
+        alloc,
+        "evict",
+        "free: an entry may vanish at any time; never: it doesn't; by default free",
+    );
+    Ok(
+        Command::new(alloc, "check")
+            .about(
+                "Judges whether a cache may have behaved as the record of calls on standard input says, and writes the verdict on each key to standard output",
+            )
+            .arg(rules)?
+            .arg(order)?
+            .arg(evict)?,
+    )
+}
+
+fn check_command<'a>(alloc: Global) -> Result<Command<'a>, Error>
+    ensures made { IfOk result (λ c. app_of c ≡ check) }
+    ensures local { IfOk result (λ c. (out-Command c).has_globals ≡ false) }
+    ensures memory { IfErr result (λ e. kind_of e ≡ ErrorKind.OutOfMemory) }
+{
+    let states = number_option(
+        alloc,
+        "states",
+        between(1, KEY_STATES_MAX),
+        false,
+        "How many states are met at most at one key, 1 to 5000000; by default 500000",
+    );
+    Ok(judging_command(alloc)?.arg(states)?)
+}
+
 /// The program's command with the subcommands `run` and `shell`.
 fn player_command<'a>(alloc: Global) -> Result<Command<'a>, Error>
     ensures made { IfOk result (λ c. app_of c ≡ player) }
@@ -136,8 +199,10 @@ fn player_command<'a>(alloc: Global) -> Result<Command<'a>, Error>
     )
 }
 
-fn command<'a>(alloc: Global) -> Result<Command<'a>, Error>
-    ensures made { IfOk result (λ c. app_of c ≡ program) }
+/// The program's command without the subcommand `check`.
+fn player_of_threads_command<'a>(alloc: Global) -> Result<Command<'a>, Error>
+    ensures made { IfOk result (λ c. app_of c ≡ player_of_threads) }
+    ensures local { IfOk result (λ c. (out-Command c).has_globals ≡ false) }
     ensures memory { IfErr result (λ e. kind_of e ≡ ErrorKind.OutOfMemory) }
 {
     let player = player_command(alloc)?;
@@ -148,6 +213,14 @@ fn command<'a>(alloc: Global) -> Result<Command<'a>, Error>
     )
 }
 
+fn command<'a>(alloc: Global) -> Result<Command<'a>, Error>
+    ensures made { IfOk result (λ c. app_of c ≡ program) }
+    ensures memory { IfErr result (λ e. kind_of e ≡ ErrorKind.OutOfMemory) }
+{
+    let player = player_of_threads_command(alloc)?;
+    Ok(player.subcommand(check_command(alloc)?)?)
+}
+
 /// The task of these words, of which the first is the program's name. The error has the text to show, also for `--help` and
 /// `--version`.
 pub fn read_task(alloc: Global, words: &[String]) -> Result<Task, Error>
@@ -156,8 +229,10 @@ pub fn read_task(alloc: Global, words: &[String]) -> Result<Task, Error>
     ensures asked { IfOk result (λ task. IsAsked (subcommand_at (map string_bytes words.now)) task) }
 {
     let program = command(alloc)?;
-    let matches = program.try_get_matches_from(words)?;
-    Ok(task_in(&matches))
+    match program.try_get_matches_from(words) {
+        Ok(matches) => Ok(task_in(&matches)),
+        Err(error) => Err(error),
+    }
 }
 
 /// The task of these matches.
@@ -176,10 +251,32 @@ fn task_in(matches: &ArgMatches) -> Task
             states: number_or(options, "states", STATES_DEFAULT),
         };
     }
+    if let Some(options) = matches.subcommand_matches("check") {
+        return Task::Check(check_plan(options));
+    }
     match matches.subcommand_matches("shell") {
         Some(_) => Task::Shell,
         None => Task::Run,
     }
+}
+
+/// What a check is asked for.
+fn check_plan(options: &ArgMatches) -> CheckPlan
+    ensures { IsCheckPlan (rows_of (found_of options.now)) result }
+{
+    CheckPlan {
+        rules: choice(options, "rules", "store", "table"),
+        order: choice(options, "order", "real", "program"),
+        evict: choice(options, "evict", "free", "never"),
+        states: number_or(options, "states", KEY_STATES_DEFAULT),
+    }
+}
+
+/// The choice of an option.
+fn choice(options: &ArgMatches, name: &str, first: &str, second: &str) -> Choice
+    ensures { result ≡ choice_of first.now second.now (first_of name.now (rows_of (found_of options.now))) }
+{
+    choice_of(first, second, options.get_str(name))
 }
 
 /// The number of an option, or `default` if the option isn't given.
@@ -203,6 +300,7 @@ pub fn right_words()
     ensures shell { ShellIsRight }
     ensures explore { ExploreIsRight }
     ensures threads { ThreadsIsRight }
+    ensures check { CheckIsRight }
     ensures option_missing { OptionMissingIsWrong }
     ensures number { NumberIsWrong }
     ensures no_word { NoWordIsWrong }

@@ -2,5 +2,6 @@
 #![tactic(auto)]
 
 pub mod budget;
+pub mod checking;
 pub mod commands;
 pub mod plan;

@@ -1,14 +1,16 @@
 //! The tasks of the program, and its exit statuses.
 ghost use Rattle.std.specs.Prelude.{◌≡◌, ◌≢◌, ◌⊎◌, ◌↔◌, Result, codes, map, string_bytes, true, false, IfOk, IfErr};
 ghost use Rattle.std.specs.Io.KnownBytes.{Appends};
+ghost use Rattle.std.specs.Fn.{FnOnceReturnsAt};
 ghost use Rattle.std.specs.IoError.{error_kind};
 ghost use Rattle.jc_commands.specs.CommandLine.{Names, faults_at, subcommand_at};
 ghost use Rattle.clap.specs.Words.{kind_of};
 ghost use Rattle.jc_commands.specs.declared.commands.Task.TheVariants as tasks;
-ghost use Rattle.jcache.specs.Exit.{Exit, ExitOfExplore, ExitOfFault, ExitOfPlay, ExitOfShell, ExitOfThreads, Exits, FailsByStreams, IsHelp, ShowsReport};
+ghost use Rattle.jcache.specs.Exit.{Exit, ExitOfExplore, ExitOfFault, ExitOfPlay, ExitOfShell, ExitOfThreads, Exits, FailsByStreams, IsHelp, ShowsReport, ShowsText};
 ghost use Rattle.jcache.specs.Exit.{status_of, status_of_end, status_without_words};
 ghost use Rattle.jcache.specs.Reports.{IsReportOf};
 
+use crate::checking::check_and_show;
 use crate::report::Report;
 use clap::Error;
 use clap::error::ErrorKind;
@@ -22,40 +24,43 @@ use jc_script::{RunEnd, RunFault};
 use jc_shell::run::run as answer_lines;
 use jc_shell::{Save, ShellFault};
 use jc_text::Noted;
+use jc_text::input::write_out;
 use jc_types::SCRIPT_MAX;
 use std::alloc::{AllocError, Global};
 use std::io::{self, Read, Write};
 
-/// The script was played to its end, or a shell ended well, or each expectation holds, or the text that was asked for was shown.
-const CLEAN: u8 = 0;
-/// The transcript ends with a line's fault, or a line of the program of threads has one.
-const LINE_FAULT: u8 = 1;
+/// The script was played to its end, or a shell ended well, or each expectation holds, or each key is explained, or the text that
+/// was asked for was shown.
+pub(crate) const CLEAN: u8 = 0;
+/// The transcript ends with a line's fault, or a line of the program of threads or of the record has one.
+pub(crate) const LINE_FAULT: u8 = 1;
 /// The command line is not one of this program's, or asks for too much work.
-const USAGE: u8 = 2;
+pub(crate) const USAGE: u8 = 2;
 /// Standard input or output failed, or the input is too long.
-const STREAMS: u8 = 3;
+pub(crate) const STREAMS: u8 = 3;
 /// An allocation failed.
 const MEMORY: u8 = 4;
-/// The count on threads isn't the plan's, or an expectation fails.
-const UNEXPECTED: u8 = 5;
-/// Not all outcomes are known, and no expectation fails.
-const OPEN: u8 = 6;
+/// The count on threads isn't the plan's, or an expectation fails, or a key isn't explained.
+pub(crate) const UNEXPECTED: u8 = 5;
+/// Not all outcomes are known, and no expectation fails; or the search of a key gave up, and no key is known not to be explained.
+pub(crate) const OPEN: u8 = 6;
 
 /// The output of `--version`.
 const VERSION: &str = "jcache 0.2.0\n";
 
 /// The end of the help. The script `jcache` at the top of the repository shows the same help.
 const ENDING: &str = "
-Exit status: 0 done, 1 a line has a fault, 2 wrong words, 3 a stream failed, 4 out of memory, 5 wrong report or an expectation fails,
-  6 the outcomes aren't all known, and no expectation fails
+Exit status: 0 done, 1 a line has a fault, 2 wrong words, 3 a stream failed, 4 out of memory, 5 wrong report, an expectation fails, or a key isn't explained,
+  6 not all is known: states were left
 
 The script ./jcache of the repository builds this program if it has to, and has further words:
   run FILE..       Plays these scripts, one after the other, up to the first whose exit status isn't 0; - is standard input
   explore FILE..   Explores these programs of threads in the same way
+  check FILE..     Judges these records of calls in the same way
   build [CRATE..]  Proves and builds the program, and these crates with those below them; exit status 125 if that fails
 
 For example: ./jcache run examples/put_seen_after_commit.script
-The words of a script, and all limits: docs/SCRIPT.md; of a program of threads: docs/EXPLORE.md
+The words of a script, and all limits: docs/SCRIPT.md; of a program of threads: docs/EXPLORE.md; of a record: docs/CHECK.md
 ";
 
 /// The parts that a command uses beside standard input and output.
@@ -72,12 +77,12 @@ pub struct Console<'a, E, H, S> {
 }
 
 /// Writes what failed. If this write fails, too, there is no one left to tell.
-fn complain<E: Write>(err: &mut E, text: &str) {
+pub(crate) fn complain<E: Write>(err: &mut E, text: &str) {
     let _ = err.write_all(text.as_bytes());
 }
 
 /// Writes that a stream failed, and the cause if it is known.
-fn complain_of<S, E: Write>(stream: &Noted<S>, err: &mut E, text: &str) {
+pub(crate) fn complain_of<S, E: Write>(stream: &Noted<S>, err: &mut E, text: &str) {
     match stream.failure() {
         Some(why) => {
             let _ = write!(err, "jcache: {text}: {why}\n");
@@ -90,7 +95,7 @@ fn complain_of<S, E: Write>(stream: &Noted<S>, err: &mut E, text: &str) {
 
 /// Writes that standard output failed, and returns the status. It writes nothing if the reader of standard output has closed it,
 /// as `head` does: that reader has all that it wanted.
-fn end_of_output<W, E: Write>(out: &Noted<W>, err: &mut E) -> u8
+pub(crate) fn end_of_output<W, E: Write>(out: &Noted<W>, err: &mut E) -> u8
     ensures { result ≡ 3 }
 {
     if !matches!(out.failure(), Some(io::ErrorKind::BrokenPipe)) {
@@ -100,7 +105,7 @@ fn end_of_output<W, E: Write>(out: &Noted<W>, err: &mut E) -> u8
 }
 
 /// Writes that an allocation failed, and returns the status.
-fn end_without_memory<E: Write>(err: &mut E) -> u8
+pub(crate) fn end_without_memory<E: Write>(err: &mut E) -> u8
     ensures { result ≡ 4 }
 {
     complain(err, "jcache: out of memory\n");
@@ -172,7 +177,7 @@ fn converse<R: Read, W: Write, E: Write, H, S: Save>(
     console: &mut Console<'_, E, H, S>,
 ) -> u8
     ensures answered { ExitOfShell console.old.prompt.now result (R.remaining reader.old.inner) (R.remaining reader.new.inner)
-        (W.contents out.old.inner) (W.contents out.new.inner) (S.saved console.old.saves) (S.saved console.new.saves) }
+        (W.contents out.old.inner) (W.contents out.new.inner) (S.calls console.old.saves) (S.calls console.new.saves) }
     ensures streams { reader.old.failed ≡ false → out.old.failed ≡ false
         → FailsByStreams result reader.new.failed out.new.failed (R.remaining reader.old.inner) (Unit {0}) }
 {
@@ -229,11 +234,10 @@ fn explore_and_show<R: Read, W: Write, E: Write, H: Watch, S>(
 
 /// Shows the text that was asked for, and returns the status.
 fn show<W: Write, E: Write>(text: &str, out: &mut Noted<W>, err: &mut E) -> u8
-    ensures shown { result ≡ 0 → Appends (W.contents out.old.inner) (W.contents out.new.inner) text.now }
-    ensures others { (result ≡ 0) ⊎ (result ≡ 3) }
+    ensures shown { ShowsText text.now result (W.contents out.old.inner) (W.contents out.new.inner) }
     ensures streams { out.old.failed ≡ false → (result ≡ 3 ↔ out.new.failed ≡ true) }
 {
-    match out.write_all(text.as_bytes()) {
+    match write_out(out, text.as_bytes()) {
         Ok(()) => CLEAN,
         Err(_) => end_of_output(out, err),
     }
@@ -283,7 +287,7 @@ fn show_report<W: Write, E: Write>(
     let Ok(text) = report.text(alloc) else {
         return end_without_memory(err);
     };
-    if out.write_all(&text).is_err() {
+    if write_out(out, &text).is_err() {
         return end_of_output(out, err);
     }
     status_of(report)
@@ -312,7 +316,8 @@ fn report_on<F: FnOnce(&Plan) -> Result<Report, AllocError>>(
 ) -> Result<Report, AllocError>
     requires callable { (plan : _) → F.pre count plan }
     requires reports { (plan : _) (r : _) → F.post count plan r → IfOk r (IsReportOf plan.now) }
-    ensures { IfOk result (λ report. IsReportOf plan.now report) }
+    ensures counted { FnOnceReturnsAt F.FnOnce count plan.now result }
+    ensures plan { IfOk result (λ report. IsReportOf plan.now report) }
 {
     count(plan)
 }
@@ -327,7 +332,7 @@ fn count_and_show<F: FnOnce(&Plan) -> Result<Report, AllocError>, W: Write, E: W
 ) -> u8
     requires callable { (plan : _) → F.pre count plan }
     requires reports { (plan : _) (r : _) → F.post count plan r → IfOk r (IsReportOf plan.now) }
-    ensures counted { ExitOfThreads plan.now result (W.contents out.old.inner) (W.contents out.new.inner) (out.new ≡ out.old) }
+    ensures counted { ExitOfThreads (FnOnceReturnsAt F.FnOnce count) plan.now result (W.contents out.old.inner) (W.contents out.new.inner) (out.new ≡ out.old) }
     ensures streams { out.old.failed ≡ false → (result ≡ 3 ↔ out.new.failed ≡ true) }
 {
     if plan.is_too_much() {
@@ -358,9 +363,9 @@ fn carry_out<
 ) -> u8
     requires callable { (plan : _) → F.pre count plan }
     requires reports { (plan : _) (r : _) → F.post count plan r → IfOk r (IsReportOf plan.now) }
-    ensures done { Exits console.old.prompt.now task.now result
+    ensures done { Exits (FnOnceReturnsAt F.FnOnce count) console.old.prompt.now task.now result
         (R.remaining reader.old.inner) (R.remaining reader.new.inner) (W.contents out.old.inner) (W.contents out.new.inner)
-        (S.saved console.old.saves) (S.saved console.new.saves) (out.new ≡ out.old) (reader.new ≡ reader.old) }
+        (S.calls console.old.saves) (S.calls console.new.saves) (out.new ≡ out.old) (reader.new ≡ reader.old) }
     ensures streams { reader.old.failed ≡ false → out.old.failed ≡ false
         → FailsByStreams result reader.new.failed out.new.failed (R.remaining reader.old.inner)
         ((task.now ≡ tasks.Shell) ⊎ (out.new ≡ out.old)) }
@@ -370,6 +375,7 @@ fn carry_out<
         Task::Shell => converse(alloc, reader, out, console),
         Task::Explore { states } => explore_and_show(alloc, *states, reader, out, console),
         Task::Threads(plan) => count_and_show(alloc, count, plan, out, &mut console.err),
+        Task::Check(plan) => check_and_show(alloc, plan, reader, out, &mut console.err),
     }
 }
 
@@ -392,9 +398,9 @@ fn do_words<
     requires callable { (plan : _) → F.pre count plan }
     requires reports { (plan : _) (r : _) → F.post count plan r → IfOk r (IsReportOf plan.now) }
     ensures answered { Exit (faults_at (map string_bytes words.now)) (subcommand_at (map string_bytes words.now)) result
-        (λ task. Exits console.old.prompt.now task result
+        (λ task. Exits (FnOnceReturnsAt F.FnOnce count) console.old.prompt.now task result
         (R.remaining reader.old.inner) (R.remaining reader.new.inner) (W.contents out.old.inner) (W.contents out.new.inner)
-        (S.saved console.old.saves) (S.saved console.new.saves) (out.new ≡ out.old) (reader.new ≡ reader.old))
+        (S.calls console.old.saves) (S.calls console.new.saves) (out.new ≡ out.old) (reader.new ≡ reader.old))
         (reader.new ≡ reader.old) (W.contents out.old.inner) (W.contents out.new.inner) (out.new ≡ out.old) }
     ensures streams { reader.old.failed ≡ false → out.old.failed ≡ false
         → FailsByStreams result reader.new.failed out.new.failed (R.remaining reader.old.inner)
@@ -414,19 +420,21 @@ fn do_words<
 /// Carries out the task of a command line, and returns the status:
 ///
 /// - 0: the script was played to its end; or the lines that were typed were answered, also those with a fault; or all outcomes of
-///   a program of threads were written, and each expectation holds; or threads counted right; or a text was asked for and shown,
+///   a program of threads were written, and each expectation holds; or each key of a record is explained; or threads counted right; or a text was asked for and shown,
 ///   for example by `--help` and `--version`.
 /// - 1: the transcript ends with a line's fault, whose column and word are on standard error; or a line of the program of threads
 ///   has a fault.
 /// - 2: the words aren't this program's, ask for too much work or aren't UTF-8, which is written to standard error.
 /// - 3: the input or output failed, or the input is too long.
 /// - 4: an allocation failed.
-/// - 5: the report that was written has a wrong number, or the history isn't legal; or an expectation fails.
-/// - 6: no expectation fails, and not all outcomes are known.
+/// - 5: the report that was written has a wrong number, or the history isn't legal; or an expectation fails; or a key of a record
+///   isn't explained.
+/// - 6: no expectation fails, and not all outcomes are known; or the search of a key gave up, and no key is known not to be explained.
 ///
-/// `count` lets threads count by a plan. It is called once if the words ask for it and the plan isn't too much work, otherwise
-/// never, so the loaders and writers of the threads are made only then. While it is at work, this waits. Nothing else waits. The
-/// watch is told the progress of a search for outcomes.
+/// `count` lets threads count by a plan. If the words ask for it and the plan isn't too much work, it is called, and the report that
+/// it returns is the one that is shown. Otherwise it isn't called, so the loaders and writers of the threads are made only then; no
+/// clause can say this of a closure. While it is at work, this waits. Nothing else waits. The watch is told the progress of a search
+/// for outcomes.
 ///
 /// Conditions: `count` may be called, and its report is on the plan that it was given.
 pub fn exec<
@@ -449,9 +457,9 @@ pub fn exec<
     // The task of right words is carried out. For other words the error is written, or the text that they ask for is shown; then
     // nothing is read.
     ensures answered { IfOk words (λ w. Exit (faults_at (map string_bytes w.items)) (subcommand_at (map string_bytes w.items)) result
-        (λ task. Exits console.old.prompt.now task result
+        (λ task. Exits (FnOnceReturnsAt F.FnOnce count) console.old.prompt.now task result
         (R.remaining reader.old.inner) (R.remaining reader.new.inner) (W.contents out.old.inner) (W.contents out.new.inner)
-        (S.saved console.old.saves) (S.saved console.new.saves) (out.new ≡ out.old) (reader.new ≡ reader.old))
+        (S.calls console.old.saves) (S.calls console.new.saves) (out.new ≡ out.old) (reader.new ≡ reader.old))
         (reader.new ≡ reader.old) (W.contents out.old.inner) (W.contents out.new.inner) (out.new ≡ out.old)) }
     // Without words nothing is read or written.
     ensures without_words { IfErr words (λ e. (result ≡ status_without_words (error_kind e)) × (reader.new ≡ reader.old) × (out.new ≡ out.old)) }

@@ -1,5 +1,5 @@
 //! The program: a command line, with a script that it plays, a shell that answers the lines of one, a program of threads whose
-//! outcomes it looks for, and threads that count.
+//! outcomes it looks for, a record of calls that it judges, and threads that count.
 //!
 //! Why it is so:
 //! - The tasks and errors of a command line are what `clap`'s contract states of its words; a law computes them for the words
@@ -13,6 +13,7 @@
 ghost use Rattle.std.specs.Prelude.{IfOk};
 ghost use Rattle.jcache.specs.Reports.{IsReportOf};
 
+mod checking;
 mod exec;
 mod progress;
 mod report;

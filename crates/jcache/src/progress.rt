@@ -1,4 +1,5 @@
 //! The progress of a search, on a terminal.
+ghost use Rattle.std.specs.Prelude.{None};
 
 use jc_explore::Watch;
 use std::io::Write;
@@ -36,6 +37,8 @@ impl<E: Write> ProgressLine<E> {
 }
 
 impl<E: Write> Watch for ProgressLine<E> {
+    ghost told = { λ _. None };
+
     fn on_states(&mut self, followed: u64, known: u64, found: u64) {
         if !self.is_due(followed) {
             return;

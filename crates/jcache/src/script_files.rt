@@ -21,7 +21,7 @@ impl<R: Files> ScriptFiles<R> {
 }
 
 impl<R: Files> Save for ScriptFiles<R> {
-    ghost saved = { λ _. None };
+    ghost calls = { λ _. None };
 
     fn save(&mut self, name: &[u8], script: &[u8]) -> Result<(), &'static str> {
         match from_utf8(name) {

@@ -1,6 +1,6 @@
-use Rattle.std.proofs.Common.{◌≡◌, rules}
+use Rattle.std.proofs.Common.{rules}
 use Rattle.jc_check.specs.Nodes.{node_value}
-use Rattle.jc_check.proofs.Orders.{drop-end, explaining-first, explaining-last, explaining-never, explaining-next, none-goes, some-goes}
+use Rattle.jc_check.proofs.Orders.{drop-end, explaining-first, explaining-last, explaining-never, explaining-next}
 use Rattle.jc_check.proofs.explaining.does_explain.Goals as goal
 
 pub loop-turn-init : goal.loop-turn-init
@@ -11,15 +11,13 @@ pub returns-in-None : goal.returns-in-None
 returns-in-None c = (
   λ h. absurd (search (rules, h)),
   λ h. absurd (explaining-never c.args.rules.now c.args.calls.now c.args.opening.now c.args.turns.now (node_value c.loop-turn.node) c.loop-turn.turn-index _
-      c.loop-turn-test.true c.loop-turn.invariant
-      (none-goes c.args.rules.now c.args.calls.now (node_value c.loop-turn.node) _ c.in_ok-next.field-0 c.in-None.is c.in_ok-next.ensures.none) h),
+      c.loop-turn-test.true c.loop-turn.invariant c.in-None.ensures.none h),
 )
 
 pub loop-turn-preserved : goal.loop-turn-preserved
 loop-turn-preserved c =
-    explaining-next c.args.rules.now c.args.calls.now c.args.opening.now c.args.turns.now (node_value c.loop-turn.node) (node_value c.in-Some.next)
-    c.loop-turn.turn-index _ c.loop-turn-test.true c.loop-turn.invariant
-    (some-goes c.args.rules.now c.args.calls.now (node_value c.loop-turn.node) _ c.in_ok-next.field-0 c.in-Some.next c.in-Some.is c.in_ok-next.ensures.some)
+    explaining-next c.args.rules.now c.args.calls.now c.args.opening.now c.args.turns.now (node_value c.loop-turn.node) (node_value c.in_ok-node-in-Some.node)
+    c.loop-turn.turn-index _ c.loop-turn-test.true c.loop-turn.invariant c.in_ok-node-in-Some.ensures
 
 pub returns : goal.returns
 returns c =

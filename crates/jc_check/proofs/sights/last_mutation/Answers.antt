@@ -1,4 +1,4 @@
-use Rattle.std.proofs.Common.{◌≡◌, ◌∙◌, ap, sym, Option}
+use Rattle.std.proofs.Common.{◌∙◌, ap, sym, Option}
 use Rattle.std.specs.Option.{option_or}
 use Rattle.jc_model.specs.Cache.{Bytes}
 use Rattle.jc_model.specs.Processor.{mutation}

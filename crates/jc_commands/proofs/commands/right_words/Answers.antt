@@ -2,7 +2,7 @@ use Rattle.std.proofs.Common.{rules, ◌≡◌, List, [], ◌∷◌, Option, Non
 use Rattle.clap.specs.Walk.{Text}
 use Rattle.clap.proofs.OnLiterals.{clap_on_literals}
 use Rattle.jc_commands.specs.CommandLine.{faults_at, subcommand_at}
-use Rattle.jc_commands.proofs.Asking.{absent, asks, asks_to_explore, by_default, by_option, option_in, present}
+use Rattle.jc_commands.proofs.Asking.{absent, asks, asks_to_check, asks_to_explore, by_default, by_option, option_in, present, word_in}
 use Rattle.jc_commands.proofs.commands.right_words.Goals as goal
 
 -- words that ask for threads, with the texts of their options
@@ -51,6 +51,24 @@ least_asks name = record { right = refl; named = refl; states_are = refl }
 most_asks : (name : Text) → AskToExplore (name ∷ codes "explore" ∷ codes "--states=1000000" ∷ []) (Some (codes "1000000"))
 unfolding clap_on_literals
 most_asks name = record { right = refl; named = refl; states_are = refl }
+
+-- words that ask for a check, with no option
+record AskToCheck (words : List Text) : Type 0 where
+  right : faults_at words ≡ []
+  named : option_map (λ named. named.0) (subcommand_at words) ≡ Some (codes "check")
+  rules_are : word_in (codes "rules") (subcommand_at words) ≡ Some None
+  order_is : word_in (codes "order") (subcommand_at words) ≡ Some None
+  evict_is : word_in (codes "evict") (subcommand_at words) ≡ Some None
+  states_are : option_in (codes "states") (subcommand_at words) ≡ Some None
+
+check_asks : (name : Text) → AskToCheck (name ∷ codes "check" ∷ [])
+unfolding clap_on_literals
+check_asks name = record { right = refl; named = refl; rules_are = refl; order_is = refl; evict_is = refl; states_are = refl }
+
+pub returns-clause-check : goal.returns-clause-check
+returns-clause-check c name =
+    let plain = check_asks name in
+    (plain.right, asks_to_check _ plain.named plain.rules_are plain.order_is plain.evict_is plain.states_are)
 
 pub returns-clause-explore : goal.returns-clause-explore
 returns-clause-explore c name =

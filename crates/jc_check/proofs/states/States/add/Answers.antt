@@ -3,5 +3,5 @@ use Rattle.jc_check.proofs.states.States.add.Goals as goal
 
 pub returns-clause-known : goal.returns-clause-known
 returns-clause-known c =
-    known-push c.args.rules.now c.args.calls.now c.args.opening.now c.args.self.now _ c.args.node c.print-print.result c.requires.known c.requires.reached
-    c.requires.new c.print-print.ensures c.in_ok-push-2.ensures.items c.in_ok-push.ensures.items c.in_ok-note.ensures.others c.in_ok-note.ensures.there
+    known-push c.args.rules.now c.args.calls.now c.args.self.now _ c.args.node c.args.step c.requires.known (λ up. c.requires.comes) c.requires.new
+    c.in_ok-push.ensures.list c.in_ok-push.ensures.steps c.in_ok-push.ensures.prints c.in_ok-push.ensures.places

@@ -1,6 +1,5 @@
-use Rattle.std.proofs.Common.{◌≡◌, Option, subst, sym, true≢false, IfNone}
+use Rattle.std.proofs.Common.{sym, true≢false}
 use Rattle.jc_check.specs.Nodes.{node_value}
-use Rattle.jc_check.specs.States.{HasPlace}
 use Rattle.jc_check.proofs.Known.{never-place, none-with}
 use Rattle.jc_check.proofs.states.States.has.Goals as goal
 

@@ -1,4 +1,4 @@
-use Rattle.std.proofs.Common.{◌≡◌, ℕ, ◌<◌, true, false, refl, sym, ◌∙◌, arith, true≢false}
+use Rattle.std.proofs.Common.{refl, sym, ◌∙◌, arith, true≢false}
 use Rattle.jc_check.specs.Nodes.{node_value}
 use Rattle.jc_check.specs.States.{IsNodeAt}
 use Rattle.jc_check.proofs.Known.{among-here, here-among}

@@ -1,4 +1,4 @@
-use Rattle.std.proofs.Common.{◌≡◌, refl}
+use Rattle.std.proofs.Common.{refl}
 use Rattle.jc_check.specs.Nodes.{node_value}
 use Rattle.jc_check.proofs.Known.{here-among}
 use Rattle.jc_check.proofs.states.States.is_near.Goals as goal

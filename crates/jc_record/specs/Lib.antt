@@ -1,0 +1,7 @@
+pub mod Notes
+pub mod Words
+pub mod Reading
+pub mod AtKey
+pub mod Index
+pub mod Answers
+pub mod Running
