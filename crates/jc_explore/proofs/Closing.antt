@@ -1,5 +1,5 @@
 -- What is known is closed: wherever a run leads, something like it is known.
-use Rattle.jc_explore.proofs.Common.{◌≡◌, ℕ, ◌+◌, ◌<◌, List, [], ◌∷◌, ◌++◌, length, Some, slice_get, sym, ap, ◌∙◌, subst, inl, inr, arith, slice_get-get_or, slice_get_within, WorldsGoOnAlike, RunsAreDetermined, EssencesTell, KnownState, Move, Program, Finding, IsEnd, IsFound, HasEachOutcome, FinalValue, IsFinal, ScenesAlike, moves_up_to, SceneState, Moves, PlaysSchedule, opening, HasNextMove, Continues, HasEachKnown, IsClosedSchedule, IsClosedUpTo, IsKnown, KeepsMoves, LeadsLike, StaysAt, WasFollowed}
+use Rattle.jc_explore.proofs.Common.{◌≡◌, ℕ, ◌+◌, ◌<◌, List, [], ◌∷◌, ◌++◌, length, Some, slice_get, sym, ap, ◌∙◌, subst, inl, inr, arith, slice_get-get_or, slice_get_within, WorldsGoOnAlike, RunsAreDetermined, EssencesTell, KnownState, Move, Program, Finding, IsEnd, IsFound, HasEachOutcome, IsReachedScene, FinalValue, IsFinal, ScenesAlike, moves_up_to, SceneState, Moves, PlaysSchedule, opening, HasNextMove, Continues, IsClosedSchedule, IsClosedUpTo, IsKnown, KeepsMoves, LeadsLike, StaysAt, WasFollowed}
 use Rattle.jc_explore.proofs.AlikeScenes.{scenes-sym, moves-alike}
 use Rattle.jc_explore.proofs.AllMoves.{eq_or_less, moves-among}
 use Rattle.jc_explore.proofs.Finals.{final-alike}
@@ -77,6 +77,9 @@ closed-more p was now before found k grown more h closed here j m hj at =
     ]
 
 -- 3. Whole runs.
+
+abbrev pub HasEachKnown : Program → List KnownState → Type 0
+HasEachKnown p known = (s : SceneState) → IsReachedScene p s → IsKnown p known s
 
 closed-known : (p : Program) (known : List KnownState) (found : List Finding) (s : SceneState) → IsClosedUpTo p known found (length known) → IsKnown p known s
     → (schedule : List Move) × IsClosedSchedule p known found schedule × LeadsLike p schedule s

@@ -8,5 +8,7 @@ mod AllMoves
 mod Finals
 mod Searching
 mod Closing
-mod Counting
 mod Shortest
+mod Meeting
+mod Counting
+mod Telling

@@ -1,5 +1,5 @@
 -- The search is breadth first: the schedule of a known state, and that of an outcome, is a shortest one.
-use Rattle.jc_explore.proofs.Common.{◌≡◌, ℕ, ◌+◌, ◌<◌, ◌≤◌, ◌⊎◌, List, [], ◌∷◌, ◌++◌, length, Some, slice_get, get_or, sym, ap, ◌∙◌, subst, inl, inr, arith, length-append, All, Any, get_or_push, slice_get-get_or, slice_get_within, KnownState, Move, Program, Finding, AreShortest, IsFound, IsShortest, IsWholeSchedule, FinalValue, final_of, SceneState, Moves, PlaysSchedule, opening, Adds, AreAsLong, AreNew, Continues, IsClosedSchedule, IsClosedUpTo, IsKnown, LeadsLike, stands_on}
+use Rattle.jc_explore.proofs.Common.{◌≡◌, ℕ, ◌+◌, ◌<◌, ◌≤◌, ◌⊎◌, List, [], ◌∷◌, ◌++◌, length, Some, slice_get, get_or, sym, ap, ◌∙◌, subst, inl, inr, arith, length-append, All, Any, get_or_append_left, get_or_push, slice_get-get_or, slice_get_within, KnownState, Move, Program, Finding, AreShortest, IsFound, IsShortest, IsWholeSchedule, FinalValue, final_of, SceneState, Moves, PlaysSchedule, opening, Adds, AreNew, AreNext, AreOrdered, AreSorted, Continues, HaveNearest, HaveSchedule, IsClosedSchedule, IsClosedUpTo, IsKnown, IsScheduleOf, LeadsLike, MeetsStates, stands_on}
 use Rattle.jc_explore.proofs.AllMoves.{eq_or_less, lt_or_le}
 use Rattle.jc_explore.proofs.Searching.{any-grown, same-at, slice-back, there-at}
 
@@ -31,8 +31,14 @@ adds-one P xs one h k x low at =
 abbrev len : KnownState → ℕ
 len k = length k.schedule.items
 
-abbrev IsSorted : List KnownState → Type 0
-IsSorted known = (i j : ℕ) (a b : KnownState) → i ≤ j → slice_get known i ≡ Some a → slice_get known j ≡ Some b → len a ≤ len b
+-- the known states that were added have schedules of this length
+abbrev AreAsLong : ℕ → List KnownState → List KnownState → Type 0
+AreAsLong moves old new = Adds (λ k. len k ≡ moves) old new
+
+as-long : (schedule : List Move) (old new : List KnownState) → AreNext schedule old new → AreAsLong (length schedule + 1) old new
+as-long schedule old new next k m low at =
+    let is = next k m low at in
+    ap (λ (ms : List Move). length ms) is.1 ∙ length-append schedule (is.0 ∷ [])
 
 -- no known schedule is longer than that at a place by more than one move
 abbrev IsBounded : List KnownState → ℕ → Type 0
@@ -50,11 +56,12 @@ abbrev GoNearUpTo : Program → List KnownState → ℕ → Type 0
 GoNearUpTo p known place = (i : ℕ) (k : KnownState) → i < place → slice_get known i ≡ Some k → GoesNear p known k
 
 pub record IsBreadthFirst (p : Program) (known : List KnownState) (found : List Finding) (place : ℕ) : Type 0 where
-  pub sorted : IsSorted known
+  pub sorted : AreSorted known
   pub bounded : IsBounded known place
   pub begins : IsNear p known 0 (opening p)
   pub goes : GoNearUpTo p known place
   pub shortest : AreShortest p found
+  pub ordered : AreOrdered found
 
 near-grown : (p : Program) (old new : List KnownState) (n : ℕ) (s : SceneState) → Continues old new → IsNear p old n s → IsNear p new n s
 near-grown p old new n s grown h = any-grown (λ (k : KnownState). LeadsLike p k.schedule.items s × (len k ≤ n)) old new grown h
@@ -65,7 +72,7 @@ near-more p known n most s up h =
     (h.0, h.1, h.2, h.3, (h.4.0, omega (arith, up, short)))
 
 -- where an element of a list is
-elem-at : {X : Type 0} (xs : List X) (i : ℕ) (x : X) → i < length xs → get_or xs i x ≡ x → slice_get xs i ≡ Some x
+pub elem-at : {X : Type 0} (xs : List X) (i : ℕ) (x : X) → i < length xs → get_or xs i x ≡ x → slice_get xs i ≡ Some x
 elem-at {X = X} xs i x inside is = slice_get-get_or xs i x inside ∙ ap (λ (y : X). Some y) is
 
 near-known : (p : Program) (known : List KnownState) (n : ℕ) (s : SceneState) → ((i : ℕ) (k : KnownState) → slice_get known i ≡ Some k → len k ≤ n) → IsKnown p known s → IsNear p known n s
@@ -73,14 +80,16 @@ near-known p known n s short h = (h.0, h.1, h.2, h.3, (h.4, short h.0 h.1 (elem-
 
 -- 3. The search begins.
 
-pub first-breadth : (p : Program) (known : List KnownState) (found : List Finding) → AreAsLong 0 [] known → IsKnown p known (opening p) → found ≡ [] → IsBreadthFirst p known found 0
-first-breadth p known found long here none =
+pub first-breadth : (p : Program) (known : List KnownState) (found : List Finding) → HaveSchedule [] [] known → IsKnown p known (opening p) → found ≡ [] → IsBreadthFirst p known found 0
+first-breadth p known found none_yet here none =
+    let long : AreAsLong 0 [] known = λ k m low at. ap (λ (ms : List Move). length ms) (none_yet k m low at) in
     record {
       sorted = λ i j a b up first second. let short = long i a (omega arith) first in omega (arith, short);
       bounded = λ m k i first second. let short = long i k (omega arith) second in omega (arith, short);
       begins = near-known p known 0 (opening p) (λ i k at. let short = long i k (omega arith) at in omega (arith, short)) here;
       goes = λ i k h at. absurd (omega (arith, h));
       shortest = subst (AreShortest p) (sym none) (λ k d h. absurd (omega (arith, h)));
+      ordered = subst AreOrdered (sym none) (λ i j d below inside. absurd (omega (arith, inside)));
     }
 
 -- 4. One state more was followed.
@@ -95,7 +104,7 @@ short-now was now place d grown added bounded here i k at =
     ]
 
 sorted-now : (was now : List KnownState) (place : ℕ) (d : KnownState) → Continues was now → AreAsLong (len d + 1) was now → IsBounded was place → slice_get was place ≡ Some d
-    → IsSorted was → IsSorted now
+    → AreSorted was → AreSorted now
 sorted-now was now place d grown added bounded here sorted i j a b up first second =
     elim (lt_or_le j (length was)) [
       | inl less ↦ sorted i j a b up (slice-back was now i a grown (omega (arith, up, less)) first) (slice-back was now j b grown less second)
@@ -121,9 +130,9 @@ goes-now p was now found place d grown added bounded here goes closed i k h at =
 
 -- 5. What is found then has a shortest schedule.
 
--- a known state that is yet to be followed, with at most this number of moves
+-- a known state that is yet to be followed, with fewer moves than this
 abbrev IsLeft : List KnownState → ℕ → ℕ → Type 0
-IsLeft known place n = (j : ℕ) × (k : KnownState) × (place ≤ j) × (slice_get known j ≡ Some k) × (len k ≤ n)
+IsLeft known place n = (j : ℕ) × (k : KnownState) × (place ≤ j) × (slice_get known j ≡ Some k) × (len k < n)
 
 near-or-left : (p : Program) (known : List KnownState) (place n most : ℕ) (a s : SceneState) (ms : List Move) → GoNearUpTo p known place → n + length ms ≤ most → IsNear p known n a → PlaysSchedule p a ms s
     → IsNear p known most s ⊎ IsLeft known place most
@@ -138,7 +147,7 @@ near-or-left p known place n most a s (m ∷ ms) goes up here plays =
     ]
 
 -- a known state with fewer moves than the next one was followed
-before-next : (known : List KnownState) (place i : ℕ) (d k : KnownState) → IsSorted known → slice_get known place ≡ Some d → slice_get known i ≡ Some k → len k < len d → i < place
+before-next : (known : List KnownState) (place i : ℕ) (d k : KnownState) → AreSorted known → slice_get known place ≡ Some d → slice_get known i ≡ Some k → len k < len d → i < place
 before-next known place i d k sorted here at fewer =
     elim (lt_or_le i place) [
       | inl less ↦ less
@@ -156,7 +165,7 @@ shorter-found p known found place d f ms breadth closed here whole fewer =
           let before = before-next known place near.0 d k breadth.sorted here at (omega (arith, short, fewer)) in
           (closed near.0 k before at).ends whole.last f near.4.0 whole.ends whole.final
       | inr left ↦
-          absurd (let up = breadth.sorted place left.0 d left.1 left.2 here left.3 in let short : len left.1 ≤ length ms = left.4 in omega (arith, up, short, fewer))
+          absurd (let up = breadth.sorted place left.0 d left.1 left.2 here left.3 in let short : len left.1 < length ms = left.4 in omega (arith, up, short, fewer))
     ]
 
 shortest-new : (p : Program) (known : List KnownState) (found : List Finding) (place : ℕ) (d : KnownState) (x : Finding) → IsBreadthFirst p known found place → IsClosedUpTo p known found place
@@ -178,13 +187,65 @@ shortest-now p known found more place d breadth closed here grown fresh k e h =
       | inr up ↦ let one = fresh k x up at in shortest-new p known found place d x breadth closed here one.0 one.1
     ]
 
-pub more-breadth : (p : Program) (was now : List KnownState) (before found : List Finding) (place : ℕ) (d : KnownState) → IsBreadthFirst p was before place → IsClosedUpTo p was before place
-    → slice_get was place ≡ Some d → Continues was now → Continues before found → AreAsLong (len d + 1) was now → AreNew d.schedule.items before found → IsClosedSchedule p now found d.schedule.items
+-- 6. What is known has a schedule that is no longer than any other.
+
+pub nearest-known : (p : Program) (known : List KnownState) (found : List Finding) (place : ℕ) → IsBreadthFirst p known found place → HaveNearest p known
+nearest-known p known found place breadth schedule s plays here =
+    elim (near-or-left p known place 0 (length schedule) (opening p) s schedule breadth.goes (omega arith) breadth.begins plays) [
+      | inl near ↦ near
+      | inr left ↦
+          let next : KnownState = get_or known place left.1 in
+          let inside : left.0 < length known = slice_get_within known left.0 left.1 left.3 in
+          let behind : place ≤ left.0 = left.2 in
+          let first : slice_get known place ≡ Some next = there-at known place left.1 (omega (arith, behind, inside)) in
+          let up : len next ≤ len left.1 = breadth.sorted place left.0 next left.1 behind first left.3 in
+          let fewer : len left.1 < length schedule = left.4 in
+          near-known p known (length schedule) s (λ i k at. let short = breadth.bounded next k i first at in omega (arith, short, up, fewer)) here
+    ]
+
+-- 7. The final states come in the order of their schedules.
+
+-- none that was found has more moves than the state that was followed last
+no-longer : (known : List KnownState) (found more : List Finding) (place : ℕ) (d : KnownState) (k : ℕ) (x : Finding) → AreSorted known → slice_get known place ≡ Some d
+    → ((i : ℕ) (y : Finding) → slice_get found i ≡ Some y → IsScheduleOf known place y.witness.items) → Continues found more → AreNew d.schedule.items found more
+    → slice_get more k ≡ Some x → length x.witness.items ≤ len d
+no-longer known found more place d k x sorted here ended grown fresh at =
+    elim (lt_or_le k (length found)) [
+      | inl less ↦
+          let of = ended k x (slice-back found more k x grown less at) in
+          let before : of.0 < place = of.2 in
+          let up : len of.1 ≤ len d = sorted of.0 place of.1 d (omega (arith, before)) of.3 here in
+          let same = ap (λ (ms : List Move). length ms) of.4 in
+          omega (arith, up, same)
+      | inr new ↦ let same = ap (λ (ms : List Move). length ms) (fresh k x new at).0 in omega (arith, same)
+    ]
+
+ordered-now : (known : List KnownState) (found more : List Finding) (place : ℕ) (d : KnownState) → AreSorted known → slice_get known place ≡ Some d
+    → ((i : ℕ) (y : Finding) → slice_get found i ≡ Some y → IsScheduleOf known place y.witness.items) → Continues found more → AreNew d.schedule.items found more
+    → AreOrdered found → AreOrdered more
+ordered-now known found more place d sorted here ended grown fresh ordered i j e below inside =
+    elim (lt_or_le j (length found)) [
+      | inl less ↦
+          let was : (k : ℕ) → k < length found → length (get_or more k e).witness.items ≡ length (get_or found k e).witness.items =
+          λ k h. ap (λ (y : Finding). length y.witness.items) (ap (λ (ys : List Finding). get_or ys k e) grown.1 ∙ get_or_append_left found grown.0 e k h) in
+          let one = was i (omega (arith, below, less)) in
+          let other = was j less in
+          let up = ordered i j e below less in
+          omega (arith, one, other, up)
+      | inr new ↦
+          let short = no-longer known found more place d i (get_or more i e) sorted here ended grown fresh (there-at more i e (omega (arith, below, inside))) in
+          let same = ap (λ (ms : List Move). length ms) (fresh j (get_or more j e) new (there-at more j e inside)).0 in
+          omega (arith, short, same)
+    ]
+
+pub more-breadth : (p : Program) (was now : List KnownState) (before found : List Finding) (place : ℕ) (d : KnownState) → IsBreadthFirst p was before place → MeetsStates p was before place
+    → slice_get was place ≡ Some d → Continues was now → Continues before found → AreNext d.schedule.items was now → AreNew d.schedule.items before found → IsClosedSchedule p now found d.schedule.items
     → IsBreadthFirst p now found (place + 1)
-more-breadth p was now before found place d breadth closed here grown more added fresh at =
+more-breadth p was now before found place d breadth meets here grown more next fresh at =
+    let added : AreAsLong (len d + 1) was now = as-long d.schedule.items was now next in
     let inside : place < length was = slice_get_within was place d here in
     let there : slice_get now place ≡ Some d = subst (λ (ks : List KnownState). slice_get ks place ≡ Some d) (sym grown.1) (stands_on was grown.0 place d here) in
-    let sorted : IsSorted now = sorted-now was now place d grown added breadth.bounded here breadth.sorted in
+    let sorted : AreSorted now = sorted-now was now place d grown added breadth.bounded here breadth.sorted in
     record {
       sorted = sorted;
       bounded = λ m k i first second.
@@ -193,5 +254,6 @@ more-breadth p was now before found place d breadth closed here grown more added
           omega (arith, up, short);
       begins = near-grown p was now 0 (opening p) grown breadth.begins;
       goes = goes-now p was now found place d grown added breadth.bounded here breadth.goes at;
-      shortest = shortest-now p was before found place d breadth closed here more fresh;
+      shortest = shortest-now p was before found place d breadth meets.closed here more fresh;
+      ordered = ordered-now was before found place d breadth.sorted here meets.ended more fresh breadth.ordered;
     }

@@ -6,23 +6,29 @@
 --     AreDistinct       no two final states that were found are the same
 --     IsShortest        no whole schedule that ends with the final state that was found is shorter than its own
 --     AreShortest       each final state that was found has a shortest schedule
+--     AreOrdered        no final state has a longer schedule than one that comes later
 --     HasEachOutcome    the final state of each whole schedule was found
 --     IsReachedScene    a schedule leads to a scene
 --     AreUnlike         no two scenes are alike
 --     IsAmongScenes     a scene is like one of these
 --     HasEachScene      each scene that a schedule leads to is like one of these
+--     IsNoFarther       a schedule leads to the one scene, and none with fewer moves to a scene like the other
+--     AreNearestFirst   the scenes are in the order of the lengths of their shortest schedules
 --     IsFollowed        each move from a scene leads to one that is like one of these, and the final state is found if the scene
 --                       is an end
---     AreFollowed       the first `count` scenes of a list were followed
---     CountsScenes      the number of states is that of scenes that were reached, no two of them alike. If the exploration is
---                       whole, each scene is like one of them; if it isn't, as many of them as the budget allows were followed,
---                       or more final states were found than the limit
---     IsTried           an exploration that isn't whole came to more states than its budget, or found more final states than the
---                       limit
+--     IsNextOfOne       a move leads to a scene from one of these
+--     IsEndOfOne        a final state is that of one of these scenes, which is an end
+--     Meets             whoever follows these scenes meets exactly those scenes, and finds exactly those final states: the opening
+--                       and what one move leads to, and the final state of each that is an end
+--     CountsScenes      the number of states is that of scenes that were reached, no two of them alike, nearest first. The first
+--                       of them, no more than the budget, were followed, and the search has met and found what comes of that
+--                       alone. If the exploration is whole, they are all that were met, and each scene is like one of them. If it
+--                       isn't, some are left to follow, and they are as many as the budget, or more final states were found than
+--                       the limit
 --     IsAccepted        a program that can be explored: each thread has a session, and the cache's shape is within its limits
 --     IsFaultOf         a program is refused with this fault
 --     IsRefusedAs       a program is explored if it is accepted, otherwise refused with its fault
-use Rattle.std.specs.Prelude.{◌≡◌, ℕ, ◌<◌, ◌≤◌, ◌⊎◌, List, length, true, false, Some, slice_get, Result, Ok, Err}
+use Rattle.std.specs.Prelude.{◌≡◌, ℕ, ◌<◌, ◌≤◌, ◌⊎◌, List, length, true, false, take, Result, Ok, Err}
 use Rattle.std.specs.List.{All, Any, AllPairs}
 use Rattle.jc_types.specs.Limits.{check}
 use Rattle.jc_types.specs.declared.limits.TheConstants.{SESSIONS_MAX}
@@ -66,11 +72,11 @@ IsShortest p x =
 abbrev pub AreShortest : Program → List Finding → Type 0
 AreShortest p found = All (λ x. IsShortest p x) found
 
+abbrev pub AreOrdered : List Finding → Type 0
+AreOrdered found = AllPairs (λ x y. length x.witness.items ≤ length y.witness.items) found
+
 abbrev pub HasEachOutcome : Program → List Finding → Type 0
 HasEachOutcome p found = (schedule : List Move) (f : FinalValue) → IsWholeSchedule p schedule f → IsFound f found
-
-abbrev pub IsTried : ℕ → Explored → Type 0
-IsTried budget r = (budget < r.states) ⊎ (OUTCOMES_MAX < length r.found.items)
 
 abbrev pub IsReachedScene : Program → SceneState → Type 0
 IsReachedScene p s = (schedule : List Move) × PlaysSchedule p (opening p) schedule s
@@ -84,21 +90,42 @@ IsAmongScenes scenes s = Any (λ t. ScenesAlike s t) scenes
 abbrev pub HasEachScene : Program → List SceneState → Type 0
 HasEachScene p scenes = (s : SceneState) → IsReachedScene p s → IsAmongScenes scenes s
 
+abbrev pub IsNoFarther : Program → SceneState → SceneState → Type 0
+IsNoFarther p s t =
+    (schedule : List Move) × PlaysSchedule p (opening p) schedule s
+    × ((other : List Move) (like : SceneState) → PlaysSchedule p (opening p) other like → ScenesAlike like t → length schedule ≤ length other)
+
+abbrev pub AreNearestFirst : Program → List SceneState → Type 0
+AreNearestFirst p scenes = AllPairs (λ s t. IsNoFarther p s t) scenes
+
 pub record IsFollowed (p : Program) (scenes : List SceneState) (found : List Finding) (s : SceneState) : Type 0 where
   pub goes : (m : Move) (new : SceneState) → Moves p s m new → IsAmongScenes scenes new
   pub ends : (f : FinalValue) → IsEnd p s → IsFinal s f → IsFound f found
 
-abbrev pub AreFollowed : Program → ℕ → List SceneState → List Finding → Type 0
-AreFollowed p count scenes found =
-    (k : ℕ) (s : SceneState) → k < count → slice_get scenes k ≡ Some s → IsFollowed p scenes found s
+abbrev pub IsNextOfOne : Program → List SceneState → SceneState → Type 0
+IsNextOfOne p followed s = Any (λ t. (m : Move) × Moves p t m s) followed
+
+abbrev pub IsEndOfOne : Program → List SceneState → FinalValue → Type 0
+IsEndOfOne p followed f = Any (λ s. IsEnd p s × IsFinal s f) followed
+
+pub record Meets (p : Program) (followed scenes : List SceneState) (found : List Finding) : Type 0 where
+  pub begins : IsAmongScenes scenes (opening p)
+  pub closed : All (λ s. IsFollowed p scenes found s) followed
+  pub near : All (λ s. (s ≡ opening p) ⊎ IsNextOfOne p followed s) scenes
+  pub ended : All (λ x. IsEndOfOne p followed (final_of x.state)) found
 
 pub record CountsScenes (p : Program) (budget : ℕ) (r : Explored) : Type 0 where
   pub scenes : List SceneState
   pub count_is : r.states ≡ length scenes
   pub reached : All (λ s. IsReachedScene p s) scenes
   pub unlike : AreUnlike scenes
-  pub each : r.is_whole ≡ true → HasEachScene p scenes
-  pub stopped : r.is_whole ≡ false → (OUTCOMES_MAX < length r.found.items) ⊎ AreFollowed p budget scenes r.found.items
+  pub sorted : AreNearestFirst p scenes
+  pub followed : ℕ
+  pub within : (followed ≤ budget) × (followed ≤ length scenes)
+  pub meets : Meets p (take followed scenes) scenes r.found.items
+  pub whole : r.is_whole ≡ true → (followed ≡ length scenes) × HasEachScene p scenes
+  pub stopped : r.is_whole ≡ false
+      → (followed < length scenes) × ((followed ≡ budget) ⊎ (OUTCOMES_MAX < length r.found.items))
 
 -- 3. Which programs are explored.
 

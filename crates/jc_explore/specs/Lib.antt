@@ -4,3 +4,5 @@ pub mod Final
 pub mod Keys
 pub mod Explored
 pub mod Search
+pub mod Watching
+pub mod Telling

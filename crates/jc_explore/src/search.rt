@@ -1,14 +1,16 @@
 //! The search: each state that can be reached is followed once, by one of the schedules that lead to it, the states of short
 //! schedules first.
 ghost use Rattle.jc_explore.specs.declared.search.TheConstants.{OUTCOMES_MAX};
-ghost use Rattle.std.specs.Prelude.{◌≡◌, ◌||◌, ◌≤◌, ◌<◌, Ok, length, true, false, IfOk, OnOk};
+ghost use Rattle.std.specs.Prelude.{◌≡◌, ◌||◌, ◌≤◌, ◌<◌, ◌∷◌, [], List, Ok, length, map, true, false, IfOk, OnOk};
 ghost use Rattle.std.specs.List.{All};
 ghost use Rattle.jc_types.specs.Limits.{check};
-ghost use Rattle.jc_explore.specs.Explored.{AreDistinct, AreShortest, AreWitnessed, HasEachOutcome, CountsScenes, IsEnd, IsFound, IsRefusedAs, IsTried, IsAccepted};
+ghost use Rattle.jc_explore.specs.Explored.{AreDistinct, AreOrdered, AreShortest, AreWitnessed, HasEachOutcome, CountsScenes, IsEnd, IsFound, IsRefusedAs, IsAccepted};
 ghost use Rattle.jc_explore.specs.Final.{final_of};
 ghost use Rattle.jc_explore.specs.Moves.{moves_up_to};
 ghost use Rattle.jc_explore.specs.Schedule.{PlaysSchedule, has_session, have_sessions, opening, scene_state};
-ghost use Rattle.jc_explore.specs.Search.{AreKnown, EndsSearch, Expands, Follows, HasExplored, IsSearchOf, KeepsMoves, NotesEnd, Searches, Visits, kept_if};
+ghost use Rattle.jc_explore.specs.Search.{AreKnown, Expands, Follows, HasExplored, IsSearchOf, IsSearched, KeepsMoves, NotesEnd, Searches, Visits, kept_if, progress_of};
+ghost use Rattle.jc_explore.specs.Telling.{IsToldAs, IsToldOf};
+ghost use Rattle.jc_explore.specs.Watching.{OnStates, Progress, Tells, WatchCall};
 
 use crate::final_state::FinalState;
 use crate::known::{States, note_next, note_state};
@@ -38,7 +40,7 @@ pub struct Finding {
 /// The result of an exploration.
 #[derive(Drop)]
 pub struct Explored {
-    /// The final states, each once.
+    /// The final states, each once. None comes before one with a shorter schedule.
     pub found: Vec<Finding>,
     /// The number of states that it has met: scenes, of which no two have the same essence, positions and replies. If each was
     /// followed, there is no other one.
@@ -291,7 +293,9 @@ fn has_too_many(found: &[Finding]) -> bool
 }
 
 /// Reports the progress of a search that has followed `followed` states.
-fn tell<W: Watch>(watch: &mut W, followed: usize, search: &Search) {
+fn tell<W: Watch>(watch: &mut W, followed: usize, search: &Search)
+    ensures { Tells (W.told watch.old) (W.told watch.new) (OnStates (progress_of followed search.now) ∷ []) }
+{
     let (known, found) = (search.known.list.len(), search.found.len());
     watch.on_states(followed as u64, known as u64, found as u64);
 }
@@ -307,7 +311,8 @@ fn visit_all<W: Watch>(
 ) -> Result<bool, AllocError>
     requires accepted { IsAccepted program.now }
     requires search { Searches program.now search.old }
-    ensures { IfOk result (λ whole. EndsSearch program.now states search.new whole) }
+    ensures { (rows : List Progress) × Tells (W.told watch.old) (W.told watch.new) (map OnStates rows)
+        × IsSearched program.now states rows search.new result }
 {
     let moves = moves_up_to(alloc, program.threads.len())?;
     runs_are_determined();
@@ -350,11 +355,13 @@ fn search_with<W: Watch>(
 ) -> Result<Explored, AllocError>
     requires accepted { IsAccepted program.now }
     requires opened { scene_state scene.old ≡ opening program.now }
-    ensures { IfOk result (λ r. HasExplored program.now states r) }
+    ensures explored { IfOk result (λ r. HasExplored program.now states r) }
+    ensures told { (rows : List Progress) × Tells (W.told watch.old) (W.told watch.new) (map OnStates rows)
+        × IsToldOf program.now states rows result }
 {
+    runs_are_determined();
     let mut search = begin(alloc, program, scene)?;
     let is_whole = visit_all(alloc, program, scene, states, &mut search, watch)?;
-    runs_are_determined();
     has_one_snapshot(&search.known.seen);
     let Search { known, found } = search;
     Ok(Explored {
@@ -372,7 +379,9 @@ fn search_anew<W: Watch>(
     watch: &mut W,
 ) -> Result<Explored, AllocError>
     requires accepted { IsAccepted program.now }
-    ensures { IfOk result (λ r. HasExplored program.now states r) }
+    ensures explored { IfOk result (λ r. HasExplored program.now states r) }
+    ensures told { (rows : List Progress) × Tells (W.told watch.old) (W.told watch.new) (map OnStates rows)
+        × IsToldOf program.now states rows result }
 {
     let mut scene = Scene::open(alloc, program)?;
     let explored = search_with(alloc, program, &mut scene, states, watch);
@@ -383,15 +392,14 @@ fn search_anew<W: Watch>(
 /// Explores a program: each final state that it can have, with a schedule that leads there.
 ///
 /// It follows at most `states` states, those of short schedules first, and no further one once it has found more than
-/// [`OUTCOMES_MAX`] final states. If states are left then, the exploration isn't whole. Even so each final state that it has
-/// found is real. And if it stopped for its budget alone, it has found the final states of all ends among the states that it
-/// followed. It keeps some 2,500 bytes a state.
+/// [`OUTCOMES_MAX`] final states. If a state is left then, the exploration isn't whole. Even so each final state that it has
+/// found is real, and it has found those of all ends among the states that it followed. It keeps some 2,500 bytes a state.
 ///
 /// `OutOfMemory` says that an allocation failed. The results so far are then lost, and a later call starts again. A program with
 /// too many threads, or a shape that `Config::check` refuses, is refused before anything is searched. The call doesn't wait.
 ///
-/// `watch` is told the progress of the search before each state that is followed, and once that it is over, also if an allocation
-/// has failed. A program that is refused isn't searched, and `watch` is told nothing. A watch can't change the answer.
+/// `watch` is told the progress of the search before each state that is followed, and then once that it is over, also if an
+/// allocation has failed. A program that is refused isn't searched, and `watch` is told nothing. A watch can't change the answer.
 pub fn explore<W: Watch>(
     alloc: Global,
     program: &Program,
@@ -401,11 +409,13 @@ pub fn explore<W: Watch>(
     ensures witnessed { IfOk result (λ r. AreWitnessed program.now r.found.items) }
     ensures distinct { IfOk result (λ r. AreDistinct r.found.items) }
     ensures shortest { IfOk result (λ r. AreShortest program.now r.found.items) }
+    ensures ordered { IfOk result (λ r. AreOrdered r.found.items) }
     ensures all { IfOk result (λ r. r.is_whole ≡ true → HasEachOutcome program.now r.found.items) }
-    ensures budget { IfOk result (λ r. r.is_whole ≡ true → r.states ≤ states) }
-    ensures tried { IfOk result (λ r. r.is_whole ≡ false → IsTried states r) }
     ensures counted { IfOk result (λ r. CountsScenes program.now states r) }
     ensures refused { IsRefusedAs program.now result }
+    // The progress before each state that is followed, and one end; nothing if the program is refused.
+    ensures told { (calls : List WatchCall) × Tells (W.told watch.old) (W.told watch.new) calls
+        × IsToldAs program.now states calls result }
 {
     if program.threads.len() > SESSIONS_MAX as usize {
         return Err(ExploreFault::TooManyThreads);

@@ -1,7 +1,8 @@
 -- An exploration's answer, as text.
 --     calls_before                  the number of calls before a place of a thread's list
 --     replies_to                    the number of replies that a thread got
---     item_name                     the name of an item, and a space: its thread and its place there, both counted from 1
+--     asked_words                   the words of what a call asks for
+--     call_name                     a call as it is named: its thread and its place there, both counted from 1, and what it asks for
 --     reply_line                    the line of a call that was answered
 --     unanswered_line               the line of a call that is never answered
 --     answer_line                   the line of a call: its reply, or that it has none, if it is the first such call of its
@@ -32,21 +33,26 @@
 use Rattle.std.specs.Prelude.{◌==◌, ℕ, zero, suc, ◌+◌, List, [], ◌++◌, codes, decimal, length, take, count_by, Bool, true, false, nat_lt, Option, None, Some, slice_get, if◌then◌else◌}
 use Rattle.std.specs.List.{flat_map}
 use Rattle.std.specs.Global.{Vec}
+use Rattle.jc_model.specs.Cache.{Bytes}
+use Rattle.jc_model.specs.declared.event.Op.TheVariants.{Invoke}
 use Rattle.jc_model.specs.declared.event.Reply.{Reply}
 use Rattle.jc_explore.specs.declared.final_state.FinalState.{FinalState}
 use Rattle.jc_explore.specs.declared.program.Item.{Item}
+use Rattle.jc_explore.specs.declared.program.Item.TheVariants as item
 use Rattle.jc_explore.specs.declared.program.Program.{Program}
 use Rattle.jc_explore.specs.declared.replies.ThreadReply.{ThreadReply}
 use Rattle.jc_explore.specs.declared.search.Explored.{Explored}
 use Rattle.jc_explore.specs.declared.search.Finding.{Finding}
 use Rattle.jc_explore.specs.declared.search.TheConstants.{OUTCOMES_MAX}
 use Rattle.jc_text.specs.Printing.{coherence_text, entries_line}
+use Rattle.jc_text.specs.Spelled.{operation_words}
 use Rattle.jc_litmus.specs.declared.judge.Verdict.{Verdict}
 use Rattle.jc_litmus.specs.declared.judge.Verdict.TheVariants.{Holds, Fails, Open}
 use Rattle.jc_litmus.specs.declared.program.Expectation.{Expectation}
 use Rattle.jc_litmus.specs.declared.program.LineFault.{LineFault}
 use Rattle.jc_litmus.specs.LineFaults.{line_fault_text}
 use Rattle.jc_litmus.specs.Calls.{is_call}
+use Rattle.jc_litmus.specs.Spaced.{spaced}
 use Rattle.jc_litmus.specs.ReplyTexts.{replied_text, unanswered_text}
 use Rattle.jc_litmus.specs.Judging.{reply_of, verdict_on}
 use Rattle.jc_litmus.specs.Witness.{witness_text}
@@ -59,27 +65,32 @@ calls_before items at = count_by is_call (take at items)
 abbrev pub replies_to : ℕ → List ThreadReply → ℕ
 replies_to thread replies = count_by (λ r. r.thread == thread) replies
 
-unfoldable pub item_name : ℕ → ℕ → List ℕ
-item_name thread at = decimal (thread + 1) ++ codes "." ++ decimal (at + 1) ++ codes " "
+abbrev pub asked_words : Item → List Bytes
+asked_words (item.Call op key) = operation_words op key
+asked_words (item.Invoke key calls) = operation_words Invoke key
+asked_words (item.Foreign key value) = []
 
-unfoldable pub reply_line : ℕ → ℕ → Reply → List ℕ
-reply_line thread at reply = item_name thread at ++ replied_text reply ++ codes "\n"
+unfoldable pub call_name : ℕ → ℕ → Item → List ℕ
+call_name thread at x = decimal (thread + 1) ++ codes "." ++ decimal (at + 1) ++ spaced (asked_words x) ++ codes ": "
 
-unfoldable pub unanswered_line : ℕ → ℕ → List ℕ
-unanswered_line thread at = item_name thread at ++ unanswered_text ++ codes "\n"
+unfoldable pub reply_line : ℕ → ℕ → Item → Reply → List ℕ
+reply_line thread at x reply = call_name thread at x ++ replied_text reply ++ codes "\n"
 
-abbrev pub answer_line : ℕ → ℕ → Bool → Option Reply → List ℕ
-answer_line thread at first (Some reply) = reply_line thread at reply
-answer_line thread at true None = unanswered_line thread at
-answer_line thread at false None = []
+unfoldable pub unanswered_line : ℕ → ℕ → Item → List ℕ
+unanswered_line thread at x = call_name thread at x ++ unanswered_text ++ codes "\n"
 
-abbrev pub thread_call_text : List ThreadReply → ℕ → ℕ → ℕ → List ℕ
-thread_call_text replies thread at call = answer_line thread at (call == replies_to thread replies) (reply_of thread call replies)
+abbrev pub answer_line : ℕ → ℕ → Item → Bool → Option Reply → List ℕ
+answer_line thread at x first (Some reply) = reply_line thread at x reply
+answer_line thread at x true None = unanswered_line thread at x
+answer_line thread at x false None = []
+
+abbrev pub thread_call_text : List ThreadReply → ℕ → ℕ → Item → ℕ → List ℕ
+thread_call_text replies thread at x call = answer_line thread at x (call == replies_to thread replies) (reply_of thread call replies)
 
 abbrev pub item_if : List ThreadReply → ℕ → List Item → ℕ → Option Item → List ℕ
 item_if replies thread items at None = []
 item_if replies thread items at (Some x) =
-    if is_call x then thread_call_text replies thread at (calls_before items at) else []
+    if is_call x then thread_call_text replies thread at x (calls_before items at) else []
 
 abbrev pub item_text : List ThreadReply → ℕ → List Item → ℕ → List ℕ
 item_text replies thread items at = item_if replies thread items at (slice_get items at)

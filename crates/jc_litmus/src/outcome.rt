@@ -1,14 +1,16 @@
 //! Outcomes, as text.
 ghost use Rattle.std.specs.Prelude.{◌≡◌, ◌++◌, ◌+◌, ◌<◌, ◌^◌, length, slice_get, OnOk};
 ghost use Rattle.jc_litmus.specs.ReplyTexts.{refused_text, replied_text};
-ghost use Rattle.jc_litmus.specs.Outcomes.{calls_before, item_name, item_text, number_line, outcome_if, outcome_text, outcomes_text, thread_call_text};
+ghost use Rattle.jc_litmus.specs.Spaced.{spaced};
+ghost use Rattle.jc_litmus.specs.Outcomes.{asked_words, call_name, calls_before, item_text, number_line, outcome_if, outcome_text, outcomes_text, thread_call_text};
 ghost use Rattle.jc_litmus.specs.Outcomes.{replies_to, reply_line, state_text, thread_at, thread_text, threads_text, unanswered_line};
 
 use crate::calls::is_call;
 use crate::judge::reply_of;
+use crate::spelling::put_operation;
 use crate::witness::put_witness;
 use jc_explore::{FinalState, Finding, Item, Program, ThreadReply};
-use jc_model::Reply;
+use jc_model::{Op, Reply};
 use jc_text::print::audit::{put_coherence, put_entries_line};
 use jc_text::print::{Piece, put, put_pieces};
 use jc_types::Refusal;
@@ -51,12 +53,23 @@ fn put_replied(out: &mut Vec<u8>, reply: &Reply) -> Result<(), AllocError>
     }
 }
 
-/// Appends the name of an item, and a space.
-#[tactic(auto, unfolding(crate::specs::Outcomes::item_name))]
-fn put_item_name(out: &mut Vec<u8>, thread: usize, at: usize) -> Result<(), AllocError>
+/// Appends the words of what a call asks for, each after a space.
+fn put_asked(out: &mut Vec<u8>, item: &Item) -> Result<(), AllocError>
+    ensures { OnOk result (out.new.items ≡ out.old.items ++ spaced (asked_words item.now)) }
+{
+    match item {
+        Item::Call { op, key } => put_operation(out, op, key),
+        Item::Invoke { key, calls: _ } => put_operation(out, &Op::Invoke, key),
+        Item::Foreign { key: _, value: _ } => Ok(()),
+    }
+}
+
+/// Appends a call as it is named, and a colon.
+#[tactic(auto, unfolding(crate::specs::Outcomes::call_name))]
+fn put_call_name(out: &mut Vec<u8>, thread: usize, at: usize, item: &Item) -> Result<(), AllocError>
     requires thread { thread + 1 < 2 ^ 64 }
     requires at { at + 1 < 2 ^ 64 }
-    ensures { OnOk result (out.new.items ≡ out.old.items ++ item_name thread at) }
+    ensures { OnOk result (out.new.items ≡ out.old.items ++ call_name thread at item.now) }
 {
     put_pieces(
         out,
@@ -64,9 +77,10 @@ fn put_item_name(out: &mut Vec<u8>, thread: usize, at: usize) -> Result<(), Allo
             Piece::Number(thread as u64 + 1),
             Piece::Text("."),
             Piece::Number(at as u64 + 1),
-            Piece::Text(" "),
         ],
-    )
+    )?;
+    put_asked(out, item)?;
+    put(out, ": ")
 }
 
 /// Appends the line of a call that was answered.
@@ -75,25 +89,31 @@ fn put_reply_line(
     out: &mut Vec<u8>,
     thread: usize,
     at: usize,
+    item: &Item,
     reply: &Reply,
 ) -> Result<(), AllocError>
     requires thread { thread + 1 < 2 ^ 64 }
     requires at { at + 1 < 2 ^ 64 }
-    ensures { OnOk result (out.new.items ≡ out.old.items ++ reply_line thread at reply.now) }
+    ensures { OnOk result (out.new.items ≡ out.old.items ++ reply_line thread at item.now reply.now) }
 {
-    put_item_name(out, thread, at)?;
+    put_call_name(out, thread, at, item)?;
     put_replied(out, reply)?;
     put(out, "\n")
 }
 
 /// Appends the line of a call that is never answered.
 #[tactic(auto, unfolding(crate::specs::Outcomes::unanswered_line))]
-fn put_unanswered_line(out: &mut Vec<u8>, thread: usize, at: usize) -> Result<(), AllocError>
+fn put_unanswered_line(
+    out: &mut Vec<u8>,
+    thread: usize,
+    at: usize,
+    item: &Item,
+) -> Result<(), AllocError>
     requires thread { thread + 1 < 2 ^ 64 }
     requires at { at + 1 < 2 ^ 64 }
-    ensures { OnOk result (out.new.items ≡ out.old.items ++ unanswered_line thread at) }
+    ensures { OnOk result (out.new.items ≡ out.old.items ++ unanswered_line thread at item.now) }
 {
-    put_item_name(out, thread, at)?;
+    put_call_name(out, thread, at, item)?;
     put_pieces(out, &[Piece::Text("never answered"), Piece::Text("\n")])
 }
 
@@ -103,17 +123,19 @@ fn put_call(
     replies: &[ThreadReply],
     thread: usize,
     at: usize,
+    item: &Item,
     call: usize,
 ) -> Result<(), AllocError>
     requires thread { thread + 1 < 2 ^ 64 }
     requires at { at + 1 < 2 ^ 64 }
-    ensures { OnOk result (out.new.items ≡ out.old.items ++ thread_call_text replies.now thread at call) }
+    ensures { OnOk result (out.new.items
+        ≡ out.old.items ++ thread_call_text replies.now thread at item.now call) }
 {
     match reply_of(thread, call, replies) {
-        Some(reply) => put_reply_line(out, thread, at, &reply),
+        Some(reply) => put_reply_line(out, thread, at, item, &reply),
         None => {
             if call == replies_to(thread, replies) {
-                put_unanswered_line(out, thread, at)
+                put_unanswered_line(out, thread, at, item)
             } else {
                 Ok(())
             }
@@ -133,8 +155,9 @@ fn put_item(
     requires at { at < length items.now }
     ensures { OnOk result (out.new.items ≡ out.old.items ++ item_text replies.now thread items.now at) }
 {
-    if is_call(&items[at]) {
-        put_call(out, replies, thread, at, calls_before(items, at))
+    let item = &items[at];
+    if is_call(item) {
+        put_call(out, replies, thread, at, item, calls_before(items, at))
     } else {
         Ok(())
     }

@@ -96,8 +96,67 @@ pub struct Beginning {
     pub session: u64,
 }
 
-/// Appends the line by which a session begins an operation that has no name: one of a bulk call.
-fn put_nameless(out: &mut Vec<u8>, beginning: Beginning) -> Result<(), AllocError>
+/// Appends the name of an operation and its key, each after a space.
+fn put_named<'a>(out: &mut Vec<u8>, name: &'a str, key: &'a Key) -> Result<(), AllocError>
+    ensures { OnOk result (out.new.items ≡ out.old.items ++ spaced (name.now ∷ key.now ∷ [])) }
+{
+    put_pieces(
+        out,
+        &[
+            Piece::Text(" "),
+            Piece::Text(name),
+            Piece::Text(" "),
+            Piece::Key(key),
+        ],
+    )
+}
+
+/// Appends the name of an operation, its key and its value, each after a space.
+fn put_valued<'a>(
+    out: &mut Vec<u8>,
+    name: &'a str,
+    key: &'a Key,
+    value: &'a Value,
+) -> Result<(), AllocError>
+    ensures { OnOk result (out.new.items
+        ≡ out.old.items ++ spaced (name.now ∷ key.now ∷ value_text value.now ∷ [])) }
+{
+    put_named(out, name, key)?;
+    put_pieces(out, &[Piece::Text(" "), Piece::Value(value)])
+}
+
+/// Appends the name of an operation, its key and its two values, each after a space.
+fn put_two_valued<'a>(
+    out: &mut Vec<u8>,
+    name: &'a str,
+    key: &'a Key,
+    old: &'a Value,
+    new: &'a Value,
+) -> Result<(), AllocError>
+    ensures { OnOk result (out.new.items
+        ≡ out.old.items ++ spaced (name.now ∷ key.now ∷ value_text old.now ∷ value_text new.now ∷ [])) }
+{
+    put_valued(out, name, key, old)?;
+    put_pieces(out, &[Piece::Text(" "), Piece::Value(new)])
+}
+
+/// Appends the words of an operation at a key, each after a space: nothing, if it has no name, as one of a bulk call.
+pub fn put_operation(out: &mut Vec<u8>, op: &Op, key: &Key) -> Result<(), AllocError>
+    ensures { OnOk result (out.new.items ≡ out.old.items ++ spaced (operation_words op.now key.now)) }
+{
+    let name = match op_name(op) {
+        Some(name) => name,
+        None => return Ok(()),
+    };
+    match op.values() {
+        OpValues::Nothing => put_named(out, name, key),
+        OpValues::One(value) => put_valued(out, name, key, value),
+        OpValues::Two { first, second } => put_two_valued(out, name, key, first, second),
+    }
+}
+
+/// Appends the first words of the line by which a session begins a call.
+fn put_beginning(out: &mut Vec<u8>, beginning: Beginning) -> Result<(), AllocError>
     ensures { OnOk result (out.new.items
         ≡ out.old.items ++ begin_text beginning.call beginning.session []) }
 {
@@ -112,59 +171,6 @@ fn put_nameless(out: &mut Vec<u8>, beginning: Beginning) -> Result<(), AllocErro
     )
 }
 
-/// Appends the line by which a session begins an operation of this name.
-fn put_named<'a>(
-    out: &mut Vec<u8>,
-    beginning: Beginning,
-    name: &'a str,
-    key: &'a Key,
-) -> Result<(), AllocError>
-    ensures { OnOk result (out.new.items
-        ≡ out.old.items ++ begin_text beginning.call beginning.session (name.now ∷ key.now ∷ [])) }
-{
-    put_nameless(out, beginning)?;
-    put_pieces(
-        out,
-        &[
-            Piece::Text(" "),
-            Piece::Text(name),
-            Piece::Text(" "),
-            Piece::Key(key),
-        ],
-    )
-}
-
-/// Appends the line by which a session begins an operation of this name, with a value.
-fn put_valued<'a>(
-    out: &mut Vec<u8>,
-    beginning: Beginning,
-    name: &'a str,
-    key: &'a Key,
-    value: &'a Value,
-) -> Result<(), AllocError>
-    ensures { OnOk result (out.new.items ≡ out.old.items
-        ++ begin_text beginning.call beginning.session (name.now ∷ key.now ∷ value_text value.now ∷ [])) }
-{
-    put_named(out, beginning, name, key)?;
-    put_pieces(out, &[Piece::Text(" "), Piece::Value(value)])
-}
-
-/// Appends the line by which a session begins an operation of this name, with two values.
-fn put_two_valued<'a>(
-    out: &mut Vec<u8>,
-    beginning: Beginning,
-    name: &'a str,
-    key: &'a Key,
-    old: &'a Value,
-    new: &'a Value,
-) -> Result<(), AllocError>
-    ensures { OnOk result (out.new.items ≡ out.old.items ++ begin_text beginning.call beginning.session
-        (name.now ∷ key.now ∷ value_text old.now ∷ value_text new.now ∷ [])) }
-{
-    put_valued(out, beginning, name, key, old)?;
-    put_pieces(out, &[Piece::Text(" "), Piece::Value(new)])
-}
-
 /// Appends the line by which a session begins a call.
 pub fn put_begin(
     out: &mut Vec<u8>,
@@ -175,17 +181,9 @@ pub fn put_begin(
     ensures { OnOk result (out.new.items ≡ out.old.items
         ++ begin_text beginning.call beginning.session (operation_words op.now key.now)) }
 {
-    let name = match op_name(op) {
-        Some(name) => name,
-        None => return put_nameless(out, beginning),
-    };
-    match op.values() {
-        OpValues::Nothing => put_named(out, beginning, name, key),
-        OpValues::One(value) => put_valued(out, beginning, name, key, value),
-        OpValues::Two { first, second } => {
-            put_two_valued(out, beginning, name, key, first, second)
-        }
-    }
+    put_beginning(out, beginning)?;
+    put_operation(out, op, key)?;
+    Ok(())
 }
 
 /// Appends a line of a word and a call's number.

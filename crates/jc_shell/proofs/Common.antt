@@ -13,7 +13,8 @@ pub use Rattle.jc_text.specs.declared.fault.Fault.{Fault}
 pub use Rattle.jc_script.specs.Transcript.{IsTranscript, OpenedWorld, Prints, Transcript, fault_of, opened_world}
 pub use Rattle.jc_script.specs.declared.run.RunEnd.TheVariants.{Clean, LineFault}
 pub use Rattle.jc_shell.specs.Holding.{Holds, PlaysOn}
-pub use Rattle.jc_shell.specs.Saving.{Saved, Saves}
+pub use Rattle.jc_shell.specs.Running.{LateCalls}
+pub use Rattle.jc_shell.specs.Saving.{Calls, SaveCall, SavesNothing}
 pub use Rattle.jc_shell.specs.Sessions.{Accepted, AnswersLine, AnswersWord, AreAnswered, IsLineAccepted, IsLineRejected, has_feed, next_line_number, nobody, script_of, with_accepted}
 pub use Rattle.jc_shell.specs.ShellWords.{help_text, not_saved_text, word_of}
 pub use Rattle.jc_shell.specs.declared.run.ShellFault.TheVariants.{OutOfMemory, Read, TooLong, Write}

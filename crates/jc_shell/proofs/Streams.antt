@@ -1,12 +1,12 @@
 -- What was read, answered and written, one part after another.
-use Rattle.jc_shell.proofs.Common.{◌≡◌, ◌-◌, ◌+◌, ℕ, List, [], ◌∷◌, ◌++◌, length, drop, Option, None, Some, Result, Ok, Err, OnOk, IfErr, inl, inr, ◌⊎◌, false, refl, sym, ap, ◌∙◌, append_assoc, append-nil, arith, drop-append_seam, take-append-add, take-length, flat_map-append, length-append, take-append-le, Appends, Consumes, IsAtEnd, codes, Read, TooLong, OutOfMemory, Write, OpenedWorld, Holds, Saved, Saves, Accepted, AnswersLine, AreAnswered, has_feed, nobody, script_of, appends-then}
+use Rattle.jc_shell.proofs.Common.{◌≡◌, ◌-◌, ◌+◌, ℕ, List, [], ◌∷◌, ◌++◌, length, drop, Option, None, Some, Result, Ok, Err, OnOk, IfErr, inl, inr, ◌⊎◌, false, refl, sym, ap, ◌∙◌, append_assoc, append-nil, arith, drop-append_seam, take-append-add, take-length, flat_map-append, length-append, take-append-le, Appends, Consumes, IsAtEnd, codes, Read, TooLong, OutOfMemory, Write, OpenedWorld, Holds, LateCalls, Calls, SaveCall, Accepted, AnswersLine, AreAnswered, has_feed, nobody, script_of, appends-then}
 use Rattle.jc_shell.specs.declared.run.ShellFault.{ShellFault}
 use Rattle.jc_shell.specs.Running.{EndsDialogue, LastText, RunsDialogue, Stopped, WrittenBy}
-use Rattle.jc_shell.proofs.Turns.{saves_none, saves_then, script_more}
+use Rattle.jc_shell.proofs.Turns.{calls_none, calls_then, script_more}
 
 -- ---- lines after lines
 
-pub answered_then : (prompt : List ℕ) (ls ms : List (List ℕ)) (o p : List ℕ) (s t : List Saved) (a b c : Accepted)
+pub answered_then : (prompt : List ℕ) (ls ms : List (List ℕ)) (o p : List ℕ) (s t : List SaveCall) (a b c : Accepted)
     → AreAnswered prompt a ls o s b → AreAnswered prompt b ms p t c → AreAnswered prompt a (ls ++ ms) (o ++ p) (s ++ t) c
 answered_then prompt [] ms o p s t a b c (o_is, s_is, same) more = rw (o_is, s_is, ← same) more
 answered_then prompt (l ∷ ls) ms o p s t a b c (answer, rest, now, later, d, whole, answers, others, o_is, s_is) more = (
@@ -19,10 +19,10 @@ answered_then prompt (l ∷ ls) ms o p s t a b c (answer, rest, now, later, d, w
   answers,
   answered_then prompt ls ms rest p later t d b c others more,
   ap (λ (x : List ℕ). x ++ p) o_is ∙ append_assoc (answer ++ prompt) rest p,
-  ap (λ (x : List Saved). x ++ t) s_is ∙ append_assoc now later t,
+  ap (λ (x : List SaveCall). x ++ t) s_is ∙ append_assoc now later t,
 )
 
-pub answered_one : (prompt : List ℕ) (a : Accepted) (line answer : List ℕ) (saved : List Saved) (b : Accepted)
+pub answered_one : (prompt : List ℕ) (a : Accepted) (line answer : List ℕ) (saved : List SaveCall) (b : Accepted)
     → has_feed line ≡ false → AnswersLine a line answer saved b → AreAnswered prompt a (line ∷ []) (answer ++ prompt) saved b
 answered_one prompt a line answer saved b whole answers =
     (answer, [], saved, [], b, whole, answers, (refl, refl, refl), sym (append-nil (answer ++ prompt)), sym (append-nil saved))
@@ -87,11 +87,11 @@ err_then (Err e) P Q f p = f e p
 
 -- ---- a session so far
 
-pub record Talked (prompt : List ℕ) (before after old new : Option (List ℕ)) (kept saved : Option (List Saved)) (input : List ℕ) (at : ℕ) (script : List ℕ) (count : ℕ) (world : OpenedWorld) : Type 0 where
+pub record Talked (prompt : List ℕ) (before after old new : Option (List ℕ)) (kept saved : Option (List SaveCall)) (input : List ℕ) (at : ℕ) (script : List ℕ) (count : ℕ) (world : OpenedWorld) : Type 0 where
   pub lines : List (List ℕ)
   pub rest : List ℕ
   pub answers : List ℕ
-  pub more : List Saved
+  pub more : List SaveCall
   pub b : Accepted
   pub answered : AreAnswered prompt nobody lines answers more b
   pub input_is : input ≡ script_of lines ++ rest
@@ -99,7 +99,7 @@ pub record Talked (prompt : List ℕ) (before after old new : Option (List ℕ))
   pub whole : has_feed rest ≡ false
   pub read : Consumes before after input
   pub written : Appends old new (prompt ++ answers)
-  pub saves : Saves kept saved more
+  pub saves : Calls kept saved more
   pub holds : Holds b script count world
 
 consumes_none : (a : Option (List ℕ)) → Consumes a a []
@@ -120,11 +120,11 @@ all_of front rest bytes input more at e count grown =
     grown ∙ ap (λ (t : List ℕ). t ++ bytes) e ∙ append_assoc front rest bytes
     ∙ ap (λ (t : List ℕ). front ++ t) (sym (rest_at front rest bytes input more at e count grown))
 
-pub talked_next : (prompt : List ℕ) (before after later old new newer : Option (List ℕ)) (kept saved latest : Option (List Saved)) (input bytes grown : List ℕ) (at left : ℕ)
-    (script script' : List ℕ) (count count' : ℕ) (world world' : OpenedWorld) (lines : List (List ℕ)) (answers : List ℕ) (more : List Saved) (rest : List ℕ) (c : Accepted)
+pub talked_next : (prompt : List ℕ) (before after later old new newer : Option (List ℕ)) (kept saved latest : Option (List SaveCall)) (input bytes grown : List ℕ) (at left : ℕ)
+    (script script' : List ℕ) (count count' : ℕ) (world world' : OpenedWorld) (lines : List (List ℕ)) (answers : List ℕ) (more : List SaveCall) (rest : List ℕ) (c : Accepted)
     → (t : Talked prompt before after old new kept saved input at script count world)
     → Consumes after later bytes → grown ≡ input ++ bytes
-    → AreAnswered prompt t.b lines answers more c → drop at grown ≡ script_of lines ++ rest → Appends new newer answers → Saves saved latest more
+    → AreAnswered prompt t.b lines answers more c → drop at grown ≡ script_of lines ++ rest → Appends new newer answers → Calls saved latest more
     → left ≡ length rest → has_feed rest ≡ false → Holds c script' count' world'
     → Talked prompt before later old newer kept latest grown (length grown - left) script' count' world'
 talked_next prompt before after later old new newer kept saved latest input bytes grown at left script script' count count' world world' lines answers more rest c t read is are cut app sv left_is whole h =
@@ -141,17 +141,17 @@ talked_next prompt before after later old new newer kept saved latest input byte
       whole = whole;
       read = rw is (consumes_then before after later input bytes t.read read);
       written = rw (← append_assoc prompt t.answers answers) (appends-then old new newer (prompt ++ t.answers) answers t.written app);
-      saves = saves_then kept saved latest t.more more t.saves sv;
+      saves = calls_then kept saved latest t.more more t.saves sv;
       holds = h;
     }
 
 -- ---- how a session ends
 
-pub ran_quit : (prompt : List ℕ) (before after later old new newer : Option (List ℕ)) (kept saved latest : Option (List Saved)) (input bytes grown : List ℕ) (at : ℕ)
-    (script : List ℕ) (count : ℕ) (world : OpenedWorld) (lines : List (List ℕ)) (answers : List ℕ) (more : List Saved) (rest others : List ℕ) (c : Accepted)
+pub ran_quit : (prompt : List ℕ) (before after later old new newer : Option (List ℕ)) (kept saved latest : Option (List SaveCall)) (input bytes grown : List ℕ) (at : ℕ)
+    (script : List ℕ) (count : ℕ) (world : OpenedWorld) (lines : List (List ℕ)) (answers : List ℕ) (more : List SaveCall) (rest others : List ℕ) (c : Accepted)
     → (t : Talked prompt before after old new kept saved input at script count world)
     → Consumes after later bytes → grown ≡ input ++ bytes
-    → AreAnswered prompt t.b lines answers more c → drop at grown ≡ script_of lines ++ rest → Appends new newer answers → Saves saved latest more
+    → AreAnswered prompt t.b lines answers more c → drop at grown ≡ script_of lines ++ rest → Appends new newer answers → Calls saved latest more
     → rest ≡ codes "quit" ++ 10 ∷ others
     → RunsDialogue prompt before later old newer kept latest
 ran_quit prompt before after later old new newer kept saved latest input bytes grown at script count world lines answers more rest others c t read is are cut app sv quit =
@@ -162,16 +162,16 @@ ran_quit prompt before after later old new newer kept saved latest input bytes g
       rest = rest;
       answers = t.answers ++ answers;
       text = [];
-      more = t.more ++ more;
+      calls = t.more ++ more;
       accepted = c;
       read = rw (← all, is) taken;
       answered = answered_then prompt t.lines lines t.answers answers t.more more nobody t.b c t.answered are;
       ends = inl (refl, (others, quit));
       written = rw (append-nil (prompt ++ (t.answers ++ answers)), ← append_assoc prompt t.answers answers) (appends-then old new newer (prompt ++ t.answers) answers t.written app);
-      saves = saves_then kept saved latest t.more more t.saves sv;
+      saves = calls_then kept saved latest t.more more t.saves sv;
     }
 
-pub ran_out : (prompt : List ℕ) (before after later old new newer : Option (List ℕ)) (kept saved : Option (List Saved)) (input bytes grown : List ℕ) (at : ℕ)
+pub ran_out : (prompt : List ℕ) (before after later old new newer : Option (List ℕ)) (kept saved : Option (List SaveCall)) (input bytes grown : List ℕ) (at : ℕ)
     (script : List ℕ) (count : ℕ) (world : OpenedWorld) (text : List ℕ)
     → (t : Talked prompt before after old new kept saved input at script count world)
     → Consumes after later bytes → grown ≡ input ++ bytes → bytes ≡ [] → IsAtEnd later
@@ -185,7 +185,7 @@ ran_out prompt before after later old new newer kept saved input bytes grown at 
       rest = t.rest;
       answers = t.answers;
       text = text;
-      more = t.more;
+      calls = t.more;
       accepted = t.b;
       read = rw (← all, is) (consumes_then before after later input bytes t.read read);
       answered = t.answered;
@@ -196,7 +196,24 @@ ran_out prompt before after later old new newer kept saved input bytes grown at 
 
 -- ---- and where an error stops it
 
-pub stopped_first : (prompt : List ℕ) (e : ShellFault) (reader old new : Option (List ℕ)) (kept : Option (List Saved)) (out : List ℕ)
+not_reading : (e : ShellFault) {P : Type 0} → (e ≡ Write) ⊎ (e ≡ OutOfMemory) → (e ≡ Read) ⊎ (e ≡ TooLong) → P
+not_reading e (inl write) (inl read) = absurd cc
+not_reading e (inl write) (inr long) = absurd cc
+not_reading e (inr none) (inl read) = absurd cc
+not_reading e (inr none) (inr long) = absurd cc
+
+-- a failed read takes nothing
+pub nothing_taken : {e : ShellFault} {bytes : List ℕ} → (e ≡ Read → bytes ≡ []) → (e ≡ TooLong → ⊥) → (e ≡ Read) ⊎ (e ≡ TooLong) → bytes ≡ []
+nothing_taken none few (inl read) = none read
+nothing_taken none few (inr long) = absurd (few long)
+
+pub late_none : (e : ShellFault) → LateCalls e []
+late_none OutOfMemory = refl
+late_none Read = refl
+late_none TooLong = refl
+late_none Write = refl
+
+pub stopped_first : (prompt : List ℕ) (e : ShellFault) (reader old new : Option (List ℕ)) (kept : Option (List SaveCall)) (out : List ℕ)
     → e ≡ Write → WrittenBy Write prompt out → Appends old new out → Stopped prompt e reader reader old new kept kept
 stopped_first prompt e reader old new kept out is part app = record {
   lines = [];
@@ -204,44 +221,52 @@ stopped_first prompt e reader old new kept out is part app = record {
   answers = [];
   text = [];
   out = out;
-  more = [];
+  calls = [];
+  late = [];
   accepted = nobody;
   read = consumes_none reader;
+  whole = λ reading. refl;
   answered = (refl, refl, refl);
   ends = inl refl;
   part = rw (is, append-nil (prompt ++ []), append-nil prompt) part;
   written = app;
-  saves = saves_none kept;
+  unanswered = late_none e;
+  saves = calls_none kept;
 }
 
--- while more is read
-pub stopped_reading : (prompt : List ℕ) (e : ShellFault) (before after later old new : Option (List ℕ)) (kept saved : Option (List Saved)) (input bytes : List ℕ) (at : ℕ)
+-- while more is read, or because that is too much
+pub stopped_reading : (prompt : List ℕ) (e : ShellFault) (before after later old new : Option (List ℕ)) (kept saved : Option (List SaveCall)) (input bytes : List ℕ) (at : ℕ)
     (script : List ℕ) (count : ℕ) (world : OpenedWorld)
-    → Talked prompt before after old new kept saved input at script count world → Consumes after later bytes → Stopped prompt e before later old new kept saved
-stopped_reading prompt e before after later old new kept saved input bytes at script count world t read = record {
+    → Talked prompt before after old new kept saved input at script count world → Consumes after later bytes
+    → ((e ≡ Read) ⊎ (e ≡ TooLong) → bytes ≡ []) → Stopped prompt e before later old new kept saved
+stopped_reading prompt e before after later old new kept saved input bytes at script count world t read none = record {
   lines = t.lines;
   rest = t.rest ++ bytes;
   answers = t.answers;
   text = [];
   out = prompt ++ t.answers;
-  more = t.more;
+  calls = t.more;
+  late = [];
   accepted = t.b;
   read = rw (← append_assoc (script_of t.lines) t.rest bytes, ← t.input_is) (consumes_then before after later input bytes t.read read);
+  whole = λ reading. rw (none reading, append-nil t.rest) t.whole;
   answered = t.answered;
   ends = inl refl;
   part = rw (append-nil (prompt ++ t.answers)) (written_whole e (prompt ++ t.answers));
   written = t.written;
-  saves = t.saves;
+  unanswered = late_none e;
+  saves = rw (append-nil t.more) t.saves;
 }
 
 -- while lines are answered
-pub stopped_answering : (prompt : List ℕ) (e : ShellFault) (before after later old new newer : Option (List ℕ)) (kept saved latest : Option (List Saved)) (input bytes grown : List ℕ) (at : ℕ)
-    (script : List ℕ) (count : ℕ) (world : OpenedWorld) (lines : List (List ℕ)) (answers out : List ℕ) (more : List Saved) (rest : List ℕ) (c : Accepted)
+pub stopped_answering : (prompt : List ℕ) (e : ShellFault) (before after later old new newer : Option (List ℕ)) (kept saved latest : Option (List SaveCall)) (input bytes grown : List ℕ) (at : ℕ)
+    (script : List ℕ) (count : ℕ) (world : OpenedWorld) (lines : List (List ℕ)) (answers out : List ℕ) (more late : List SaveCall) (rest : List ℕ) (c : Accepted)
     → (t : Talked prompt before after old new kept saved input at script count world)
     → Consumes after later bytes → grown ≡ input ++ bytes
-    → AreAnswered prompt t.b lines answers more c → drop at grown ≡ script_of lines ++ rest → WrittenBy e answers out → Appends new newer out → Saves saved latest more
+    → AreAnswered prompt t.b lines answers more c → drop at grown ≡ script_of lines ++ rest → WrittenBy e answers out → Appends new newer out
+    → LateCalls e late → Calls saved latest (more ++ late) → (e ≡ Write) ⊎ (e ≡ OutOfMemory)
     → Stopped prompt e before later old newer kept latest
-stopped_answering prompt e before after later old new newer kept saved latest input bytes grown at script count world lines answers out more rest c t read is are cut part app sv =
+stopped_answering prompt e before after later old new newer kept saved latest input bytes grown at script count world lines answers out more late rest c t read is are cut part app refused sv kinds =
     let all = read_then grown (drop at grown) rest t.lines lines (all_of (script_of t.lines) t.rest bytes input grown at t.input_is t.at_is is) cut in
     record {
       lines = t.lines ++ lines;
@@ -249,18 +274,21 @@ stopped_answering prompt e before after later old new newer kept saved latest in
       answers = t.answers ++ answers;
       text = [];
       out = (prompt ++ t.answers) ++ out;
-      more = t.more ++ more;
+      calls = t.more ++ more;
+      late = late;
       accepted = c;
       read = rw (← all, is) (consumes_then before after later input bytes t.read read);
+      whole = not_reading e kinds;
       answered = answered_then prompt t.lines lines t.answers answers t.more more nobody t.b c t.answered are;
       ends = inl refl;
       part = rw (append-nil (prompt ++ (t.answers ++ answers)), ← append_assoc prompt t.answers answers) (written_then e (prompt ++ t.answers) answers out part);
       written = appends-then old new newer (prompt ++ t.answers) out t.written app;
-      saves = saves_then kept saved latest t.more more t.saves sv;
+      unanswered = refused;
+      saves = rw (append_assoc t.more more late) (calls_then kept saved latest t.more (more ++ late) t.saves sv);
     }
 
 -- while the cut line is told
-pub stopped_ending : (prompt : List ℕ) (e : ShellFault) (before after later old new newer : Option (List ℕ)) (kept saved : Option (List Saved)) (input bytes grown : List ℕ) (at : ℕ)
+pub stopped_ending : (prompt : List ℕ) (e : ShellFault) (before after later old new newer : Option (List ℕ)) (kept saved : Option (List SaveCall)) (input bytes grown : List ℕ) (at : ℕ)
     (script : List ℕ) (count : ℕ) (world : OpenedWorld) (text out : List ℕ)
     → (t : Talked prompt before after old new kept saved input at script count world)
     → Consumes after later bytes → grown ≡ input ++ bytes → bytes ≡ [] → IsAtEnd later
@@ -274,14 +302,17 @@ stopped_ending prompt e before after later old new newer kept saved input bytes 
       answers = t.answers;
       text = text;
       out = (prompt ++ t.answers) ++ out;
-      more = t.more;
+      calls = t.more;
+      late = [];
       accepted = t.b;
       read = rw (← all, is) (consumes_then before after later input bytes t.read read);
+      whole = λ reading. t.whole;
       answered = t.answered;
       ends = ending said;
       part = written_then e (prompt ++ t.answers) text out part;
       written = appends-then old new newer (prompt ++ t.answers) out t.written app;
-      saves = t.saves;
+      unanswered = late_none e;
+      saves = rw (append-nil t.more) t.saves;
     }
   where
     here : drop at grown ≡ t.rest

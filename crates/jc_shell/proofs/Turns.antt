@@ -1,5 +1,5 @@
 -- Sessions: what is answered keeps to the transcript of the accepted lines.
-use Rattle.jc_shell.proofs.Common.{◌≡◌, ℕ, ◌+◌, Bool, true, cond, take, Option, List, [], ◌∷◌, ◌++◌, length, None, Some, false, refl, sym, ap, ◌∙◌, append_assoc, append-nil, inl, inr, flat_map-append, codes, word_of, length-append, OpenedWorld, Prints, IsTranscript, fault_of, Fault, Clean, LineFault, complaint, fault_line, Help, Quit, Save, Line, PlaysOn, Holds, Saved, Saves, Accepted, AnswersWord, AreAnswered, IsLineAccepted, IsLineRejected, has_feed, next_line_number, nobody, script_of, with_accepted}
+use Rattle.jc_shell.proofs.Common.{◌≡◌, ℕ, ◌+◌, Bool, true, cond, take, Option, List, [], ◌∷◌, ◌++◌, length, None, Some, false, refl, sym, ap, ◌∙◌, append_assoc, append-nil, inl, inr, flat_map-append, codes, word_of, length-append, OpenedWorld, Prints, IsTranscript, fault_of, Fault, Clean, LineFault, complaint, fault_line, Help, Quit, Save, Line, PlaysOn, Holds, SaveCall, Calls, SavesNothing, Accepted, AnswersWord, AreAnswered, IsLineAccepted, IsLineRejected, has_feed, next_line_number, nobody, script_of, with_accepted}
 use Rattle.std.proofs.lemmas.Slice.Eq.{bytes_eq-Decides}
 use Rattle.std.specs.Str.{bytes_eq}
 use Rattle.jc_shell.specs.declared.words.Word.{Word}
@@ -10,14 +10,14 @@ use Rattle.jc_shell.proofs.Lines.{at_fault, at_line}
 abbrev IsShown : Accepted → Type 0
 IsShown a = IsTranscript (script_of a.lines) a.shown Clean
 
-after_word : (w : Word) (a : Accepted) (line answer : List ℕ) (saved : List Saved) (b : Accepted) → IsShown a → AnswersWord w a line answer saved b → IsShown b
+after_word : (w : Word) (a : Accepted) (line answer : List ℕ) (saved : List SaveCall) (b : Accepted) → IsShown a → AnswersWord w a line answer saved b → IsShown b
 after_word Help a line answer saved b t (text, none, same) = rw same t
 after_word Quit a line answer saved b t h = absurd h
 after_word Save a line answer saved b t (is, same) = rw same t
 after_word Line a line answer saved b t (none, inl (more, played)) = rw more played
 after_word Line a line answer saved b t (none, inr (same, told)) = rw same t
 
-pub shown_after : (prompt : List ℕ) (lines : List (List ℕ)) (out : List ℕ) (saved : List Saved) (a b : Accepted)
+pub shown_after : (prompt : List ℕ) (lines : List (List ℕ)) (out : List ℕ) (saved : List SaveCall) (a b : Accepted)
     → IsShown a → AreAnswered prompt a lines out saved b → IsShown b
 shown_after prompt [] out saved a c t (o, s, same) = rw same t
 shown_after prompt (line ∷ lines) out saved a c t (answer, rest, now, later, b, whole, answers, more, o, s) =
@@ -78,15 +78,18 @@ still a script count old new h e = rw e h
 
 -- ---- what was saved
 
-pub saves_none : (old : Option (List Saved)) → Saves old old []
-saves_none None = tt
-saves_none (Some xs) = sym (append-nil xs)
+pub calls_none : (old : Option (List SaveCall)) → Calls old old []
+calls_none None = tt
+calls_none (Some xs) = sym (append-nil xs)
 
-pub saves_then : (a b c : Option (List Saved)) (xs ys : List Saved) → Saves a b xs → Saves b c ys → Saves a c (xs ++ ys)
-saves_then None b c xs ys p q = tt
-saves_then (Some a) None c xs ys p q = absurd p
-saves_then (Some a) (Some b) None xs ys p q = absurd q
-saves_then (Some a) (Some b) (Some c) xs ys p q = q ∙ ap (λ (t : List Saved). t ++ ys) p ∙ append_assoc a xs ys
+pub saves_nothing : (old : Option (List SaveCall)) → SavesNothing old old
+saves_nothing old = ([], refl, calls_none old)
+
+pub calls_then : (a b c : Option (List SaveCall)) (xs ys : List SaveCall) → Calls a b xs → Calls b c ys → Calls a c (xs ++ ys)
+calls_then None b c xs ys p q = tt
+calls_then (Some a) None c xs ys p q = absurd p
+calls_then (Some a) (Some b) None xs ys p q = absurd q
+calls_then (Some a) (Some b) (Some c) xs ys p q = q ∙ ap (λ (t : List SaveCall). t ++ ys) p ∙ append_assoc a xs ys
 
 -- ---- the word that ends a session
 

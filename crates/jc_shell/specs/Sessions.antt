@@ -9,12 +9,13 @@
 --                            script
 --     IsLineRejected         the line has a fault: the transcript of the accepted lines and this one ends with the fault, the
 --                            answer tells it as the run of that script does, and the line isn't accepted
---     IsSaved                a script was saved under a name, and the answer says so; or it wasn't, and the answer says why
+--     IsSaved                the saver was called with a script and a name, and the answer says that it was saved, or shows the
+--                            reason for which this call was refused
 --     AnswersWord            the answer to a line, by what it asks for
 --     AnswersLine            the answer to a line, by the line alone
 --     AreAnswered            lines one after another, each with its answer, and the prompt after that
 --     TranscriptsAreShown    whatever is typed, the answers to the accepted lines are the transcript of their script
-use Rattle.std.specs.Prelude.{◌≡◌, ◌⊎◌, ◌==◌, ◌+◌, ℕ, List, [], ◌∷◌, ◌++◌, length, Bool, false}
+use Rattle.std.specs.Prelude.{◌≡◌, ◌⊎◌, ◌==◌, ◌+◌, ℕ, List, [], ◌∷◌, ◌++◌, length, Bool, false, None, Some}
 use Rattle.std.specs.List.{flat_map, list_any}
 use Rattle.jc_text.specs.declared.fault.Fault.{Fault}
 use Rattle.jc_text.specs.Places.{complaint}
@@ -23,7 +24,7 @@ use Rattle.jc_script.specs.declared.run.RunEnd.TheVariants.{Clean, LineFault}
 use Rattle.jc_script.specs.Transcript.{IsTranscript}
 use Rattle.jc_shell.specs.declared.words.Word.{Word}
 use Rattle.jc_shell.specs.declared.words.Word.TheVariants.{Help, Quit, Save, Line}
-use Rattle.jc_shell.specs.Saving.{Saved}
+use Rattle.jc_shell.specs.Saving.{SaveCall}
 use Rattle.jc_shell.specs.ShellWords.{help_text, name_in, not_saved_text, saved_text, word_of}
 
 -- 1. The accepted lines.
@@ -62,33 +63,33 @@ IsLineRejected a line answer b =
     × IsTranscript (script_of (a.lines ++ line ∷ [])) (a.shown ++ fault_line (next_line_number a) fault) (LineFault (next_line_number a))
     × (answer ≡ complaint (next_line_number a) line fault))
 
-abbrev pub IsSaved : (script name answer : List ℕ) → List Saved → Type 0
-IsSaved script name answer saved =
-    ((answer ≡ saved_text name) × (saved ≡ record { name = name; script = script } ∷ []))
-    ⊎ ((saved ≡ []) × ((why : List ℕ) × (answer ≡ not_saved_text name why)))
+abbrev pub IsSaved : (script name answer : List ℕ) → List SaveCall → Type 0
+IsSaved script name answer calls =
+    ((answer ≡ saved_text name) × (calls ≡ record { name = name; script = script; refusal = None } ∷ []))
+    ⊎ ((why : List ℕ) × (answer ≡ not_saved_text name why) × (calls ≡ record { name = name; script = script; refusal = Some why } ∷ []))
 
 -- a line that ends the session has no answer
-abbrev pub AnswersWord : Word → (a : Accepted) (line answer : List ℕ) → List Saved → (b : Accepted) → Type 0
-AnswersWord Help a line answer saved b = (answer ≡ help_text) × (saved ≡ []) × (b ≡ a)
-AnswersWord Quit a line answer saved b = ⊥
-AnswersWord Save a line answer saved b = IsSaved (script_of a.lines) (name_in line) answer saved × (b ≡ a)
-AnswersWord Line a line answer saved b = (saved ≡ []) × (IsLineAccepted a line answer b ⊎ IsLineRejected a line answer b)
+abbrev pub AnswersWord : Word → (a : Accepted) (line answer : List ℕ) → List SaveCall → (b : Accepted) → Type 0
+AnswersWord Help a line answer calls b = (answer ≡ help_text) × (calls ≡ []) × (b ≡ a)
+AnswersWord Quit a line answer calls b = ⊥
+AnswersWord Save a line answer calls b = IsSaved (script_of a.lines) (name_in line) answer calls × (b ≡ a)
+AnswersWord Line a line answer calls b = (calls ≡ []) × (IsLineAccepted a line answer b ⊎ IsLineRejected a line answer b)
 
-abbrev pub AnswersLine : (a : Accepted) (line answer : List ℕ) → List Saved → (b : Accepted) → Type 0
-AnswersLine a line answer saved b = AnswersWord (word_of line) a line answer saved b
+abbrev pub AnswersLine : (a : Accepted) (line answer : List ℕ) → List SaveCall → (b : Accepted) → Type 0
+AnswersLine a line answer calls b = AnswersWord (word_of line) a line answer calls b
 
 -- 3. Lines one after another.
 
-abbrev pub AreAnswered : (prompt : List ℕ) (a : Accepted) → List (List ℕ) → (out : List ℕ) → List Saved → (b : Accepted) → Type 0
-AreAnswered prompt a [] out saved c = (out ≡ []) × (saved ≡ []) × (c ≡ a)
-AreAnswered prompt a (line ∷ lines) out saved c =
-    (answer : List ℕ) × (rest : List ℕ) × (now : List Saved) × (later : List Saved) × (b : Accepted)
+abbrev pub AreAnswered : (prompt : List ℕ) (a : Accepted) → List (List ℕ) → (out : List ℕ) → List SaveCall → (b : Accepted) → Type 0
+AreAnswered prompt a [] out calls c = (out ≡ []) × (calls ≡ []) × (c ≡ a)
+AreAnswered prompt a (line ∷ lines) out calls c =
+    (answer : List ℕ) × (rest : List ℕ) × (now : List SaveCall) × (later : List SaveCall) × (b : Accepted)
     × (has_feed line ≡ false) × AnswersLine a line answer now b × AreAnswered prompt b lines rest later c
-    × (out ≡ (answer ++ prompt) ++ rest) × (saved ≡ now ++ later)
+    × (out ≡ (answer ++ prompt) ++ rest) × (calls ≡ now ++ later)
 
 -- 4. The laws.
 
 abbrev pub TranscriptsAreShown : Type 0
 TranscriptsAreShown =
-    (prompt : List ℕ) (lines : List (List ℕ)) (out : List ℕ) (saved : List Saved) (b : Accepted)
-    → AreAnswered prompt nobody lines out saved b → IsTranscript (script_of b.lines) b.shown Clean
+    (prompt : List ℕ) (lines : List (List ℕ)) (out : List ℕ) (calls : List SaveCall) (b : Accepted)
+    → AreAnswered prompt nobody lines out calls b → IsTranscript (script_of b.lines) b.shown Clean

@@ -3,8 +3,8 @@ ghost use Rattle.std.specs.Prelude.{◌≡◌, ◌≢◌, ◌⊎◌, ◌↔◌, 
 ghost use Rattle.std.specs.Io.KnownBytes.{Appends, Consumes, IsAtEnd};
 ghost use Rattle.jc_script.specs.Transcript.{opened_world};
 ghost use Rattle.jc_shell.specs.Holding.{Holds};
-ghost use Rattle.jc_shell.specs.Running.{LastText, RunsDialogue, Stopped, WrittenBy, cut_text, prompt_end};
-ghost use Rattle.jc_shell.specs.Saving.{Saved, Saves};
+ghost use Rattle.jc_shell.specs.Running.{LastText, LateCalls, RunsDialogue, Stopped, WrittenBy, cut_text, prompt_end};
+ghost use Rattle.jc_shell.specs.Saving.{Calls, SaveCall};
 ghost use Rattle.jc_shell.specs.Sessions.{Accepted, AnswersLine, AreAnswered, has_feed, nobody, script_of};
 ghost use Rattle.jc_shell.specs.ShellWords.{word_of};
 ghost use Rattle.jc_shell.specs.declared.words.Word.TheVariants as words;
@@ -20,16 +20,16 @@ use std::alloc::{AllocError, Global};
 use std::io::{Read, Write};
 use thiserror::Error;
 
-/// Why a session ended before its input did. The complete lines that were read before are answered.
+/// Why a session ended before its input did.
 #[derive(Clone, Copy, Debug, PartialEq, Eq, Error)]
 pub enum ShellFault {
-    /// The reader failed.
+    /// The reader failed. Each complete line that was read before is answered.
     #[error("read failed")]
     Read,
-    /// The input has more than [`SCRIPT_MAX`] bytes.
+    /// The input has more than [`SCRIPT_MAX`] bytes. Each complete line that was read is answered.
     #[error("input too long")]
     TooLong,
-    /// An allocation failed.
+    /// An allocation failed. The first of the complete lines that were read are answered.
     #[error("out of memory")]
     OutOfMemory,
     /// The writer failed. A prefix of the answers was written.
@@ -73,20 +73,20 @@ fn answer_line<W: Write, S: Save>(
     requires whole { has_feed line.now ≡ false }
     requires goes_on { word_of line.now ≢ words.Quit }
     ensures ok { OnOk result ((a : Accepted) → Holds a session.old.script.items session.old.lines (opened_world session.old.player.world)
-        → (answer : List ℕ) × (saved : List Saved) × (b : Accepted)
+        → (answer : List ℕ) × (calls : List SaveCall) × (b : Accepted)
         × Holds b session.new.script.items session.new.lines (opened_world session.new.player.world)
-        × AnswersLine a line.now answer saved b
+        × AnswersLine a line.now answer calls b
         × Appends (W.contents writer.old.inner) (W.contents writer.new.inner) (answer ++ prompt.now)
-        × Saves (S.saved saves.old) (S.saved saves.new) saved) }
+        × Calls (S.calls saves.old) (S.calls saves.new) calls) }
     ensures kinds { IfErr result (λ e. (e ≡ ShellFault.Write) ⊎ (e ≡ ShellFault.OutOfMemory)) }
     // The line was answered, and a prefix of the answer was written; or an allocation for the answer failed.
     ensures err { IfErr result (λ e. (a : Accepted) → Holds a session.old.script.items session.old.lines (opened_world session.old.player.world)
-        → (answered : List (List ℕ)) × (answers : List ℕ) × (written : List ℕ) × (saved : List Saved) × (b : Accepted)
+        → (answered : List (List ℕ)) × (answers : List ℕ) × (written : List ℕ) × (calls : List SaveCall) × (late : List SaveCall) × (b : Accepted)
         × ((answered ≡ []) ⊎ (answered ≡ line.now ∷ []))
-        × AreAnswered prompt.now a answered answers saved b
+        × AreAnswered prompt.now a answered answers calls b
         × WrittenBy e answers written
         × Appends (W.contents writer.old.inner) (W.contents writer.new.inner) written
-        × Saves (S.saved saves.old) (S.saved saves.new) saved) }
+        × LateCalls e late × Calls (S.calls saves.old) (S.calls saves.new) (calls ++ late)) }
     ensures failed { writer.old.failed ≡ false → (result ≡ Err ShellFault.Write ↔ writer.new.failed ≡ true) }
 {
     let mut out = Vec::new(alloc);
@@ -107,22 +107,22 @@ fn answer_lines<W: Write, S: Save>(
     saves: &mut S,
 ) -> Result<Option<usize>, ShellFault>
     ensures ok { IfOk result (λ left. (a : Accepted) → Holds a session.old.script.items session.old.lines (opened_world session.old.player.world)
-        → (lines : List (List ℕ)) × (answers : List ℕ) × (saved : List Saved) × (b : Accepted) × (rest : List ℕ)
-        × AreAnswered prompt.now a lines answers saved b
+        → (lines : List (List ℕ)) × (answers : List ℕ) × (calls : List SaveCall) × (b : Accepted) × (rest : List ℕ)
+        × AreAnswered prompt.now a lines answers calls b
         × (bytes.now ≡ script_of lines ++ rest)
         × Appends (W.contents writer.old.inner) (W.contents writer.new.inner) answers
-        × Saves (S.saved saves.old) (S.saved saves.new) saved
+        × Calls (S.calls saves.old) (S.calls saves.new) calls
         × MatchOption left ((others : List ℕ) × (rest ≡ codes "quit" ++ 10 ∷ others))
         (λ n. (n ≡ length rest) × (has_feed rest ≡ false)
         × Holds b session.new.script.items session.new.lines (opened_world session.new.player.world))) }
     ensures kinds { IfErr result (λ e. (e ≡ ShellFault.Write) ⊎ (e ≡ ShellFault.OutOfMemory)) }
     ensures err { IfErr result (λ e. (a : Accepted) → Holds a session.old.script.items session.old.lines (opened_world session.old.player.world)
-        → (lines : List (List ℕ)) × (answers : List ℕ) × (written : List ℕ) × (saved : List Saved) × (b : Accepted) × (rest : List ℕ)
-        × AreAnswered prompt.now a lines answers saved b
+        → (lines : List (List ℕ)) × (answers : List ℕ) × (written : List ℕ) × (calls : List SaveCall) × (late : List SaveCall) × (b : Accepted) × (rest : List ℕ)
+        × AreAnswered prompt.now a lines answers calls b
         × (bytes.now ≡ script_of lines ++ rest)
         × WrittenBy e answers written
         × Appends (W.contents writer.old.inner) (W.contents writer.new.inner) written
-        × Saves (S.saved saves.old) (S.saved saves.new) saved) }
+        × LateCalls e late × Calls (S.calls saves.old) (S.calls saves.new) (calls ++ late)) }
     ensures failed { writer.old.failed ≡ false → (result ≡ Err ShellFault.Write ↔ writer.new.failed ≡ true) }
 {
     let mut rest = bytes;
@@ -213,8 +213,9 @@ fn read_more<R: Read>(reader: &mut Noted<R>, input: &mut Vec<u8>) -> Result<bool
         × (length input.new.items ≤ SCRIPT_MAX + 1)
         × (more ≡ true → length input.old.items < length input.new.items)
         × (more ≡ false → (bytes ≡ []) × IsAtEnd (R.remaining reader.new.inner))) }
+    // A read that fails takes nothing.
     ensures err { IfErr result (λ e. (e ≢ ShellFault.Write) × (e ≢ ShellFault.TooLong)
-        × ((bytes : List ℕ) × Consumes (R.remaining reader.old.inner) (R.remaining reader.new.inner) bytes)) }
+        × ((bytes : List ℕ) × (e ≡ ShellFault.Read → bytes ≡ []) × Consumes (R.remaining reader.old.inner) (R.remaining reader.new.inner) bytes)) }
     ensures failed { reader.old.failed ≡ false → (result ≡ Err ShellFault.Read ↔ reader.new.failed ≡ true) }
 {
     let mut chunk = [0u8; 4096];
@@ -231,9 +232,10 @@ fn read_more<R: Read>(reader: &mut Noted<R>, input: &mut Vec<u8>) -> Result<bool
 
 /// Reads lines to the end of the input, and answers each before it reads more.
 ///
-/// The bytes written are the answers to the lines that were read, and the scripts saved are those of these lines. After an error
-/// this holds up to there; after a failed write, a prefix of the answers was written. `TooLong` means that the input is over the
-/// limit. Reading failed exactly if the reader did, and writing exactly if the writer did, in this call.
+/// The bytes written are the answers to the lines that were read, and the calls of `save` are those that these lines ask for. After
+/// an error this holds up to there; if reading failed or the input is too long, no complete line is left over; after a failed
+/// write, a prefix of the answers was written. `TooLong` means that the input is over the limit. Reading failed exactly if the
+/// reader did, and writing exactly if the writer did, in this call.
 fn converse<R: Read, W: Write, S: Save>(
     alloc: Global,
     prompt: &[u8],
@@ -244,9 +246,9 @@ fn converse<R: Read, W: Write, S: Save>(
 ) -> Result<(), ShellFault>
     requires { Holds nobody session.old.script.items session.old.lines (opened_world session.old.player.world) }
     ensures ran { OnOk result (RunsDialogue prompt.now (R.remaining reader.old.inner) (R.remaining reader.new.inner) (W.contents writer.old.inner)
-        (W.contents writer.new.inner) (S.saved saves.old) (S.saved saves.new)) }
+        (W.contents writer.new.inner) (S.calls saves.old) (S.calls saves.new)) }
     ensures stopped { IfErr result (λ e. Stopped prompt.now e (R.remaining reader.old.inner) (R.remaining reader.new.inner) (W.contents writer.old.inner)
-        (W.contents writer.new.inner) (S.saved saves.old) (S.saved saves.new)) }
+        (W.contents writer.new.inner) (S.calls saves.old) (S.calls saves.new)) }
     ensures long { result ≡ Err ShellFault.TooLong → IfSome (R.remaining reader.old.inner) (λ xs. SCRIPT_MAX < length xs) }
     ensures read_failed { reader.old.failed ≡ false → (result ≡ Err ShellFault.Read ↔ reader.new.failed ≡ true) }
     ensures write_failed { writer.old.failed ≡ false → (result ≡ Err ShellFault.Write ↔ writer.new.failed ≡ true) }
@@ -275,10 +277,11 @@ fn converse<R: Read, W: Write, S: Save>(
 
 /// Answers the lines of a script as they are read, up to the end of the input or a line `quit`, and writes the prompt before it
 /// reads a line. A line without a fault is played, and its answer is what it prints. A line with a fault does nothing, and its
-/// answer tells the fault. `save NAME` saves the lines that were played, as a script.
+/// answer tells the fault. `save NAME` saves the lines that were played, as a script; if `saves` refuses it, the answer shows the
+/// reason.
 ///
-/// All that was read is answered before more is read, so a person who types gets an answer to each line. If the input ends after a
-/// prompt, a line feed ends the prompt's line.
+/// All that was read is answered before more is read, so a person who types gets an answer to each line: tests show this, since no
+/// clause can order two streams. If the input ends after a prompt, a line feed ends the prompt's line.
 pub fn run<R: Read, W: Write, S: Save>(
     alloc: Global,
     prompt: &str,
@@ -286,12 +289,13 @@ pub fn run<R: Read, W: Write, S: Save>(
     writer: &mut Noted<W>,
     saves: &mut S,
 ) -> Result<(), ShellFault>
-    // The bytes written are the answers to the lines that were read, and the scripts saved are those of these lines.
+    // The bytes written are the answers to the lines that were read, and the calls of `save` are those that these lines ask for.
     ensures ran { OnOk result (RunsDialogue prompt.now (R.remaining reader.old.inner) (R.remaining reader.new.inner) (W.contents writer.old.inner)
-        (W.contents writer.new.inner) (S.saved saves.old) (S.saved saves.new)) }
-    // After an error this holds up to there; after a failed write, a prefix of the answers was written.
+        (W.contents writer.new.inner) (S.calls saves.old) (S.calls saves.new)) }
+    // After an error this holds up to there. If reading failed or the input is too long, no complete line is left over; after a
+    // failed write, a prefix of the answers was written.
     ensures stopped { IfErr result (λ e. Stopped prompt.now e (R.remaining reader.old.inner) (R.remaining reader.new.inner) (W.contents writer.old.inner)
-        (W.contents writer.new.inner) (S.saved saves.old) (S.saved saves.new)) }
+        (W.contents writer.new.inner) (S.calls saves.old) (S.calls saves.new)) }
     // `TooLong` means that the input is over the limit.
     ensures long { result ≡ Err ShellFault.TooLong → IfSome (R.remaining reader.old.inner) (λ xs. SCRIPT_MAX < length xs) }
     // Reading failed exactly if the reader did, and writing exactly if the writer did, in this call.

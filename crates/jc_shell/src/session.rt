@@ -3,7 +3,7 @@ ghost use Rattle.std.specs.Prelude.{◌≡◌, ◌≢◌, ◌⊎◌, ◌++◌, �
 ghost use Rattle.jc_text.specs.Places.{complaint};
 ghost use Rattle.jc_script.specs.Transcript.{opened_world};
 ghost use Rattle.jc_shell.specs.Holding.{Holds};
-ghost use Rattle.jc_shell.specs.Saving.{Saved, Saves};
+ghost use Rattle.jc_shell.specs.Saving.{Calls, SaveCall, SavesNothing};
 ghost use Rattle.jc_shell.specs.Sessions.{Accepted, AnswersLine, IsLineAccepted, IsLineRejected, IsSaved, has_feed, nobody};
 ghost use Rattle.jc_shell.specs.ShellWords.{not_saved_text, word_of};
 ghost use Rattle.jc_shell.specs.declared.words.Word.TheVariants.{Quit};
@@ -37,6 +37,7 @@ impl Dialogue {
 
     /// Appends the answer to a line to `out`. An `Err` says that an allocation failed: then nothing was saved, and the session
     /// may only be closed.
+    #[tactic(auto, using(crate::proofs::Turns::saves_nothing))]
     pub fn answer<S: Save>(
         &mut self,
         alloc: Global,
@@ -47,11 +48,11 @@ impl Dialogue {
         requires whole { has_feed line.now ≡ false }
         requires goes_on { word_of line.now ≢ Quit }
         ensures answered { OnOk result ((a : Accepted) → Holds a self.old.script.items self.old.lines (opened_world self.old.player.world)
-            → (answer : List ℕ) × (saved : List Saved) × (b : Accepted)
+            → (answer : List ℕ) × (calls : List SaveCall) × (b : Accepted)
             × Holds b self.new.script.items self.new.lines (opened_world self.new.player.world)
-            × AnswersLine a line.now answer saved b
-            × (out.new.items ≡ out.old.items ++ answer) × Saves (S.saved saves.old) (S.saved saves.new) saved) }
-        ensures unsaved { OnErr result (S.saved saves.new ≡ S.saved saves.old) }
+            × AnswersLine a line.now answer calls b
+            × (out.new.items ≡ out.old.items ++ answer) × Calls (S.calls saves.old) (S.calls saves.new) calls) }
+        ensures unsaved { OnErr result (SavesNothing (S.calls saves.old) (S.calls saves.new)) }
     {
         match word_of(line) {
             Word::Help => {
@@ -126,15 +127,16 @@ impl Dialogue {
 }
 
 /// Saves a script under a name, and answers that it was saved, or why not. After an `Err` nothing was saved.
+#[tactic(auto, using(crate::proofs::Turns::saves_nothing))]
 fn save_as<S: Save>(
     name: &[u8],
     script: &[u8],
     saves: &mut S,
     out: &mut Vec<u8>,
 ) -> Result<(), AllocError>
-    ensures ok { OnOk result ((answer : List ℕ) × (saved : List Saved) × IsSaved script.now name.now answer saved
-        × (out.new.items ≡ out.old.items ++ answer) × Saves (S.saved saves.old) (S.saved saves.new) saved) }
-    ensures unsaved { OnErr result (S.saved saves.new ≡ S.saved saves.old) }
+    ensures ok { OnOk result ((answer : List ℕ) × (calls : List SaveCall) × IsSaved script.now name.now answer calls
+        × (out.new.items ≡ out.old.items ++ answer) × Calls (S.calls saves.old) (S.calls saves.new) calls) }
+    ensures unsaved { OnErr result (SavesNothing (S.calls saves.old) (S.calls saves.new)) }
 {
     let before = out.len();
     put(out, "saved ")?;

@@ -25,7 +25,7 @@
 --     once_unless_shared                  stripes of any shapes and numbers have none exactly if no two of them share a key
 --     kept_few, kept_once, kept_own       what a stripe keeps is not too much, has each key once, and is of the stripe's keys
 --     opened_len, opened_at               a reopening makes as many stripes as it is to, each with its number and what it keeps
---     opened_opens, opened_reached        nothing has happened in such a stripe, so it is as every stripe is
+--     opened_opens, reached_start         nothing has happened in such a stripe, and one in which nothing has happened is as every stripe is
 --     adds_one, gains_one                 a step that is added or gained is one more in the list of own steps
 --     of_same, whole_goes_on, own_stay    a phase leaves the stripe the same, and continues its whole history; all own steps stay if those
 --                                         of the present generation do
@@ -91,7 +91,8 @@ pub use Rattle.jc_stripe.proofs.Refusing.{call_below, ends_numbers, lacks_room, 
 pub use Rattle.jc_stripe.proofs.Renewing.{past-snoc, stays_alone, stays_or_renews}
 pub use Rattle.jc_stripe.proofs.Used.{by_use-append}
 pub use Rattle.jc_stripe.proofs.WholeSteps.{of_same, whole_goes_on, own_stay, there_behind, adds_whole, gains_whole, may_in_all}
-pub use Rattle.jc_stripe.proofs.Opened.{opened_len, opened_at, opened_opens, opened_reached}
+pub use Rattle.jc_stripe.proofs.Opened.{opened_len, opened_at, opened_opens}
+pub use Rattle.jc_stripe.proofs.Tables.{reached_start}
 use Rattle.jc_stripe.proofs.ParkedSteps.{parked-joined, parked-dissolved, parked-answered, parked-callers}
 use Rattle.jc_stripe.proofs.OwnPick.{is_call, differs, before_differs, after_differs, parked_other, none_parked, parked_told}
 use Rattle.jc_stripe.proofs.Own.{unparked, step_there, again_parks}

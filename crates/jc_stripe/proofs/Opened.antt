@@ -4,17 +4,15 @@
 --     opened_len       as many as were asked for
 --     opened_at        each stripe has its number, and what it keeps
 --     opened_opens     nothing has happened in it
---     opened_reached   so it is as every stripe is
 use Rattle.std.proofs.Common.{◌≡◌, ◌<◌, ◌+◌, ℕ, zero, suc, List, [], ◌∷◌, ◌++◌, true, length, Some, Ok, slice_get, refl, ap, ◌∙◌, arith}
 use Rattle.jc_types.specs.declared.config.Config.{Config}
 use Rattle.jc_types.specs.Limits.{check}
 use Rattle.jc_outside.specs.declared.done.Origin.{Origin}
 use Rattle.jc_model.specs.Cache.{Bytes}
 use Rattle.jc_model.specs.Listed.{has_distinct_keys}
-use Rattle.jc_stripe.specs.Reached.{IsReached, IsOpened}
+use Rattle.jc_stripe.specs.Reached.{IsOpened}
 use Rattle.jc_stripe.specs.Reopening.{kept, opened_stripe, opened_stripes}
 use Rattle.jc_stripe.proofs.Kept.{kept_few, kept_once, kept_own}
-use Rattle.jc_stripe.proofs.Tables.{reached_start}
 
 pub opened_last : (config : Config) (origin : Origin) (entries : List (Bytes × Bytes)) (n count : ℕ)
     → opened_stripes config origin entries n (suc count) ≡ opened_stripes config origin entries n count ++ opened_stripe config origin (n + count) (kept config (n + count) entries) ∷ []
@@ -58,6 +56,3 @@ opened_opens config origin entries n fits once = record {
   joiners = refl;
   history = refl;
 }
-
-pub opened_reached : (config : Config) (origin : Origin) (entries : List (Bytes × Bytes)) (n : ℕ) → check config ≡ Ok tt → has_distinct_keys entries ≡ true → IsReached (opened_stripe config origin n (kept config n entries))
-opened_reached config origin entries n fits once = reached_start (opened_stripe config origin n (kept config n entries)) (opened_opens config origin entries n fits once)

@@ -1,10 +1,9 @@
 -- Callers' order: what changes nothing of it, the start, a call that begins, and the conditions on its first phase.
 --     order_stored, order_parted     after a change of the store, and of what was told of a key
---     reached_empty, start_is        the stripes of the start, which are reached
+--     opened_empty, start_is         the stripes of the start, in which nothing has happened
 --     order_called                   once a call has begun
 --     may_start_at, begins_at        the conditions on a first phase
-use Rattle.jc_world.proofs.Common.{◌≡◌, ℕ, zero, suc, ◌+◌, Bool, true, false, cond, not, ◌&&◌, ◌||◌, List, [], ◌∷◌, ◌++◌, length, is_some, is_none, IsSomeAnd, ◌==◌, slice_get, Some, None, Ok, Option, find, sym, refl, ap, ◌∙◌, subst, append-nil, add-zero, zero-add, arith, not-true, eqb-true, eq-eqb, and_parts, and_from, or_left, or_right, false_from_ne_true, nat_list_cmp_total, pointwise, get, insert, len-empty, get-insert, all_filter, is_session, check, stripe_of, Caller, Config, Bytes, Cache, key_cmp, may_come, is_of_stripe, Op, Get, belongs_to, Joiner, may_come_all, is_other_call, is_other_join, MayBegin, IsReached, State, is_of, Reservation, Command, Part, Premises, WorldEvent, CallState, new_call, has_number, op_at, op_for, opened, is_playable, is_new, is_free, may_start, fits, IsWorldStripe, is_up_to, has_parked_answer, is_served_in, is_served, FitsKey, FitsCall, CallsFit, IsCallOf, IsOwned, IsCalled, AllCalled, IsSoundWorld, Parts, WorldState, home, stripe_for, fresh_stripe, fresh_stripes, is_busy, open_call, part_of, is_joined}
-use Rattle.jc_model.proofs.CallerLemmas.{empty_opens}
+use Rattle.jc_world.proofs.Common.{◌≡◌, ℕ, zero, suc, ◌+◌, Bool, true, false, cond, not, ◌&&◌, ◌||◌, List, [], ◌∷◌, ◌++◌, length, is_some, is_none, IsSomeAnd, ◌==◌, slice_get, Some, None, Ok, Option, find, sym, refl, ap, ◌∙◌, subst, append-nil, add-zero, zero-add, arith, not-true, eqb-true, eq-eqb, and_parts, and_from, or_left, or_right, false_from_ne_true, nat_list_cmp_total, pointwise, get, insert, get-insert, all_filter, is_session, check, stripe_of, Caller, Config, Bytes, Cache, key_cmp, may_come, is_of_stripe, Op, Get, belongs_to, Joiner, may_come_all, is_other_call, is_other_join, MayBegin, IsOpened, State, is_of, Reservation, Command, Part, Premises, WorldEvent, CallState, new_call, has_number, op_at, op_for, opened, is_playable, is_new, is_free, may_start, fits, IsWorldStripe, is_up_to, has_parked_answer, is_served_in, is_served, FitsKey, FitsCall, CallsFit, IsCallOf, IsOwned, IsCalled, AllCalled, IsSoundWorld, Parts, WorldState, home, stripe_for, fresh_stripe, fresh_stripes, is_busy, open_call, part_of, is_joined}
 use Rattle.jc_world.proofs.Numbered.{some_of}
 use Rattle.jc_world.proofs.Halves.{HasOrder}
 use Rattle.jc_world.proofs.Shares.{found_test, shape_same, fact_found, each_map, each_test}
@@ -123,30 +122,18 @@ pub empty_count : (config : Config) (base count : ℕ) → length (fresh_stripes
 empty_count config base zero = refl
 empty_count config base (suc count) = ap suc (empty_count config (base + 1) count)
 
--- an empty stripe is reached
-pub reached_empty : (config : Config) (n : ℕ) → check config ≡ Ok tt → IsReached (fresh_stripe config n)
-reached_empty config n fits = record {
+-- nothing has happened in an empty stripe
+pub opened_empty : (config : Config) (n : ℕ) → check config ≡ Ok tt → IsOpened (fresh_stripe config n)
+opened_empty config n fits = record {
   config_fits = fits;
-  chain = tt;
-  one_life = λ alone. refl;
-  opened_once = refl;
-  opens = empty_opens config n;
-  legal = record { groups = []; spelled = refl; lawful = tt; left = refl; order = refl };
-  used = record { once = refl; own = refl; cache = refl };
+  ended = refl;
+  once = refl;
   own = refl;
-  keys = refl;
-  few_entries = let e = len-empty key_cmp Bytes in omega arith;
-  few_reservations = omega arith;
-  few_joiners = omega arith;
-  places = omega arith;
-  numbered = record { once = λ i j d h k. absurd (omega arith); numbers = λ i j d h k. absurd (omega arith); below = λ k d h. absurd (omega arith) };
-  asks = tt;
-  ends = refl;
-  beside = refl;
-  joins = tt;
-  shares = refl;
-  apart = refl;
-  between = refl;
+  few = omega arith;
+  cache = refl;
+  reservations = refl;
+  joiners = refl;
+  history = refl;
 }
 
 -- and each stripe of the start is an empty one

@@ -78,7 +78,7 @@ pub use Rattle.jc_stripe.specs.OnePhase.{is_answered, is_parked}
 pub use Rattle.jc_stripe.specs.OrderOfUse.{by_use, least_used}
 pub use Rattle.jc_stripe.specs.OwnSteps.{may_come_all}
 pub use Rattle.jc_stripe.specs.Phases.{is_other_call, is_other_join, MayBegin, overflows, victim, new_group, Steps, with_joiner, Begins, after_commit, Commits, Withdraws, without_joiner, told_to, PicksUp, polled_with}
-pub use Rattle.jc_stripe.specs.Reached.{AllAsk, JoinFits, AllJoin, are_apart, is_own, IsReached}
+pub use Rattle.jc_stripe.specs.Reached.{AllAsk, JoinFits, AllJoin, are_apart, is_own, IsReached, IsOpened}
 pub use Rattle.jc_stripe.specs.Refusals.{first_by, first_asked, reserves, answers_at_once, load_of, load_at, load_joined, needs_free_key, places_needed, first_refusal}
 pub use Rattle.jc_stripe.specs.State.{State, is_of, is_key, is_reserved, reservation_of, new_reservation, with_reservation, without_key, without_reservation, IsOut, IsJoined}
 pub use Rattle.jc_stripe.specs.Tickets.{TicketClaim, Claim, claim_of, asks_loader, asks_writer, asks_processor, entry_seen, JoinClaim, writer_for}
@@ -104,7 +104,8 @@ pub use Rattle.jc_world.specs.Audit.{IsCache, differs, differing, cache_in, cach
 pub use Rattle.jc_world.specs.Calls.{Task, at_each, put_each_of, SweepState, sweep_of, keeps_open, CallState, new_call, has_number, is_of_session, op_in, op_at, op_found, op_or_found, op_for, is_open, open_in, open_keys, is_going, has_too_many_keys, opened, going_on, over_of, with_met, settled, replaced, settle, over_settled, drop_call, has_looked, has_looked_at_each, next_sweep, with_swept_keys, look}
 pub use Rattle.jc_world.specs.Coherent.{IsCoherentAt, Coherent, CoherentAsTold, all_hold}
 pub use Rattle.jc_world.specs.Ending.{IsLeftStripe, AreLeft, out_at, IsPartOut, HasHeld, IsJoinOut, HasJoins, NoneReserved}
-pub use Rattle.jc_world.specs.Events.{with_stripe, with_phase, step_of, not_over, shown_begun, fault_in, with_settled, over_by, with_met_by, without_call, with_look, asks_as, new_progress, new_part, with_part, with_new_part, without_part, with_join, without_join, BeginsAs, ReservesAs, StartsAs, RefusesAs, Ends, Picks, with_heard, foreign_committed, with_commit, with_loaded, after_answer, with_change, after_change, with_report, after_report, reported_part, reported_in, reported_key, reported_keys, reported_now, keys_reported, reported_at, after_reports, run_result, progress_after, after_process, keys_dropped, stripes_reopened, after_reopening, Happens, Step, Run, RunAppending, is_fit, AllFit}
+pub use Rattle.jc_world.specs.Events.{with_stripe, with_phase, step_of, not_over, shown_begun, fault_in, with_settled, over_by, with_met_by, without_call, with_look, asks_as, new_progress, new_part, with_part, with_new_part, without_part, with_join, without_join, BeginsAs, ReservesAs, StartsAs, RefusesAs, Ends, Picks, with_heard, foreign_committed, with_commit, with_loaded, after_answer, with_change, after_change, with_report, after_report, reported_part, reported_in, reported_key, reported_keys, reported_now, keys_reported, reported_at, after_reports, run_result, progress_after, after_process, Happens, Step, Run, RunAppending, is_fit, AllFit}
+pub use Rattle.jc_world.specs.Reopening.{keys_dropped, stripes_reopened, after_reopening}
 pub use Rattle.jc_world.specs.Fits.{is_playable, is_new, is_free, may_start, may_leave, passes_in, waits_at, is_in_batch, batch_of, writer_batch, is_asked_in, may_change, is_being_written, may_report, is_to_look, may_look, fits}
 pub use Rattle.jc_world.specs.Gathered.{or_else, found_after}
 pub use Rattle.jc_world.specs.Headline.{IsOpeningStripe, IsOpeningWorld, start_with, ReachesSince, is_reopening, reopens, with_all_premises, is_answer, is_load, is_loaded}

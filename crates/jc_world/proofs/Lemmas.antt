@@ -10,7 +10,7 @@ pub use Rattle.jc_world.proofs.TaskLists.{keys-at_each, at_each-more, put_each_o
 pub use Rattle.jc_world.proofs.Found.{lookup-found, found_new}
 pub use Rattle.jc_world.proofs.Joiners.{joiner_of, find_kept, joined_resolved, joined_dissolved, joined_front, joined_last, called_resolved, called_dissolved, join_at, join_there, joined_no_part, other_key, none_inserted, none_removed, part_other}
 pub use Rattle.jc_world.proofs.LoadKeys.{found_holds, same_number, load_there, joins_get}
-pub use Rattle.jc_world.proofs.Beginning.{order_stored, empty_count, reached_empty, start_is, MayStart, may_start_at, begins_with, begins_at}
+pub use Rattle.jc_world.proofs.Beginning.{order_stored, empty_count, opened_empty, start_is, MayStart, may_start_at, begins_with, begins_at}
 pub use Rattle.jc_world.proofs.Callers.{Picking, picking, looked_called, met_called, order_met, order_part, part_key, order_happens, order_opened, order_is, has_shares}
 pub use Rattle.jc_world.proofs.Places.{at_stripe_apart, at_stripe, stripe_put, few_stripes, home_stripe}
 pub use Rattle.jc_world.proofs.Entries.{split, tied, agrees_stepped, writes, loads_asked, writes_asked, loads, asks_nobody}

@@ -5,7 +5,8 @@
 --     starts_open          a world at its start is an opening, with any values in its store
 use Rattle.jc_world.proofs.Common.{◌≡◌, ℕ, zero, suc, ◌+◌, true, ◌&&◌, List, [], ◌∷◌, slice_get, Some, None, Ok, Option, IfSome, sym, refl, ap, ◌∙◌, subst, list_all, get, get-empty, check, Config, Bytes, key_cmp, in_order, of_stripe, IsOpeningStripe, IsOpeningWorld, start_with, Each, number_up_to, CallsFit, AllDue, AllOwned, AllCalled, Sweeps, IsSoundWorld, JoinKey, join_cmp, WorldState, home, entry_in, cached_entry, fresh_stripes, start, has_progress, has_changed, with_stored, has_any}
 use Rattle.jc_world.proofs.Halves.{HasOrder, HasParts, HasJoins, sound}
-use Rattle.jc_world.proofs.Lemmas.{empty_count, reached_empty, start_is}
+use Rattle.jc_world.proofs.Lemmas.{empty_count, opened_empty, start_is}
+use Rattle.jc_stripe.proofs.CallerLemmas.{reached_start}
 
 -- 1. An opening is sound.
 
@@ -25,15 +26,15 @@ opening_order w h = record {
           config_is = o.config_is;
           number_is = o.number_is;
           origin_is = o.origin_is;
-          ended_is = o.ended_is;
-          reached = o.reached;
-          share = ap (of_stripe w.config.stripes n) h.order ∙ sym o.history;
+          ended_is = o.opened.ended;
+          reached = reached_start s o.opened;
+          share = ap (of_stripe w.config.stripes n) h.order ∙ sym o.opened.history;
         };
   };
   order = ap in_order h.order;
   numbers = ap (list_all (number_up_to w.last)) h.order;
   calls = subst (CallsFit w) (sym h.calls) tt;
-  owned = λ n s here. subst (AllOwned w) (sym (h.each n s here).reservations) tt;
+  owned = λ n s here. subst (AllOwned w) (sym (h.each n s here).opened.reservations) tt;
 }
 
 opening_parts : (w : WorldState) → IsOpeningWorld w → HasParts w
@@ -50,7 +51,7 @@ opening_dues w h = λ key part there. absurd (let e : Some part ≡ None = sym t
 opening_joins : (w : WorldState) → IsOpeningWorld w → HasJoins w
 opening_joins w h = record {
   joins = λ at j there. absurd (let e : Some j ≡ None = sym there ∙ no_join w h at in cc);
-  called = λ n s here. subst (AllCalled w n) (sym (h.each n s here).joiners) tt;
+  called = λ n s here. subst (AllCalled w n) (sym (h.each n s here).opened.joiners) tt;
 }
 
 pub sound_opening : (w : WorldState) → IsOpeningWorld w → IsSoundWorld w
@@ -79,7 +80,7 @@ opens_start config fits =
       count = empty_count config 0 config.stripes;
       each = λ n s here.
           subst (IsOpeningStripe config n) (sym (start_is config n s here))
-          (record { config_is = refl; number_is = refl; origin_is = refl; ended_is = refl; reached = reached_empty config n fits; history = refl; reservations = refl; joiners = refl });
+          (record { config_is = refl; number_is = refl; origin_is = refl; opened = opened_empty config n fits });
       order = refl;
       calls = refl;
       parts = refl;

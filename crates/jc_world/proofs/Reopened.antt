@@ -5,7 +5,7 @@
 --     is_reopened         the whole
 use Rattle.jc_world.proofs.Common.{◌≡◌, ℕ, zero, suc, Bool, true, false, cond, List, [], ◌∷◌, slice_get, Some, None, IfSome, is_none, is_some, ◌&&◌, ◌||◌, sym, refl, ap, ◌∙◌, subst, inl, inr, and_parts, and_from, nat_list_eq_equiv, list_all, nat_list_cmp_total, get-empty, get-from_entries, stripe_of, Config, Bytes, Cache, entry_at, key_cmp, State, Shown, WorldEvent, Happens, Step, fits, stripes_reopened, after_reopening, holds, is_stored, is_as_told, opens, opens_coherent, opens_as_told, Coherent, CoherentAsTold, has_progress, has_changed, IsOpeningWorld, is_dropped, IsReopenedWorld, IsSoundWorld, WorldState, entry_in, cached_entry, none_is, is_untold, has_any}
 use Rattle.std.specs.FinMap as map
-use Rattle.jc_world.specs.Events.{foreign_reopened}
+use Rattle.jc_world.specs.Reopening.{foreign_reopened}
 use Rattle.jc_model.specs.Listed.{has_distinct_keys}
 use Rattle.jc_stripe.specs.Reopening.{all_entries, kept}
 use Rattle.jc_world.proofs.DroppedKeys.{found_kept, found_in_all}

@@ -12,10 +12,10 @@
 use Rattle.jc_world.proofs.Common.{◌≡◌, ℕ, zero, suc, ◌+◌, true, false, cond, Bool, is_some, ◌&&◌, ◌||◌, List, [], ◌∷◌, length, slice_get, Some, None, Ok, Err, Option, Result, IfSome, IsSomeAnd, sym, refl, ap, ◌∙◌, subst, zero-add, Get, eqb-true, and_parts, nil_from_length, find, list_all, list_all-append, slice_get_within, ◌<◌, ◌≤◌, STRIPES_MAX, history_in, history_at, get, empty, from_entries, get-empty, get-from_entries, nat_list_cmp_total, same_map, eq_by_cmp, same_key, stripe_of, check, Config, Refusal, Bytes, entry_at, key_cmp, Played, State, WorldEvent, CallState, has_number, stripes_reopened, after_reopening, fits, IsOpeningStripe, IsOpeningWorld, is_stored, is_as_told, opens, opens_coherent, opens_as_told, is_untold, has_any, IsCallOf, IsSoundWorld, join_cmp, WorldState, entry_in, cached_entry, is_idle, open_call, op_at}
 use Rattle.std.specs.FinMap as map
 use Rattle.std.specs.Result.{is_ok}
-use Rattle.jc_world.specs.Events.{foreign_reopened}
+use Rattle.jc_world.specs.Reopening.{foreign_reopened}
 use Rattle.jc_model.specs.Listed.{has_distinct_keys}
 use Rattle.jc_stripe.specs.Reopening.{all_entries, kept, opened_stripe, opened_stripes}
-use Rattle.jc_stripe.proofs.CallerLemmas.{all_at, all_entries_once, opened_len, opened_at, opened_reached}
+use Rattle.jc_stripe.proofs.CallerLemmas.{all_at, all_entries_once, opened_len, opened_at, opened_opens}
 use Rattle.jc_world.proofs.Lemmas.{missing, same_found, few_stripes}
 use Rattle.jc_world.proofs.Holding.{call_on}
 use Rattle.jc_world.proofs.Kept.{holds_same}
@@ -156,11 +156,7 @@ reopened_opens w config old fit =
         config_is = refl;
         number_is = refl;
         origin_is = refl;
-        ended_is = refl;
-        reached = opened_reached config Played (all_entries w.stripes) n fits_in (entries_once w old);
-        history = refl;
-        reservations = refl;
-        joiners = refl;
+        opened = opened_opens config Played (all_entries w.stripes) n fits_in (entries_once w old);
       });
       order = refl;
       calls = refl;

@@ -4,7 +4,7 @@
 --     unwritten_since     so none is counted if nobody else has written the store since
 use Rattle.jc_world.proofs.Common.{Change, Claim, after_answer, after_process, after_report, and_from, foreign_committed, has_changed, insert, is_agreed, is_true_load, is_true_report, load_from, part_of, remove, with_doubt, run_result, WriteAnswer, ProcessResult, LoadAnswer, State, and_parts, not, is_misled, get, Some, reopens, read_answer, new_part, ◌&&◌, ◌||◌, Parts, are_honest, Part, ◌≡◌, ◌⊎◌, ℕ, Bool, true, false, cond, List, [], ◌∷◌, ◌++◌, is_none, None, option_map, sym, refl, ap, ◌∙◌, subst, subst₂, inl, inr, or_parts, list_any, empty, get-empty, same_cache, get-with_entry, Config, WriterFailed, Bytes, Cache, entry_at, key_cmp, Shown, WorldEvent, Happens, Step, Run, with_met_by, report_for, keys_reported, reported_now, after_reopening, Coherent, IsOpeningWorld, is_reopening, WorldState, cached_entry, without_foreign}
 use Rattle.jc_world.specs.Openings.{is_by_others, LastOpening, EndsInReopening}
-use Rattle.jc_world.specs.Events.{foreign_reopened}
+use Rattle.jc_world.specs.Reopening.{foreign_reopened}
 use Rattle.jc_world.proofs.Lemmas.{split, each_report, KeyChange, by_nothing, by_refusal, by_step, by_reservation, by_join, by_commit, by_withdrawal, by_answer, by_retry, key_change}
 use Rattle.jc_world.proofs.Reopened.{stored_opened}
 use Rattle.jc_world.proofs.Runs.{run-last}

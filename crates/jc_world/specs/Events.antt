@@ -47,12 +47,6 @@
 --     progress_after              the progress once the processor has run, by what the writer is then asked for
 --     after_process               the world once the processor has run
 --     shown_process               what a processor's run shows
---     keys_dropped                the keys that a reopening drops
---     stripes_reopened            the stripes of the new shape, each with what it keeps
---     foreign_reopened            the foreign keys, once it is opened again: none if what is kept is the store's
---     after_reopening             the world once it is opened again: as a new one, but for what is cached, the store, the foreign keys,
---                                 and the numbers of calls. Its premises count from here: the opening is coherent if what is
---                                 kept is the store's, but for foreign keys
 --     Happens                     what an event that fits may show and leave. A call of many keys is over with the event after which none of
 --                                 its keys is open and no look is left; a call that leaves, or is refused whole, is given up instead
 --     Step                        one event: one that doesn't fit is shown as a fault and changes nothing
@@ -62,7 +56,7 @@
 --     AllFit                      whatever the world may choose, each of these events fits when it comes
 use Rattle.std.specs.Prelude.{◌≡◌, ◌⊎◌, ℕ, List, [], ◌∷◌, ◌++◌, length, drop, Bool, true, false, not, ◌||◌, Option, None, Some, is_none, map, option_map, slice_get, slice_set, if◌then◌else◌}
 use Rattle.std.specs.List.{filter_map, list_all}
-use Rattle.std.specs.FinMap.{empty, get, insert, remove}
+use Rattle.std.specs.FinMap.{get, insert, remove}
 use Rattle.jc_types.specs.declared.caller.Caller.{Caller}
 use Rattle.jc_types.specs.declared.refusal.Refusal.{Refusal}
 use Rattle.jc_types.specs.declared.refusal.Refusal.TheVariants.{TooManyKeys, WriterFailed}
@@ -91,7 +85,6 @@ use Rattle.jc_stripe.specs.Polled as polled
 use Rattle.jc_stripe.specs.Tickets.{TicketClaim, Claim, claim_of, change_asked, JoinClaim, entry_seen, is_loadable}
 use Rattle.jc_stripe.specs.State.{State}
 use Rattle.jc_stripe.specs.Keys.{AreKeys}
-use Rattle.jc_stripe.specs.Reopening.{all_entries, dropped, opened_stripes}
 use Rattle.jc_stripe.specs.Phases.{Begins, Commits, Withdraws, PicksUp}
 use Rattle.jc_world.specs.declared.command.CallKind.{CallKind}
 use Rattle.jc_world.specs.declared.event.WorldEvent.{WorldEvent}
@@ -106,10 +99,11 @@ use Rattle.jc_world.specs.declared.reports.WriterBatch.{WriterBatch}
 use Rattle.jc_world.specs.Calls.{CallState, SweepState, open_keys, keeps_open, op_at, new_call, has_too_many_keys, opened, over_of, settle, over_settled, meet, drop_call, with_swept_keys, look}
 use Rattle.jc_world.specs.declared.event.Part.{Part}
 use Rattle.jc_world.specs.declared.event.PartProgress.{PartProgress}
-use Rattle.jc_world.specs.World.{WorldState, start, home, stripe_for, open_call, of_call, cached_entry, part_of, Parts, waits_for_report, has_changed, is_misled, join_of, join_key, out_of_part, writer_change, with_foreign, without_foreign, with_doubt}
-use Rattle.jc_world.specs.Premises.{opens_coherent, opens_as_told, is_agreed, read_answer, changed_to, report_for, is_true_load, is_true_report, with_loader, with_writer, load_from}
+use Rattle.jc_world.specs.World.{WorldState, home, stripe_for, open_call, of_call, cached_entry, part_of, Parts, waits_for_report, has_changed, is_misled, join_of, join_key, out_of_part, writer_change, with_foreign, without_foreign, with_doubt}
+use Rattle.jc_world.specs.Premises.{is_agreed, read_answer, changed_to, report_for, is_true_load, is_true_report, with_loader, with_writer, load_from}
 use Rattle.jc_world.specs.declared.process.ShownRun.{ShownRun as ProcessShown}
 use Rattle.jc_world.specs.Fits.{fits, is_in_batch, writer_batch}
+use Rattle.jc_world.specs.Reopening.{keys_dropped, after_reopening}
 
 -- 1. What a phase leaves.
 
@@ -392,34 +386,7 @@ shown_process config r answer calls fail =
       change = change_due config done;
     }
 
--- 4. A reopening.
-
--- in the order of all entries
-abbrev pub keys_dropped : Config → WorldState → List Bytes
-keys_dropped config w = map (λ entry. entry.0) (dropped config (all_entries w.stripes))
-
-abbrev pub stripes_reopened : Config → WorldState → List State
-stripes_reopened config w = opened_stripes config Played (all_entries w.stripes) 0 config.stripes
-
--- if all that is kept is the store's, no write of others counts any longer
-abbrev pub foreign_reopened : Cache → Bool → Cache
-foreign_reopened foreign true = empty
-foreign_reopened foreign false = foreign
-
--- the store stays, and the highest number of a call
-abbrev pub after_reopening : Config → WorldState → WorldState
-after_reopening config w =
-    let stripes = stripes_reopened config w in
-    record (start config) {
-      stripes = stripes;
-      store = w.store;
-      foreign = foreign_reopened w.foreign (opens_coherent w.store stripes);
-      last = w.last;
-      premises = record { writers = true; loaders = true; opening = opens_as_told w.foreign w.store stripes };
-      is_fresh = false;
-    }
-
--- 5. What an event that fits shows and leaves.
+-- 4. What an event that fits shows and leaves.
 
 abbrev pub Happens : WorldState → WorldEvent → Shown → WorldState → Type 0
 Happens old (event.Call call session command) seen new =
@@ -481,7 +448,7 @@ Happens old (event.Foreign key value) seen new =
 Happens old (event.Reopen config) seen new =
     (seen ≡ not_over (outcome.Reopened (keys_dropped config old))) × (new ≡ after_reopening config old)
 
--- 6. Steps and runs.
+-- 5. Steps and runs.
 
 -- what happens, if it fits
 abbrev pub Step : WorldState → WorldEvent → Shown → WorldState → Type 0
@@ -500,7 +467,7 @@ abbrev pub RunAppending : WorldState → List WorldEvent → List Shown → List
 RunAppending old events before after new =
     (seen : List Shown) × Run old events seen new × (after ≡ before ++ seen)
 
--- 7. Events that fit.
+-- 6. Events that fit.
 
 abbrev pub is_fit : Outcome → Bool
 is_fit outcome.Unfit = false

@@ -33,7 +33,7 @@ use Rattle.jc_model.specs.Cache.{Bytes, Cache}
 use Rattle.jc_model.specs.Table.{is_load_given}
 use Rattle.jc_outside.specs.declared.done.Origin.TheVariants.{Played}
 use Rattle.jc_stripe.specs.State.{State}
-use Rattle.jc_stripe.specs.Reached.{IsReached}
+use Rattle.jc_stripe.specs.Reached.{IsOpened}
 use Rattle.jc_world.specs.declared.event.Part.{Part}
 use Rattle.jc_world.specs.declared.event.WorldEvent.{WorldEvent}
 use Rattle.jc_world.specs.declared.event.WorldEvent.TheVariants as event
@@ -52,11 +52,7 @@ pub record IsOpeningStripe (config : Config) (number : ℕ) (s : State) : Type 0
   pub config_is : s.config ≡ config
   pub number_is : s.stripe ≡ number
   pub origin_is : s.origin ≡ Played
-  pub ended_is : s.ended ≡ []
-  pub reached : IsReached s
-  pub history : s.history ≡ []
-  pub reservations : s.reservations ≡ []
-  pub joiners : s.joiners ≡ []
+  pub opened : IsOpened s
 
 -- nothing has happened in a world yet
 pub record IsOpeningWorld (w : WorldState) : Type 0 where

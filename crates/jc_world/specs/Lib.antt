@@ -3,6 +3,7 @@ pub mod OpenCalls
 pub mod World
 pub mod Premises
 pub mod Fits
+pub mod Reopening
 pub mod Events
 pub mod Together
 pub mod Coherent

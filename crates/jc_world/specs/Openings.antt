@@ -27,7 +27,8 @@ use Rattle.jc_world.specs.declared.event.WorldEvent.TheVariants as event
 use Rattle.jc_world.specs.declared.event.Outcome.TheVariants as outcome
 use Rattle.jc_world.specs.declared.event.Shown.{Shown}
 use Rattle.jc_world.specs.World.{WorldState, cached_entry}
-use Rattle.jc_world.specs.Events.{Run, Step, keys_dropped}
+use Rattle.jc_world.specs.Events.{Run, Step}
+use Rattle.jc_world.specs.Reopening.{keys_dropped}
 use Rattle.jc_world.specs.Fits.{fits}
 use Rattle.jc_world.specs.Premises.{are_honest}
 use Rattle.jc_world.specs.Coherent.{Coherent, CoherentAsTold, all_hold}

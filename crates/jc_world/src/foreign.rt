@@ -3,7 +3,7 @@
 ghost use Rattle.std.specs.Prelude.{◌≡◌, is_none, OnOk, OnErr, IfOk};
 ghost use Rattle.jc_model.specs.Cache.{entry_at, with_entry};
 ghost use Rattle.jc_world.specs.World.{with_foreign, without_foreign, with_doubt};
-ghost use Rattle.jc_world.specs.Events.{foreign_reopened};
+ghost use Rattle.jc_world.specs.Reopening.{foreign_reopened};
 
 use jc_model::Contents;
 use jc_types::{Key, Value};

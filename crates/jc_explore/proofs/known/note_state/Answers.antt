@@ -1,4 +1,4 @@
-use Rattle.jc_explore.proofs.Common.{◌≡◌, List, length, refl, sym, subst, All, AllPairs, All-push, all_pairs_push, KnownState, scene_state, HaveOneKey, AreAsLong, IsKnown, IsKnownBy}
+use Rattle.jc_explore.proofs.Common.{◌≡◌, List, refl, sym, subst, All, AllPairs, All-push, all_pairs_push, KnownState, scene_state, HaveOneKey, HaveSchedule, IsKnown, IsKnownBy}
 use Rattle.jc_explore.proofs.Keys.{known-stay}
 use Rattle.jc_explore.proofs.Searching.{known-before, known-last, grows-refl, places-push, prints-push}
 use Rattle.jc_explore.proofs.Shortest.{adds-none, adds-one}
@@ -13,7 +13,7 @@ returns-then-has c =
     record {
       known = record { each = stay; apart = c.requires.known.apart; prints = c.requires.known.prints; places = c.requires.known.places };
       kept = grows-refl known;
-      added = adds-none (λ (k : KnownState). length k.schedule.items ≡ length c.args.schedule.items) known;
+      added = adds-none (λ (k : KnownState). k.schedule.items ≡ c.args.schedule.items) known;
       there = known-before c.snapshots_tell.ensures p seen known c.in_ok-key.key (scene_state c.args.scene.now) stay c.in_ok-key.ensures.key (c.has.ensures.there c.if-has.true);
     }
 
@@ -34,7 +34,7 @@ returns c =
         places = places-push c.args.known.now.places c.note.new.self c.args.known.now.fingerprints.items _ c.fingerprint-print.result c.requires.known.places c.in_ok-note.ensures.others c.in_ok-note.ensures.there c.in_ok-push.ensures.items;
       };
       kept = (_, c.in_ok-push-2.ensures.items);
-      added = subst (λ (ks : List KnownState). AreAsLong (length c.args.schedule.items) known ks) (sym c.in_ok-push-2.ensures.items) (adds-one (λ (k : KnownState). length k.schedule.items ≡ length c.args.schedule.items) known one refl);
+      added = subst (λ (ks : List KnownState). HaveSchedule c.args.schedule.items known ks) (sym c.in_ok-push-2.ensures.items) (adds-one (λ (k : KnownState). k.schedule.items ≡ c.args.schedule.items) known one refl);
       there = subst (λ (ks : List KnownState). IsKnown p ks (scene_state c.args.scene.now)) (sym c.in_ok-push-2.ensures.items)
           (known-last p known one (scene_state c.args.scene.now) c.requires.plays);
     }

@@ -1,4 +1,4 @@
-use Rattle.jc_explore.proofs.Common.{[], List, length, sym, subst, arith, KnownState, Move, Program, Finding, AreDistinct, AreWitnessed, AreAsLong, IsKnown}
+use Rattle.jc_explore.proofs.Common.{[], List, sym, subst, arith, KnownState, Move, Program, Finding, AreDistinct, AreWitnessed, HaveSchedule, IsKnown}
 use Rattle.jc_explore.proofs.Searching.{none-known}
 use Rattle.jc_explore.proofs.search.begin.Goals as goal
 
@@ -21,8 +21,8 @@ returns c =
         witnessed = subst (λ (xs : List Finding). AreWitnessed p xs) (sym c.new-found.ensures.items) (none-witnessed p);
         distinct = subst (λ (xs : List Finding). AreDistinct xs) (sym c.new-found.ensures.items) none-distinct;
       };
-      first = subst (λ (ks : List KnownState). AreAsLong 0 ks c.note_state.new.known.list.items) c.new-known.ensures.list
-          (subst (λ (ms : List Move). AreAsLong (length ms) c.new-known.result.list.items c.note_state.new.known.list.items) c.new-schedule.ensures.items n.added);
+      first = subst (λ (ks : List KnownState). HaveSchedule [] ks c.note_state.new.known.list.items) c.new-known.ensures.list
+          (subst (λ (ms : List Move). HaveSchedule ms c.new-known.result.list.items c.note_state.new.known.list.items) c.new-schedule.ensures.items n.added);
       none = c.new-found.ensures.items;
       opening = subst (IsKnown p c.note_state.new.known.list.items) c.requires n.there;
     }

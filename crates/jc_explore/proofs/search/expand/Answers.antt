@@ -1,4 +1,4 @@
-use Rattle.jc_explore.proofs.Common.{◌≡◌, ◌+◌, length, sym, ◌∙◌, arith, get_or, true≢false, or_parts, KnownState, Begin, Move, WasFollowed, StaysAt}
+use Rattle.jc_explore.proofs.Common.{sym, ◌∙◌, arith, get_or, true≢false, or_parts, KnownState, Begin, Move, IsNextSchedule, WasFollowed, StaysAt}
 use Rattle.jc_explore.proofs.Searching.{grows-refl, grows-twice, below_one-more, followed-grown, followed-at, stays-at, there-at, or_goes}
 use Rattle.jc_explore.proofs.Shortest.{adds-none, adds-twice}
 use Rattle.jc_explore.proofs.search.expand.Goals as goal
@@ -12,7 +12,7 @@ loop-step-init c =
     record {
       known = c.requires.known;
       kept = grows-refl c.args.known.now.list.items;
-      added = adds-none (λ (k : KnownState). length k.schedule.items ≡ length c.args.schedule.now + 1) c.args.known.now.list.items;
+      added = adds-none (λ (k : KnownState). IsNextSchedule c.args.schedule.now k.schedule.items) c.args.known.now.list.items;
       there = λ _. c.requires.there;
       followed = λ k h. absurd (omega (arith, h));
       on = λ t. absurd (true≢false (sym t));
@@ -33,7 +33,7 @@ loop-step-preserved c =
     record {
       known = e.known;
       kept = grows-twice c.args.known.now.list.items was now i.kept e.kept;
-      added = adds-twice (λ (k : KnownState). length k.schedule.items ≡ length c.args.schedule.now + 1) c.args.known.now.list.items was now e.kept i.added e.added;
+      added = adds-twice (λ (k : KnownState). IsNextSchedule c.args.schedule.now k.schedule.items) c.args.known.now.list.items was now e.kept i.added e.added;
       there = λ t. absurd (true≢false (sym t));
       followed = below_one-more (WasFollowed p moves sched now) k (λ j hj. followed-grown p moves sched was now j e.kept (i.followed j hj)) (followed-at p moves sched now k first h e.all);
       on = λ t. or_goes c.loop-step.any c.in_ok-moved.moved (sym c.either-now.ensures ∙ t) i.on

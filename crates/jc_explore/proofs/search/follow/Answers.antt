@@ -1,4 +1,4 @@
-use Rattle.jc_explore.proofs.Common.{◌≡◌, ℕ, ◌+◌, ◌++◌, ◌∷◌, [], length, length-append, sym, subst, true≢false, opening, scene_state, KnownState, AreAsLong, IsKnown}
+use Rattle.jc_explore.proofs.Common.{◌++◌, ◌∷◌, [], sym, subst, true≢false, opening, scene_state, KnownState, IsKnown, IsNextSchedule}
 use Rattle.jc_explore.proofs.AllMoves.{sessions-push}
 use Rattle.jc_explore.proofs.Runs.{plays-determined, plays-push, plays-stops}
 use Rattle.jc_explore.proofs.Searching.{grows-refl}
@@ -12,7 +12,7 @@ returns-then-not-moved c =
     record {
       known = c.requires.known;
       kept = grows-refl c.args.known.now.list.items;
-      added = adds-none (λ (k : KnownState). length k.schedule.items ≡ length c.args.schedule.now + 1) c.args.known.now.list.items;
+      added = adds-none (λ (k : KnownState). IsNextSchedule c.args.schedule.now k.schedule.items) c.args.known.now.list.items;
       all = λ s plays. absurd (stays s plays);
       goes = λ t. absurd (true≢false (sym t));
       stays = λ _. stays;
@@ -33,7 +33,7 @@ returns c =
     record {
       known = note.known;
       kept = note.kept;
-      added = subst (λ (n : ℕ). AreAsLong n c.args.known.now.list.items c.note_next.new.known.list.items) (length-append c.args.schedule.now (c.args.step ∷ [])) note.added;
+      added = λ k m low at. (c.args.step, note.added k m low at);
       all = λ s plays. subst (IsKnown p c.note_next.new.known.list.items)
           (plays-determined c.runs_are_determined.ensures p (opening p) (scene_state c.step.new.self) s (c.args.schedule.now ++ c.args.step ∷ []) here plays) note.there;
       goes = λ _. (scene_state c.step.new.self, here);

@@ -1,7 +1,9 @@
-use Rattle.jc_explore.proofs.Common.{◌≡◌, ℕ, eqb, ◌+◌, ◌<◌, List, Some, get_or, length, slice_get, ◌∙◌, ap, subst, arith, true, true≢false, sym, inl, inr, eqb-true, eqb-false, length-append, KnownState, Move, Finding, OUTCOMES_MAX, opening, AreAsLong, AreNew, IsClosedSchedule, IsClosedUpTo}
-use Rattle.jc_explore.proofs.Closing.{closed-more, each-known, has-each}
-use Rattle.jc_explore.proofs.Searching.{known-grown, same-at, there-at}
-use Rattle.jc_explore.proofs.Shortest.{first-breadth, more-breadth}
+use Rattle.jc_explore.proofs.Common.{◌≡◌, eqb, ◌<◌, List, [], ◌∷◌, ◌++◌, refl, Some, get_or, length, slice_get, ◌∙◌, ap, subst, arith, true≢false, sym, inl, inr, eqb-true, eqb-false, length-append, KnownState, Move, Finding, OUTCOMES_MAX, AreNew, AreNext, IsClosedSchedule, Progress, progress_of}
+use Rattle.std.proofs.lemmas.Result.{err_from_is_err_and}
+use Rattle.jc_explore.proofs.Meeting.{first-meets, more-meets}
+use Rattle.jc_explore.proofs.Searching.{same-at, there-at}
+use Rattle.jc_explore.proofs.Shortest.{first-breadth, more-breadth, nearest-known}
+use Rattle.jc_explore.proofs.Telling.{no-progress, progress-grown, progress-push, tells-more, tells-none}
 use Rattle.jc_explore.proofs.search.visit_all.Goals as goal
 
 pub returns-then-place-len : goal.returns-then-place-len
@@ -9,46 +11,63 @@ returns-then-place-len g c =
     let p = c.args.program.now in
     let i = c.loop-place.invariant in
     let known = c.loop-place.search.known.list.items in
-    let found = c.loop-place.search.found.items in
-    record {
-      witnessed = i.search.witnessed;
-      distinct = i.search.distinct;
-      shortest = i.breadth.shortest;
-      all = λ _. has-each p known found (subst (λ (n : ℕ). IsClosedUpTo p known found n) (c.if-place-len.true ∙ c.len-in-loop-place.ensures ∙ c.loop-place.search.known.list.ok.0) i.closed) i.opening;
-      known = i.search.known;
-      scenes = λ _. each-known p known found (subst (λ (n : ℕ). IsClosedUpTo p known found n) (c.if-place-len.true ∙ c.len-in-loop-place.ensures ∙ c.loop-place.search.known.list.ok.0) i.closed) i.opening;
-      within = λ _. omega (arith, c.loop-place-test.true, c.if-place-len.true, c.len-in-loop-place.ensures, c.loop-place.search.known.list.ok.0);
-      tried = λ f. absurd (true≢false f);
-      stopped = λ f. absurd (true≢false f);
-    }
+    let found = c.loop-place.search.found.items in (
+      i.told.0,
+      i.told.1,
+      record {
+        search = i.search;
+        shortest = i.breadth.shortest;
+        ordered = i.breadth.ordered;
+        sorted = i.breadth.sorted;
+        nearest = nearest-known p known found c.loop-place.place i.breadth;
+        followed = c.loop-place.place;
+        within = (i.budget, i.within);
+        meets = i.meets;
+        told = (i.told.2, i.told.3);
+        whole = λ _. c.if-place-len.true ∙ c.len-in-loop-place.ensures ∙ c.loop-place.search.known.list.ok.0;
+        stopped = λ f. absurd (true≢false f);
+      },
+    )
 
 pub returns-then-has_too_many : goal.returns-then-has_too_many
 returns-then-has_too_many g c =
+    let p = c.args.program.now in
     let i = c.loop-place.invariant in
-    let many : OUTCOMES_MAX < length c.loop-place.search.found.items =
-    subst (λ (xs : List Finding). OUTCOMES_MAX < length xs) c.deref.ensures.value (c.has_too_many.ensures c.if-has_too_many.true) in
-    record {
-      witnessed = i.search.witnessed;
-      distinct = i.search.distinct;
-      shortest = i.breadth.shortest;
-      all = λ t. absurd (true≢false (sym t));
-      known = i.search.known;
-      scenes = λ t. absurd (true≢false (sym t));
-      within = λ t. absurd (true≢false (sym t));
-      tried = λ _. inr many;
-      stopped = λ _. inl many;
-    }
+    let known = c.loop-place.search.known.list.items in
+    let found = c.loop-place.search.found.items in
+    let left : c.loop-place.place < length known =
+    omega (arith, i.within, c.if-place-len.false, c.len-in-loop-place.ensures, c.loop-place.search.known.list.ok.0) in
+    let many : OUTCOMES_MAX < length found = subst (λ (xs : List Finding). OUTCOMES_MAX < length xs) c.deref.ensures.value (c.has_too_many.ensures c.if-has_too_many.true) in (
+      i.told.0,
+      i.told.1,
+      record {
+        search = i.search;
+        shortest = i.breadth.shortest;
+        ordered = i.breadth.ordered;
+        sorted = i.breadth.sorted;
+        nearest = nearest-known p known found c.loop-place.place i.breadth;
+        followed = c.loop-place.place;
+        within = (i.budget, i.within);
+        meets = i.meets;
+        told = (i.told.2, i.told.3);
+        whole = λ t. absurd (true≢false (sym t));
+        stopped = λ _. (left, inr many);
+      },
+    )
 
 pub loop-place-init : goal.loop-place-init
 loop-place-init g c =
     let p = c.args.program.now in
     let s = c.requires.search in
+    let known = c.args.search.now.known.list.items in
+    let found = c.args.search.now.found.items in
     record {
       search = s.search;
-      opening = s.opening;
-      closed = λ k m h at. absurd (omega (arith, h));
-      breadth = first-breadth p c.args.search.now.known.list.items c.args.search.now.found.items s.first s.opening s.none;
+      meets = first-meets p known found s.first s.opening s.none;
+      breadth = first-breadth p known found s.first s.opening s.none;
       within = omega arith;
+      budget = omega arith;
+      told = ([], tells-none _, refl, no-progress p known found);
     }
 
 pub loop-place-preserved : goal.loop-place-preserved
@@ -68,16 +87,24 @@ loop-place-preserved g c =
     ∙ ap (λ (x : KnownState). x.schedule.items) (c.index.ensures ∙ same-at was place c.index.result.now m h at) in
     let one : KnownState = get_or was place c.index.result.now in
     let here : slice_get was place ≡ Some one = there-at was place c.index.result.now h in
+    let told = i.told in
+    let row : Progress = progress_of place c.loop-place.search in
+    let next = subst (λ (ms : List Move). AreNext ms was now) (followed one here) e.added in
+    let fresh = subst (λ (ms : List Move). AreNew ms before found) (followed one here) e.fresh in
     record {
       search = e.search;
-      opening = known-grown p was now (opening p) e.known_kept i.opening;
-      closed = closed-more p was now before found place e.known_kept e.found_kept h i.closed
+      meets = more-meets p was now before found place one i.meets here e.known_kept e.found_kept next fresh
           (λ m at. subst (λ (ms : List Move). IsClosedSchedule p now found ms) (followed m at) e.closed);
-      breadth = more-breadth p was now before found place one i.breadth i.closed here e.known_kept e.found_kept
-          (subst (λ (ms : List Move). AreAsLong (length ms + 1) was now) (followed one here) e.added)
-          (subst (λ (ms : List Move). AreNew ms before found) (followed one here) e.fresh)
+      breadth = more-breadth p was now before found place one i.breadth i.meets here e.known_kept e.found_kept next fresh
           (subst (λ (ms : List Move). IsClosedSchedule p now found ms) (followed one here) e.closed);
       within = omega (arith, h, length-append was e.known_kept.0, ap (λ (ks : List KnownState). length ks) e.known_kept.1);
+      budget = omega (arith, c.loop-place-test.true);
+      told = (
+        told.0 ++ row ∷ [],
+        tells-more _ _ _ told.0 row told.1 c.tell.ensures,
+        omega (arith, told.2, length-append told.0 (row ∷ [])),
+        progress-grown p was now before found (told.0 ++ row ∷ []) e.known_kept e.found_kept (progress-push p was before told.0 place told.3 told.2 i.within i.meets),
+      );
     }
 
 pub returns : goal.returns
@@ -86,20 +113,63 @@ returns g c =
     let i = c.loop-place.invariant in
     let known = c.loop-place.search.known.list.items in
     let found = c.loop-place.search.found.items in
+    let place = c.loop-place.place in
     let b = c.loop-place-test.false in
     let count : c.len-count.result ≡ length known = c.len-count.ensures ∙ c.loop-place.search.known.list.ok.0 in
-    let at_end : eqb c.len-count.result c.args.states ≡ true → c.loop-place.place ≡ length known =
-    λ whole. omega (arith, b, i.within, eqb-true c.len-count.result c.args.states whole, count) in
-    record {
-      witnessed = i.search.witnessed;
-      distinct = i.search.distinct;
-      shortest = i.breadth.shortest;
-      all = λ whole. has-each p known found (subst (λ (n : ℕ). IsClosedUpTo p known found n) (at_end whole) i.closed) i.opening;
-      known = i.search.known;
-      scenes = λ whole. each-known p known found (subst (λ (n : ℕ). IsClosedUpTo p known found n) (at_end whole) i.closed) i.opening;
-      within = λ whole. let same = eqb-true c.len-count.result c.args.states whole in omega (arith, same, count);
-      tried = λ f.
-          let apart = eqb-false c.len-count.result c.args.states f in
-          inl (omega (arith, b, i.within, apart, count));
-      stopped = λ _. inr (λ k m h at. i.closed k m (omega (arith, b, h)) at);
-    }
+    let spent : place ≡ c.args.states = omega (arith, b, i.budget) in (
+      i.told.0,
+      i.told.1,
+      record {
+        search = i.search;
+        shortest = i.breadth.shortest;
+        ordered = i.breadth.ordered;
+        sorted = i.breadth.sorted;
+        nearest = nearest-known p known found place i.breadth;
+        followed = place;
+        within = (i.budget, i.within);
+        meets = i.meets;
+        told = (i.told.2, i.told.3);
+        whole = λ whole. let same = eqb-true c.len-count.result c.args.states whole in omega (arith, spent, same, count);
+        stopped = λ f.
+            let apart = eqb-false c.len-count.result c.args.states f in
+            (omega (arith, spent, i.within, apart, count), inl spent);
+      },
+    )
+
+-- an allocation failed
+
+pub returns-in_err-moves : goal.returns-in_err-moves
+returns-in_err-moves g c =
+    let s = c.args.search.now in
+    let p = err_from_is_err_and c.from_residual.result c.from_residual.ensures.1 in
+    rw p.1 ([], tells-none _, (omega arith, (s, c.requires.search.search, no-progress c.args.program.now s.known.list.items s.found.items)))
+
+pub returns-in_err-schedule : goal.returns-in_err-schedule
+returns-in_err-schedule g c =
+    let i = c.loop-place.invariant in
+    let s = c.loop-place.search in
+    let row : Progress = progress_of c.loop-place.place s in
+    let p = err_from_is_err_and c.from_residual-in_err-schedule.result c.from_residual-in_err-schedule.ensures.1 in
+    rw p.1 (
+      i.told.0 ++ row ∷ [],
+      tells-more _ _ _ i.told.0 row i.told.1 c.tell.ensures,
+      (
+        omega (arith, i.told.2, length-append i.told.0 (row ∷ []), c.loop-place-test.true),
+        (s, i.search, progress-push c.args.program.now s.known.list.items s.found.items i.told.0 c.loop-place.place i.told.3 i.told.2 i.within i.meets),
+      ),
+    )
+
+pub returns-in_err-visit : goal.returns-in_err-visit
+returns-in_err-visit g c =
+    let i = c.loop-place.invariant in
+    let s = c.loop-place.search in
+    let row : Progress = progress_of c.loop-place.place s in
+    let p = err_from_is_err_and c.from_residual-in_err-visit.result c.from_residual-in_err-visit.ensures.1 in
+    rw p.1 (
+      i.told.0 ++ row ∷ [],
+      tells-more _ _ _ i.told.0 row i.told.1 c.tell.ensures,
+      (
+        omega (arith, i.told.2, length-append i.told.0 (row ∷ []), c.loop-place-test.true),
+        (s, i.search, progress-push c.args.program.now s.known.list.items s.found.items i.told.0 c.loop-place.place i.told.3 i.told.2 i.within i.meets),
+      ),
+    )

@@ -1,5 +1,5 @@
-use Rattle.std.proofs.Common.{◌∙◌, ◌∷◌, [], ◌++◌, ℕ, List, ap, inr, refl}
-use Rattle.jc_shell.proofs.Streams.{answered_one, err_then, ok_then}
+use Rattle.jc_shell.proofs.Common.{◌∙◌, ◌∷◌, [], ◌++◌, ℕ, List, ap, append-nil, inl, inr, refl}
+use Rattle.jc_shell.proofs.Streams.{answered_one, appends_none, err_then, late_none, ok_then}
 use Rattle.jc_shell.proofs.run.answer_line.Goals as goal
 
 pub returns-in-Ok-clause-ok : goal.returns-in-Ok-clause-ok
@@ -18,10 +18,17 @@ returns-in-Ok-clause-err g c = err_then c.say_both.result _ _ (λ e w. λ a h.
       r.0 ++ prompt,
       w.1.0,
       r.1,
+      [],
       r.2,
       inr refl,
       answered_one prompt a line r.0 r.1 r.2 c.requires.whole r.4,
       rw w.0 (rw text_is at w.1.1),
       w.1.2,
-      r.6,
+      late_none e,
+      rw (append-nil r.1) r.6,
     )) c.say_both.ensures.err
+
+pub returns-clause-err : goal.returns-clause-err
+returns-clause-err g c = λ a h.
+    let u = c.in-Err.ensures.unsaved in
+    ([], [], [], [], u.0, a, inl refl, (refl, refl, refl), refl, appends_none _, u.1, u.2)

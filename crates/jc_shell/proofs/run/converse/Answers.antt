@@ -1,5 +1,5 @@
 use Rattle.jc_shell.proofs.Common.{◌∙◌, rules, take_rest}
-use Rattle.jc_shell.proofs.Streams.{err_then, ok_then, ran_out, ran_quit, stopped_answering, stopped_ending, stopped_first, stopped_reading, talked_next}
+use Rattle.jc_shell.proofs.Streams.{err_then, nothing_taken, ok_then, ran_out, ran_quit, stopped_answering, stopped_ending, stopped_first, stopped_reading, talked_next}
 use Rattle.jc_shell.proofs.run.converse.Goals as goal
 
 pub returns-in-Err-clause-stopped : goal.returns-in-Err-clause-stopped
@@ -10,7 +10,7 @@ returns-in-Err-clause-stopped g c =
 pub returns-in-Err-read_more-clause-stopped : goal.returns-in-Err-read_more-clause-stopped
 returns-in-Err-read_more-clause-stopped g c =
     let r = c.in-Err-read_more.ensures.err in
-    stopped_reading _ _ _ _ _ _ _ _ _ c.reads.input.items r.2.0 c.reads.at _ _ _ c.reads.invariant.0 r.2.1
+    stopped_reading _ _ _ _ _ _ _ _ _ c.reads.input.items r.2.0 c.reads.at _ _ _ c.reads.invariant.0 r.2.2 (nothing_taken r.2.1 r.1)
 
 pub returns-in-Err-answer_lines-clause-stopped : goal.returns-in-Err-answer_lines-clause-stopped
 returns-in-Err-answer_lines-clause-stopped g c =
@@ -18,7 +18,8 @@ returns-in-Err-answer_lines-clause-stopped g c =
     let m = c.in-Ok-true.ensures.ok in
     let r = c.in-Err-answer_lines.ensures.err t.b t.holds in
     stopped_answering _ _ _ _ _ _ _ _ _ _ _ c.reads.input.items m.0 c.read_more.new.input.items c.reads.at _ _ _
-    r.0 r.1 r.2 r.3 r.5 r.4 t m.2 m.1 r.6 (rw (take_rest c.read_more.new.input.items c.reads.at) at (rw c.deref.ensures.value at r.7)) r.8 r.9 r.10
+    r.0 r.1 r.2 r.3 r.4 r.6 r.5 t m.2 m.1 r.7 (rw (take_rest c.read_more.new.input.items c.reads.at) at (rw c.deref.ensures.value at r.8)) r.9 r.10 r.11 r.12
+    c.in-Err-answer_lines.ensures.kinds
 
 pub returns-in-Ok-None-clause-ran : goal.returns-in-Ok-None-clause-ran
 returns-in-Ok-None-clause-ran g c =

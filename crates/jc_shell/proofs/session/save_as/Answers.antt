@@ -1,5 +1,4 @@
-use Rattle.jc_shell.proofs.Common.{◌≡◌, ◌∙◌, ◌++◌, ℕ, List, [], ◌∷◌, length, take, ap, append_assoc, inr, refl, codes, take-append_seam, not_saved_text}
-use Rattle.jc_shell.proofs.Turns.{saves_none}
+use Rattle.jc_shell.proofs.Common.{◌≡◌, ◌∙◌, ◌++◌, ℕ, List, [], ◌∷◌, Some, length, take, ap, append_assoc, inr, refl, codes, take-append_seam, not_saved_text}
 use Rattle.jc_shell.proofs.session.save_as.Goals as goal
 
 -- what was there before comes back
@@ -18,8 +17,8 @@ returns-in_ok-put_not_saved-in-Err-clause-ok g c =
     let kept = c.truncate.ensures.items ∙ ap (λ (t : List ℕ). take c.len-before.result t) made
     ∙ ap (λ (n : ℕ). take n (((before ++ a) ++ name) ++ 10 ∷ [])) (c.len-before.ensures ∙ c.args.out.now.ok.0) ∙ front before a name (10 ∷ []) in (
       not_saved_text name why,
-      [],
-      inr (refl, (why, refl)),
+      record { name = name; script = c.args.script.now; refusal = Some why } ∷ [],
+      inr (why, refl, refl),
       c.in_ok-put_not_saved-in-Err.ensures ∙ ap (λ (t : List ℕ). t ++ not_saved_text name why) kept,
-      rw c.in-Err.ensures.err (saves_none _),
+      c.in-Err.ensures.err,
     )

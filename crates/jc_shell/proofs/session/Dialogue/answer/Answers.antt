@@ -1,15 +1,15 @@
 use Rattle.jc_shell.proofs.Common.{◌≡◌, ◌∙◌, [], refl, sym, help_text, word_of, Help, Line}
-use Rattle.jc_shell.proofs.Turns.{saves_none}
+use Rattle.jc_shell.proofs.Turns.{calls_none}
 use Rattle.jc_shell.proofs.session.Dialogue.answer.Goals as goal
 
 pub returns-in_ok-put-in-Help-clause-answered : goal.returns-in_ok-put-in-Help-clause-answered
 returns-in_ok-put-in-Help-clause-answered g c =
     let word : word_of c.args.line.now ≡ Help = sym c.word_of.ensures ∙ c.in-Help.is in
-    λ a h. (help_text, [], a, h, rw word (refl, refl, refl), c.in_ok-put-in-Help.ensures, saves_none _)
+    λ a h. (help_text, [], a, h, rw word (refl, refl, refl), c.in_ok-put-in-Help.ensures, calls_none _)
 
 pub returns-in_ok-play-in-Line-clause-answered : goal.returns-in_ok-play-in-Line-clause-answered
 returns-in_ok-play-in-Line-clause-answered g c =
     let word : word_of c.args.line.now ≡ Line = sym c.word_of.ensures ∙ c.in-Line.is in
     λ a h.
     let r = c.in_ok-play-in-Line.ensures a h in
-    (r.0, [], r.1, r.2, rw word (refl, r.3), r.4, saves_none _)
+    (r.0, [], r.1, r.2, rw word (refl, r.3), r.4, calls_none _)

@@ -1,7 +1,7 @@
 use Rattle.jc_world.proofs.Common.{List, map, sym, ap, ◌∙◌, subst, length, ◌≤◌, STRIPES_MAX, list_all, Bytes, Config, Played, State, Outcome, not_over, history_at, is_stored, is_as_told, WorldState, true, false}
 use Rattle.jc_model.specs.Listed.{has_distinct_keys}
 use Rattle.jc_stripe.specs.Reopening.{all_entries, opened_stripes, dropped}
-use Rattle.jc_world.specs.Events.{foreign_reopened}
+use Rattle.jc_world.specs.Reopening.{foreign_reopened}
 use Rattle.jc_world.proofs.Reopening.{no_calls, no_parts, no_joins, entries_once, reopened_history, few_reopened, passed_reopened, may_reopen}
 use Rattle.jc_world.proofs.machine.Machine.reopen.Goals as goal
 
