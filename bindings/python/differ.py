@@ -57,13 +57,13 @@ class Call:
         self.next = out.next
         self.number = out.number
         self.call = out.call
-        self.entry = out.value.get() if out.next == core.RUN_PROCESSOR and out.reply == core.VALUE else None
-        self.may_load = out.next == core.RUN_PROCESSOR and out.code == 1
-        self.change = out.value.get() if out.next == core.HAVE_WRITTEN else None
+        self.entry = out.value.get() if out.next == core.ASK_PROCESS and out.reply == core.VALUE else None
+        self.may_load = out.next == core.ASK_PROCESS and out.code == 1
+        self.change = out.value.get() if out.next == core.ASK_WRITE else None
         self.loaded = None
         """What the loader answered: answer, code, value."""
         self.processed = None
-        self.must_write = out.next in (core.HAVE_WRITTEN, core.HAVE_DELETED)
+        self.must_write = out.next in (core.ASK_WRITE, core.ASK_DELETE)
         self.written = None
         """What the writer answered: answer, code."""
 
@@ -202,11 +202,11 @@ class Player:
 
     @staticmethod
     def asked(call):
-        if call.next == core.RUN_PROCESSOR:
+        if call.next == core.ASK_PROCESS:
             return f'process {word(call.entry)}'
-        if call.next == core.HAVE_WRITTEN:
+        if call.next == core.ASK_WRITE:
             return f'write {word(call.change)}'
-        return {core.ASK_LOADER: 'load', core.HAVE_DELETED: 'delete', core.JOINED: 'joined'}[call.next]
+        return {core.ASK_LOAD: 'load', core.ASK_DELETE: 'delete', core.JOINED: 'joined'}[call.next]
 
     # Outside, and the last phase.
 
@@ -217,9 +217,9 @@ class Player:
             self.end(call)
         elif self.random.random() < .1:
             self.drop(call)
-        elif call.next == core.ASK_LOADER:
+        elif call.next == core.ASK_LOAD:
             self.load(call)
-        elif call.next == core.RUN_PROCESSOR:
+        elif call.next == core.ASK_PROCESS:
             self.process(call)
         else:
             self.write(call)
@@ -313,15 +313,15 @@ class Player:
             processed.set_value.set(raw(value))
         elif chance < .6:
             words.append('remove')
-            processed.effect = core.TAKE_OUT
+            processed.effect = core.EFFECT_REMOVE
         if processed.load == core.FAILED:
             processed.effect, processed.has_outcome = core.KEEP, False
         if self.random.random() < .15:
             words.append('fail=5')
             self.says.append(f'{call.line} fails 5')
-            processed.effect, processed.code = core.PROCESS_FAILED, 5
+            processed.effect, processed.code = core.EFFECT_FAILED, 5
         self.script.append(' '.join(words))
-        call.must_write = self.shape.write_through and processed.effect in (core.SET, core.TAKE_OUT) and processed.load != core.FAILED
+        call.must_write = self.shape.write_through and processed.effect in (core.SET, core.EFFECT_REMOVE) and processed.load != core.FAILED
         if not call.must_write:
             self.say(call.line, call.key, 'ready')
         elif processed.effect == core.SET:
@@ -399,12 +399,12 @@ class Player:
         out, moves = self.desk.out, self.desk.out.moves
         if moves & core.EVICTED:
             assert self.table.pop(out.victim.get().decode()) == out.evicted.get(), 'another value was evicted'
-        if moves & core.LEFT:
+        if moves & core.REMOVED:
             assert self.table.pop(key) == out.left.get(), 'another value left'
-        if moves & core.KEPT:
+        if moves & core.STORED:
             assert key not in self.table, 'a value was kept beside another'
             self.table[key] = self.desk.peek(key.encode())
-        is_lost = inserts and not moves & core.KEPT
+        is_lost = inserts and not moves & core.STORED
         assert bool(moves & core.OWN_EVICTED_FULL) == is_lost, 'its own eviction'
         held = {key.decode(): value for key, value in self.desk.entries()}
         assert self.table == held, f'{self.table} is not {held}'

@@ -149,11 +149,11 @@ class BulkPlayer(Player):
     # One call outside for all keys of a round.
 
     def ask(self, bulk, calls):
-        unprocessed = [call for call in calls if call.next == core.RUN_PROCESSOR and call.processed is None]
+        unprocessed = [call for call in calls if call.next == core.ASK_PROCESS and call.processed is None]
         sets = [call for call in calls if call.change is not None]
         if unprocessed:
             self.process(unprocessed[0])
-        elif calls[0].next == core.ASK_LOADER:
+        elif calls[0].next == core.ASK_LOAD:
             self.load_all(bulk, calls)
         else:
             self.write_all(bulk, sets or calls)

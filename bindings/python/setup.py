@@ -27,7 +27,7 @@ ASSEMBLY = {'x86_64': 'cadwrelch.s', 'aarch64': 'cadwrelch_aarch64.s'}
 OF_THE_CORE = ['VERSION', 'include/cadwrelch.h', *ASSEMBLY.values()]
 CORE = 'core' if os.path.isdir('core') else os.path.join('..', 'core')
 ARCHIVE = os.environ.get('CADWRELCH_CORE')
-SOURCES = [f'src/{name}.c' for name in ('module', 'cache', 'outside', 'calls', 'steps', 'table')]
+SOURCES = [f'src/{name}.c' for name in ('module', 'cache', 'whole', 'outside', 'calls', 'steps', 'times', 'table')]
 
 
 def refuse(sentence):

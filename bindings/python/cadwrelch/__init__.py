@@ -11,8 +11,8 @@ from ._none import NONE
 from ._version import __version__
 from .aio import AsyncCache, AsyncEntry
 from .cache import Cache, Entry
-from .errors import BulkError, CacheError, ClosedError, DeadlockError, LoaderError, NotWritten, WriterError
+from .errors import BulkError, CacheError, ClosedError, DeadlockError, ForkedError, LoaderError, NotWritten, WriterError
 from .memo import cached, hashkey
 
 __all__ = ['NONE', '__version__', 'AsyncCache', 'AsyncEntry', 'Cache', 'Entry', 'BulkError', 'CacheError', 'ClosedError', 'DeadlockError',
-           'LoaderError', 'NotWritten', 'WriterError', 'cached', 'hashkey']
+           'ForkedError', 'LoaderError', 'NotWritten', 'WriterError', 'cached', 'hashkey']

@@ -14,10 +14,10 @@ import math
 import threading
 import types
 
-from . import _core, rounds, waiting
+from . import _core, refresh, rounds, waiting
 from .cache import Entry, Processing
-from .errors import CacheError, loader_failed, writer_failed
-from .shape import check_value, many, method, shape
+from .errors import CacheError, is_interrupt, loader_failed, writer_failed
+from .shape import HISTORY_DEFAULT, check_value, many, method, settings
 
 
 class _Loader:
@@ -76,21 +76,21 @@ async def _none_as_value(function, arguments, words):
     return _core.NONE if value is None else value
 
 
-def _raise_from(failed, key, error):
-    """Raises the error of a key from its cause; what isn't an Exception, as it is."""
+def _raise_from(failed, call, error):
+    """Raises the error of a key from its cause; an interrupt as it is."""
     try:
-        if not isinstance(error, Exception):
+        if is_interrupt(error):
             raise error
-        raise failed(key) from error
+        raise failed(call.key, call.cache.name) from error
     finally:
         del error
 
 
 def _shared(flight):
     """What a call that was waited for has loaded, and why it has failed; (None, None) to begin anew."""
-    if flight is None or not flight.is_over:
+    if flight is None or not flight.is_over or flight.is_overtaken:
         return None, None
-    return flight.value, flight.error if isinstance(flight.error, Exception) else None
+    return flight.value, None if is_interrupt(flight.error) else flight.error
 
 
 class AsyncEntry(Entry):
@@ -125,7 +125,7 @@ class _Calls(rounds.Round):
     """A call of many keys, whose task waits."""
 
     def __init__(self, cache, work):
-        super().__init__(cache._stripes, cache._life, work)
+        super().__init__(cache._stripes, cache._life, work, cache.name)
         self._cache = cache
 
     async def run(self):
@@ -143,7 +143,7 @@ class _Calls(rounds.Round):
         if not reserved and not joined:
             return blocked
         try:
-            if reserved and reserved[0].call.next == _core.ASK_LOADER:
+            if reserved and reserved[0].call.next == _core.ASK_LOAD:
                 await self._load(reserved)
             elif reserved:
                 await self._cache._to_its_end(self._write(reserved))
@@ -195,7 +195,7 @@ class _Calls(rounds.Round):
     async def _ask_writer(self, reserved):
         """Asks the writer. One of one key is asked for all at once."""
         writer = self._cache._writer
-        is_write = reserved[0].call.next == _core.HAVE_WRITTEN
+        is_write = reserved[0].call.next == _core.ASK_WRITE
         if is_write and writer.write_many is not None:
             await writer.write_many({item.key: item.value for item in reserved})
         elif not is_write and writer.delete_many is not None:
@@ -227,20 +227,25 @@ class AsyncCache:
     writer: a coroutine function (key, value), with None to delete; or an object with such methods write(key, value), delete(key) and, if it
     likes, write_many(mapping) and delete_many(keys). Without these a call of many keys awaits one write a key, all at once.
 
-    What a call raises, and what it leaves, is said at Cache; what becomes of a cancelled one, in the README: a call that writes goes on.
+    A reload of an old entry (refresh_after) is a task of the event loop that runs the get. What a call raises, and what it leaves, is said at
+    Cache; what becomes of a cancelled one, in the README: a call that writes goes on.
     """
 
-    def __init__(self, loader=None, writer=None, *, maxsize=None, stripes=None, capacity=None, history=64, ttl=None, tti=None, timer=None,
-                 read_through=None, write_through=None):
+    def __init__(self, loader=None, writer=None, *, name=None, capacity=None, maxsize=None, stripes=None, history=HISTORY_DEFAULT, ttl=None,
+                 tti=None, timer=None, refresh_after=None, absent_for=None, read_through=None, write_through=None):
+        words = settings(loader, writer, name=name, capacity=capacity, maxsize=maxsize, stripes=stripes, history=history, ttl=ttl, tti=tti,
+                         timer=timer, refresh_after=refresh_after, absent_for=absent_for, read_through=read_through,
+                         write_through=write_through)
+        if refresh_after is not None:
+            words['reload'] = refresh.InTasks(self)
         self._loader = _Loader(_nothing if loader is None else loader)
         self._writer = _Writer(_nothing if writer is None else writer)
         self._ttl_of = ttl if callable(ttl) else None
-        reads = loader is not None if read_through is None else read_through
-        writes = writer is not None if write_through is None else write_through
-        self._stripes = _core.Stripes(*shape(maxsize, stripes, capacity), history, reads, writes, ttl, tti, timer)
-        self._writes = writes
+        self._stripes = _core.Stripes(**words)
+        self._writes = words['writes']
         self._tasks = {}
         self._hit = self._stripes.hit
+        self._look = self._stripes._look
 
     # Calls of one key.
 
@@ -250,8 +255,8 @@ class AsyncCache:
         It waits while the loader runs, for a load of the key that runs already, and for a change of a key that isn't cached. After a
         LoaderError the key is as it was, and free. If it is cancelled, so is its loader, and those that have joined the load begin anew.
         """
-        value = self._hit(key)
-        if value is None:
+        value = self._look(key)
+        if value is NotImplemented:
             value = (await self._call(_core.GET, key))[1]
         return default if value is None else value
 
@@ -365,7 +370,7 @@ class AsyncCache:
     async def clear(self):
         """Uncaches all keys that are cached now (JCache: clear). The store keeps them, and the writer isn't asked. It waits for calls that
         have one of the keys."""
-        await _Calls(self, [(_core.CLEAR_KEY, key, None) for key in self.keys()]).run()
+        await _Calls(self, [(_core.CLEAR_KEY, key, None) for key in self._stripes._all_keys()]).run()
 
     # Phases.
 
@@ -404,17 +409,23 @@ class AsyncCache:
             if isinstance(begun, _core.Blocked):
                 await self._until_free(begun)
                 return None
-            if begun.next not in (_core.ASK_LOADER, _core.JOINED):
+            if begun.next not in (_core.ASK_LOAD, _core.JOINED):
                 return await self._to_its_end(self._write(begun))
             if begun.next == _core.JOINED:
                 reply, error = await self._join(begun)
             else:
                 reply, error = await self._load(begun, self._loader.load, begun.key)
             if error is not None:
-                raise loader_failed(begun.key) from error
+                raise loader_failed(begun.key, self.name) from error
             return reply
         finally:
             begun = error = None
+
+    async def _reload(self, key):
+        """Has the loader asked again, if no other call has the key."""
+        begun = self._stripes._begin(_core.RELOAD, key)
+        if isinstance(begun, _core.Call):
+            await self._finished(begun)
 
     async def _get_or_load(self, key, function, arguments, words):
         """A get whose loader is this function, for None of which NONE is cached. What it raises is raised as it is. Without read-through a
@@ -461,7 +472,7 @@ class AsyncCache:
                 ttl = None
                 if value is not None:
                     ttl, error = rounds.attempt(self._life, call.key, value)
-            if not rounds.is_interrupt(error):
+            if not is_interrupt(error):
                 return call.commit_load(value, error, ttl), error
             call.commit_load(None, _CANCELLED)
             raise error
@@ -472,7 +483,7 @@ class AsyncCache:
     async def _join(self, call):
         """What the load replies, or why it has failed; (None, None) to begin anew."""
         try:
-            with waiting.noted(call.flight):
+            with waiting.noted(call):
                 while not call.flight.is_over:
                     await _sleep(call.flight)
         except BaseException:
@@ -481,16 +492,16 @@ class AsyncCache:
         reply = call.pick_up()
         if reply is None or reply[0] != _core.LOADER_FAILED:
             return reply, None
-        return None, call.flight.error if isinstance(call.flight.error, Exception) else None
+        return None, None if is_interrupt(call.flight.error) else call.flight.error
 
     async def _write(self, call):
         try:
             with waiting.holding(call.flight):
-                value = call.value if call.next == _core.HAVE_WRITTEN else None
+                value = call.value if call.next == _core.ASK_WRITE else None
                 _, error = await _attempt(self._ask_writer, call.key, value)
             reply = call.commit_write(rounds.outcome_of(error))
             if error is not None:
-                _raise_from(writer_failed, call.key, error)
+                _raise_from(writer_failed, call, error)
             return reply
         finally:
             call.forget()
@@ -536,10 +547,10 @@ class AsyncCache:
     async def _until_free(self, blocked):
         self._end_the_dead()
         if blocked.flight is not None:
-            with waiting.noted(blocked.flight):
+            with waiting.noted(blocked):
                 await _sleep(blocked)
         else:
-            waiting.check_outside()
+            waiting.check_outside(blocked)
             await _sleep(blocked)
 
     # The cache as a whole.
@@ -554,6 +565,30 @@ class AsyncCache:
     def expire(self):
         """Uncaches all that has expired, but for keys that a call has, and says how many. Nothing is awaited."""
         return self._stripes.expire()
+
+    def invalidate(self, key):
+        """Forgets a key, because the store has another value by now: the store isn't asked. Nothing is awaited. If a call has reserved the
+        key, its entry is dropped as that call ends, and calls that begin before wait for that end. So what begins after this has returned is
+        answered nothing that was read before, by no load either. Of a closed cache it does nothing."""
+        self._stripes.invalidate(key)
+
+    def invalidate_all(self):
+        """The same as invalidate, of all keys."""
+        self._stripes.invalidate_all()
+
+    def suspend(self):
+        """Forgets all keys, as invalidate_all does, and keeps nothing until resume(): each call asks the store, or joins a load that began
+        since."""
+        self._stripes.suspend()
+
+    def resume(self):
+        """Forgets all keys once more, and keeps what is read and written from now on."""
+        self._stripes.resume()
+
+    @property
+    def suspended(self):
+        """Whether it keeps nothing: see suspend."""
+        return self._stripes.suspended
 
     def stats(self):
         """Hits, misses, puts, removals and evictions since the cache was made, as a dict (JCache: CacheStatisticsMXBean)."""
@@ -575,6 +610,11 @@ class AsyncCache:
         return self._stripes.__reduce__()
 
     @property
+    def name(self):
+        """What errors call it."""
+        return self._stripes.name
+
+    @property
     def closed(self):
         """Whether the cache was closed."""
         return self._stripes.closed
@@ -588,7 +628,7 @@ class AsyncCache:
         """A close that waits for the writes that go on, of other loops, too."""
         self.close()
         self._end_the_dead()
-        while self._tasks:
+        while self._tasks and not self._stripes._is_foreign:
             await _sleep(next(iter(self._tasks.values())))
 
     async def __aenter__(self):

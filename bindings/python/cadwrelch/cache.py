@@ -1,10 +1,13 @@
 """The cache."""
 import math
+import os
 import types
 
-from . import _core, rounds, waiting
-from .errors import CacheError, loader_failed, writer_failed
-from .shape import check_value, many, method, shape
+from . import _core, refresh, rounds, waiting
+from .errors import CacheError, is_interrupt, loader_failed, writer_failed
+from .shape import HISTORY_DEFAULT, check_value, many, method, settings, wrong
+
+os.register_at_fork(after_in_child=_core.forked)
 
 
 class _Loader:
@@ -73,7 +76,7 @@ class Entry:
         """Removes the entry: the writer is asked to delete the key (JCache: remove)."""
         self._check()
         if self._error is None:
-            self._value, self._effect = None, _core.TAKE_OUT
+            self._value, self._effect = None, _core.EFFECT_REMOVE
 
     def _check(self):
         if self._is_over:
@@ -90,9 +93,9 @@ class Entry:
     def _read(self):
         if self._error is None:
             return self._value
-        if not isinstance(self._error, Exception):
+        if is_interrupt(self._error):
             raise self._error
-        raise loader_failed(self.key) from self._error
+        raise loader_failed(self.key, self._cache.name) from self._error
 
     def _end(self):
         """Nothing refers to what it had, which may be an exception whose frames refer to it."""
@@ -113,18 +116,18 @@ class Processing:
 
     def end(self, call, entry):
         """The last phase. It returns what the processor returned, or raises why the call failed."""
-        effect = entry._effect if self.failure is None or self.write != _core.NOT_ASKED else _core.PROCESS_FAILED
+        effect = entry._effect if self.failure is None or self.write != _core.NOT_ASKED else _core.EFFECT_FAILED
         call.commit_process(entry._load, entry._loaded, effect, entry._value, self.write, self.ttl, entry._is_used)
-        loading, failure, key = entry._error, self.failure, entry.key
+        loading, failure, key, name = entry._error, self.failure, entry.key, entry._cache.name
         entry._end()
         self.failure = None
         try:
-            if failure is not None and not isinstance(failure, Exception):
+            if is_interrupt(failure):
                 raise failure
             if loading is not None:
-                raise loader_failed(key) from loading
+                raise loader_failed(key, name) from loading
             if self.write == _core.FAILED:
-                raise writer_failed(key) from failure
+                raise writer_failed(key, name) from failure
             if failure is not None:
                 raise failure
             return self.result
@@ -136,7 +139,7 @@ class _Calls(rounds.Round):
     """A call of many keys, whose thread waits."""
 
     def __init__(self, cache, work):
-        super().__init__(cache, cache._life, work)
+        super().__init__(cache, cache._life, work, cache.name)
         self._cache = cache
 
     def run(self):
@@ -155,7 +158,7 @@ class _Calls(rounds.Round):
             return blocked
         try:
             with waiting.holding(*[item.call.flight for item in reserved]):
-                if reserved and reserved[0].call.next == _core.ASK_LOADER:
+                if reserved and reserved[0].call.next == _core.ASK_LOAD:
                     self._load(reserved)
                     self.commit_loads(reserved)
                 elif reserved:
@@ -184,14 +187,14 @@ class _Calls(rounds.Round):
             return
         for place, item in enumerate(reserved):
             item.answer, item.error = rounds.attempt(loader.load, item.key)
-            if rounds.is_interrupt(item.error):
+            if is_interrupt(item.error):
                 self.fail_from(reserved, place, None)
                 break
 
     def _write(self, reserved):
         """Asks the writer. One of one key stops at its first failure."""
         writer = self._cache._writer
-        is_write = reserved[0].call.next == _core.HAVE_WRITTEN
+        is_write = reserved[0].call.next == _core.ASK_WRITE
         if is_write and writer.write_many is not None:
             self.written(reserved, rounds.attempt(writer.write_many, {item.key: item.value for item in reserved})[1])
             return
@@ -225,29 +228,38 @@ class Cache(_core.Stripes):
     likes, load_many(keys), which returns a mapping.
     writer: a callable (key, value) that writes, and deletes if the value is None; or an object with write(key, value), delete(key) and,
     if it likes, write_many(mapping) and delete_many(keys), which raise NotWritten for what they did not do.
-    maxsize: how many entries there may be; it is dealt to stripes of up to 4,096 entries. Or say it by stripes (1 to 4,096) and capacity
-    (entries of a stripe, 1 to 4,096).
+    name: what errors call it; without one, a number.
+    capacity, or maxsize: how many entries there may be. stripes (1 to 4,096, with at most 4,096 entries each): without it, one for up to 511
+    entries, then more. history (events of a stripe, 16 to 65,536): a call under way needs room for three.
     ttl: seconds after which an entry expires that was written or loaded; or a callable (key, value) that says it, or None for never.
     tti: seconds after which an entry expires that was not used. timer: a callable that gives seconds; without it, the monotonic clock.
-    history (events of a stripe, 16 to 65,536): a call under way needs room for three.
+    refresh_after: seconds after which a get that finds an entry has it reloaded in the background. executor: has a method submit, and runs
+    reloads; without it, up to four threads of the cache.
+    absent_for: seconds for which it is remembered that the loader has found nothing for a get.
     read_through, write_through: on if there is a loader, a writer.
+
+    An option that is out of its limits is a ValueError or TypeError that names it and what was given.
 
     Keys are hashable, values are any objects but None. Threads share a cache. While one call has reserved a key, calls at this key wait
     and all others don't. Nothing is locked while a loader, a writer, a processor, or a method of a key or a value runs.
 
-    Each call may raise ClosedError; each that waits, DeadlockError, if it was made inside a loader, writer or processor and would wait for
-    that one's own call. Both with nothing done.
+    Each call may raise ClosedError, and ForkedError in another process than that which made the cache; each that waits, DeadlockError, if it was made inside a loader, writer or processor and would wait for
+    that one's own call. All with nothing done.
     """
 
-    def __init__(self, loader=None, writer=None, *, maxsize=None, stripes=None, capacity=None, history=64, ttl=None, tti=None, timer=None,
-                 read_through=None, write_through=None):
+    def __init__(self, loader=None, writer=None, *, name=None, capacity=None, maxsize=None, stripes=None, history=HISTORY_DEFAULT, ttl=None,
+                 tti=None, timer=None, refresh_after=None, absent_for=None, executor=None, read_through=None, write_through=None):
+        words = settings(loader, writer, name=name, capacity=capacity, maxsize=maxsize, stripes=stripes, history=history, ttl=ttl, tti=tti,
+                         timer=timer, refresh_after=refresh_after, absent_for=absent_for, read_through=read_through,
+                         write_through=write_through)
+        if executor is not None and not callable(getattr(executor, 'submit', None)):
+            raise wrong(TypeError, 'executor', executor, 'what has a method submit')
         self._loader = _Loader((lambda key: None) if loader is None else loader)
         self._writer = _Writer((lambda key, value: None) if writer is None else writer)
         self._ttl_of = ttl if callable(ttl) else None
-        reads = loader is not None if read_through is None else read_through
-        writes = writer is not None if write_through is None else write_through
-        super().__init__(*shape(maxsize, stripes, capacity), history, reads, writes, ttl, tti, timer, self._loader.load, self._writer.write,
-                         self._writer.delete)
+        if refresh_after is not None:
+            words['reload'] = refresh.OnThreads(self, executor or refresh.Threads(words['name']))
+        super().__init__(load=self._loader.load, write=self._writer.write, remove=self._writer.delete, **words)
 
     def __class_getitem__(cls, item):
         return types.GenericAlias(cls, item)
@@ -382,7 +394,7 @@ class Cache(_core.Stripes):
     def clear(self):
         """Uncaches all keys that are cached now (JCache: clear). The store keeps them, and the writer isn't asked. It waits for calls that
         have one of the keys."""
-        _Calls(self, [(_core.CLEAR_KEY, key, None) for key in self.keys()]).run()
+        _Calls(self, [(_core.CLEAR_KEY, key, None) for key in self._all_keys()]).run()
 
     # The cache as a whole.
 

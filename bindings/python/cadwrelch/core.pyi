@@ -32,10 +32,10 @@ LOAD: int
 RELOAD: int
 INVOKE: int
 DONE: int
-ASK_LOADER: int
-HAVE_WRITTEN: int
-HAVE_DELETED: int
-RUN_PROCESSOR: int
+ASK_LOAD: int
+ASK_WRITE: int
+ASK_DELETE: int
+ASK_PROCESS: int
 JOINED: int
 REFUSED: int
 AGAIN: int
@@ -54,8 +54,8 @@ BUSY: int
 TOO_MANY_IN_FLIGHT: int
 TOO_MANY_JOINERS: int
 OTHER: int
-KEPT: int
-LEFT: int
+STORED: int
+REMOVED: int
 EVICTED: int
 OWN_EVICTED_FULL: int
 OWN_EVICTED_MEMORY: int
@@ -66,13 +66,13 @@ FAILED: int
 WRITTEN: int
 KEEP: int
 SET: int
-TAKE_OUT: int
-PROCESS_FAILED: int
+EFFECT_REMOVE: int
+EFFECT_FAILED: int
 NOT_RUN: int
 STEP: int
 EVICTION: int
-FOR_ROOM: int
-FOR_MEMORY: int
+ROOM: int
+MEMORY: int
 CODES: tuple[str, ...]
 LIBRARY: ctypes.PyDLL
 HIT: Any

@@ -9,7 +9,7 @@ and that has the frames of all that were under way when it was caught: if one of
 live until the collector runs.
 """
 from . import _core
-from .errors import BulkError, CacheError, NotWritten
+from .errors import BulkError, CacheError, NotWritten, is_interrupt
 
 
 def attempt(function, *arguments):
@@ -25,11 +25,6 @@ def values_of(found, keys):
     if not hasattr(found, 'get'):
         raise TypeError(f'load_many returns a mapping: {found!r} was returned')
     return [found.get(key) for key in keys]
-
-
-def is_interrupt(error):
-    """Whether it isn't an Exception, but an interrupt, a cancellation, or the end of the program."""
-    return error is not None and not isinstance(error, Exception)
 
 
 def outcome_of(error):
@@ -60,11 +55,12 @@ class Item:
 class Round:
     """A call of many keys. life(key, value) says the seconds that a value lives, or None."""
 
-    def __init__(self, stripes, life, work):
+    def __init__(self, stripes, life, work, name):
         self.life = life
         self.items = [Item(op, key, value, life(key, value)) for op, key, value in work]
         """What has no reply."""
         self._stripes = stripes
+        self._name = name
         self._current = []
         self._replies = []
         self._failed = []
@@ -186,7 +182,7 @@ class Round:
         """What was found, as a dict; or BulkError."""
         found = {key: value for key, value in self._replies if value is not None}
         if self._error is not None:
-            raise BulkError(self._failed, found) from self._take_error()
+            raise BulkError(self._failed, found, self._name) from self._take_error()
         return found
 
     def _note(self, error):

@@ -4,9 +4,10 @@ A context (contextvars) has the flights of the calls that it is inside: the load
 a cache. Who would wait for one of them, directly or over calls that wait for each other, raises DeadlockError.
 """
 import contextvars
+import os
 import threading
 
-from .errors import DeadlockError
+from .errors import DeadlockError, at
 
 HELD = contextvars.ContextVar('held', default=())
 """The flights of the calls that run outside."""
@@ -14,6 +15,15 @@ _ROUNDS = contextvars.ContextVar('rounds', default=())
 """The rounds of calls of many keys that run. Such a one has calls out at several keys, and waits for no room with them."""
 _LOCK = threading.Lock()
 """Of all waits_for."""
+
+
+def _renew_lock():
+    """In a child another thread of the parent may have had it."""
+    global _LOCK
+    _LOCK = threading.Lock()
+
+
+os.register_at_fork(after_in_child=_renew_lock)
 
 
 class _Restored:
@@ -46,25 +56,33 @@ def in_round(calls):
     return _Restored(_ROUNDS, (*_ROUNDS.get(), calls))
 
 
-def check_outside():
+def is_inside():
+    """Whether this context is inside a call."""
+    return not all(out.is_over for out in HELD.get() + _ROUNDS.get())
+
+
+def check_outside(blocked):
     """Who waits for room may not be inside a call, whose end may be what makes room."""
-    if not all(out.is_over for out in HELD.get() + _ROUNDS.get()):
-        raise DeadlockError('a call inside another one needs a stripe that has no room: give the cache more stripes, or a history of up to 260')
+    if is_inside():
+        raise DeadlockError('a call inside another one needs a stripe that has no room: give the cache more stripes, or a history of up to 260'
+                            + at(blocked.key, blocked.cache.name))
 
 
 class noted:
-    """Notes that this context waits for a flight, so that others find it. It raises DeadlockError if the flight waits for this context."""
+    """Notes that this context waits for the flight of a key, so that others find it. It raises DeadlockError if the flight waits for this
+    context."""
 
-    __slots__ = ('_flight', '_held')
+    __slots__ = ('_waits', '_flight', '_held')
 
-    def __init__(self, flight):
-        self._flight = flight
+    def __init__(self, waits):
+        self._waits = waits
+        self._flight = waits.flight
         self._held = HELD.get()
 
     def __enter__(self):
         with _LOCK:
             if self._held and _reaches(self._flight, self._held):
-                raise DeadlockError('the call would wait for itself')
+                raise DeadlockError('the call would wait for itself' + at(self._waits.key, self._waits.cache.name))
             for own in self._held:
                 own.waits_for = (*(own.waits_for or ()), self._flight)
 
@@ -99,7 +117,7 @@ def _sleep(waits_at):
 def until_over(call):
     """Waits until the load that a call has joined is over. If it is interrupted nobody waits for it."""
     try:
-        with noted(call.flight):
+        with noted(call):
             while not call.flight.is_over:
                 _sleep(call.flight)
     except BaseException:
@@ -110,8 +128,8 @@ def until_over(call):
 def until_free(blocked):
     """Waits until what was refused may be tried again."""
     if blocked.flight is not None:
-        with noted(blocked.flight):
+        with noted(blocked):
             _sleep(blocked)
     else:
-        check_outside()
+        check_outside(blocked)
         _sleep(blocked)

@@ -64,7 +64,7 @@ def work(cache, rounds):
 
 def main(path, rounds=10):
     table = Table(path)
-    with contextlib.closing(cadwrelch.Cache(loader=table, writer=table, stripes=4, capacity=1000)) as cache:
+    with contextlib.closing(cadwrelch.Cache(loader=table, writer=table, stripes=4, capacity=4000)) as cache:
         workers = [threading.Thread(target=work, args=(cache, rounds)) for _ in range(4)]
         for worker in workers:
             worker.start()

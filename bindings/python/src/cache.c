@@ -1,9 +1,14 @@
 /* The type Stripes, which Cache inherits and AsyncCache has. */
 #include "host.h"
+#include <unistd.h>
 
-static bool is_ready(const Stripes *self) {
-    if (self->count > 0) return true;
-    PyErr_SetString(PyExc_RuntimeError, "the cache has not been made");
+/* Whether calls may begin. In another process they could wait for threads that are not there. */
+bool is_ready(const Stripes *self) {
+    if (self->count > 0 && self->forks == the.forks) return true;
+    if (self->count == 0) { PyErr_SetString(PyExc_RuntimeError, "the cache has not been made"); return false; }
+    PyObject *error = PyObject_CallFunction(the.forked, "Oll", self->name, self->process, (long)getpid());
+    if (error != NULL) PyErr_SetObject((PyObject *)Py_TYPE(error), error);
+    Py_XDECREF(error);
     return false;
 }
 
@@ -25,7 +30,7 @@ static bool hash_of(const Stripes *self, PyObject *key, uint64_t *hash) {
 
 static bool is_within(const char *what, Py_ssize_t given, Py_ssize_t least, Py_ssize_t most) {
     if (given >= least && given <= most) return true;
-    PyErr_Format(PyExc_ValueError, "%s is %zd to %zd: %zd was given", what, least, most, given);
+    PyErr_Format(PyExc_ValueError, "%s is %zd: it has to be a number from %zd to %zd", what, given, least, most);
     return false;
 }
 
@@ -39,32 +44,40 @@ static bool take_seed(Stripes *self) {
     return at != NULL;
 }
 
+/* An age or a time that is longer than 0; None: 0. */
+static bool as_age(const char *name, PyObject *given, int64_t *age) {
+    if (!as_life(given, age)) return false;
+    if (*age == ETERNAL) *age = 0;
+    else if (*age == 0) { PyErr_Format(PyExc_ValueError, "%s is %R: it has to be longer than 0", name, given); return false; }
+    return true;
+}
+
 static bool take_times(Stripes *self, PyObject *ttl, PyObject *tti, PyObject *timer) {
     bool asks = PyCallable_Check(ttl);
-    if (!as_life(asks ? Py_None : ttl, &self->life) || !as_life(tti, &self->idle)) return false;
-    if (self->idle == ETERNAL) self->idle = 0;
-    else if (self->idle == 0) { PyErr_SetString(PyExc_ValueError, "tti is positive: 0 was given"); return false; }
-    self->may_expire = asks || self->life != ETERNAL || self->idle != 0;
+    if (!as_life(asks ? Py_None : ttl, &self->life) || !as_age("tti", tti, &self->idle)) return false;
+    self->is_timed = asks || self->life != ETERNAL || self->idle != 0 || self->refresh_after != 0 || self->absent_for != 0;
     if (asks) self->life_of = added(ttl);
     self->timer = added(none_as_null(timer));
     return true;
 }
 
-static bool open_stripe(stripe *s, const jc_shape *shape) {
+static bool open_stripe(const Stripes *self, stripe *s, const jc_shape *shape) {
     static const jc_entry none;
     s->buckets = PyMem_Calloc(FIRST_BUCKETS, sizeof *s->buckets);
     if (s->buckets == NULL) { PyErr_NoMemory(); return false; }
     s->bucket_count = FIRST_BUCKETS;
     uint32_t code = jc_open(&s->desk, shape, 0, &none, 0);
-    if (code != JC_OK) refuse(code);
+    if (code != JC_OK) refuse(self, code);
     return code == JC_OK;
 }
 
-static bool open_stripes(Stripes *self, size_t count, const jc_shape *shape) {
+/* The capacity is dealt to the stripes: they have as much, but for what is left over. */
+static bool open_stripes(Stripes *self, size_t count, size_t capacity, jc_shape *shape) {
     self->stripes = PyMem_Calloc(count, sizeof *self->stripes);
     if (self->stripes == NULL) { PyErr_NoMemory(); return false; }
     for (size_t i = 0; i < count; i++) {
-        if (!open_stripe(&self->stripes[i], shape)) {
+        shape->capacity = capacity / count + (i < capacity % count);
+        if (!open_stripe(self, &self->stripes[i], shape)) {
             PyMem_Free(self->stripes[i].buckets);
             return false;
         }
@@ -74,56 +87,35 @@ static bool open_stripes(Stripes *self, size_t count, const jc_shape *shape) {
 }
 
 static int stripes_init(Stripes *self, PyObject *arguments, PyObject *words) {
-    static char *names[] = {"stripes", "capacity", "history", "reads", "writes", "ttl", "tti", "timer", "load", "write", "remove", NULL};
+    static char *names[] = {"name", "stripes", "capacity", "history", "reads", "writes", "ttl", "tti", "timer", "load", "write", "remove", "refresh_after",
+                            "absent_for", "reload", NULL};
     Py_ssize_t count, capacity, history;
     int reads, writes;
-    PyObject *ttl = Py_None, *tti = Py_None, *timer = Py_None, *load = Py_None, *write = Py_None, *remove = Py_None;
-    if (!PyArg_ParseTupleAndKeywords(arguments, words, "nnnpp|OOOOOO", names, &count, &capacity, &history, &reads, &writes, &ttl, &tti, &timer,
-                                     &load, &write, &remove)) return -1;
+    PyObject *name;
+    PyObject *ttl = Py_None, *tti = Py_None, *timer = Py_None, *load = Py_None, *write = Py_None, *remove = Py_None, *refresh_after = Py_None,
+             *absent_for = Py_None, *reload = Py_None;
+    if (!PyArg_ParseTupleAndKeywords(arguments, words, "Unnnpp|OOOOOOOOO", names, &name, &count, &capacity, &history, &reads, &writes, &ttl, &tti, &timer,
+                                     &load, &write, &remove, &refresh_after, &absent_for, &reload)) return -1;
     if (self->stripes != NULL) { PyErr_SetString(PyExc_RuntimeError, "it is made already"); return -1; }
-    if (!is_within("stripes", count, 1, STRIPES_MAX) || !is_within("capacity", capacity, 1, JC_CAPACITY_MAX) ||
-        !is_within("history", history, JC_HISTORY_MIN, JC_HISTORY_MAX) || !take_times(self, ttl, tti, timer) || !take_seed(self)) return -1;
+    if (!is_within("stripes", count, 1, STRIPES_MAX) || !is_within("capacity", capacity, count, count * JC_CAPACITY_MAX) ||
+        !is_within("history", history, JC_HISTORY_MIN, JC_HISTORY_MAX) ||
+        !as_age("refresh_after", refresh_after, &self->refresh_after) || !as_age("absent_for", absent_for, &self->absent_for) || !take_times(self, ttl, tti, timer) || !take_seed(self)) return -1;
+    self->name = added(name);
+    self->forks = the.forks;
+    self->process = (long)getpid();
     self->load = added(load);
     self->write = added(write);
     self->remove = added(remove);
+    self->reload = added(reload);
     self->reads = reads;
     self->writes = writes;
     /* A key's number says nothing of its stripe, which is chosen by its hash: each desk is a cache of one stripe. */
-    jc_shape shape = {.stripes = 1, .capacity = (size_t)capacity, .history = (size_t)history, .read_through = reads, .write_through = writes,
+    jc_shape shape = {.stripes = 1, .history = (size_t)history, .read_through = reads, .write_through = writes,
                       .keeps_events = false, .out_size = sizeof(jc_out)};
-    return open_stripes(self, (size_t)count, &shape) ? 0 : -1;
+    return open_stripes(self, (size_t)count, (size_t)capacity, &shape) ? 0 : -1;
 }
 
-/* How it ends. */
-
-/* Hands a list of waiters over. An append runs no Python code, but may fail: then they are woken at the end of what they wait for. */
-static void hand_over(PyObject *lists, PyObject **waiters) {
-    if (*waiters == NULL) return;
-    if (PyList_Append(lists, *waiters) == 0) Py_CLEAR(*waiters);
-    else PyErr_Clear();
-}
-
-/* Later calls are refused; calls under way end. */
-static PyObject *stripes_close(Stripes *self, PyObject *nothing) {
-    (void)nothing;
-    node *all = NULL;
-    PyObject *lists = PyList_New(0);
-    if (lists == NULL) return NULL;
-    for (size_t i = 0; i < self->count; i++) {
-        stripe *s = &self->stripes[i];
-        s->is_closed = true;
-        for (size_t slot = 0; slot < s->slots; slot++) {
-            Flight *flight = s->nodes[slot] == NULL ? NULL : s->nodes[slot]->flight;
-            if (flight != NULL) hand_over(lists, &flight->waiters);
-        }
-        hand_over(lists, &s->waiters);
-        shut_if_idle(s, &all);
-    }
-    free_nodes(all);
-    for (Py_ssize_t i = 0; i < PyList_Size(lists); i++) wake(added(PyList_GetItem(lists, i)));
-    Py_DECREF(lists);
-    Py_RETURN_NONE;
-}
+/* What the collector asks. */
 
 static int stripes_traverse(Stripes *self, visitproc visit, void *arg) {
     Py_VISIT(Py_TYPE(self));
@@ -132,6 +124,7 @@ static int stripes_traverse(Stripes *self, visitproc visit, void *arg) {
     Py_VISIT(self->load);
     Py_VISIT(self->write);
     Py_VISIT(self->remove);
+    Py_VISIT(self->reload);
     Py_VISIT(self->spare);
     for (size_t i = 0; i < self->count; i++) {
         stripe *s = &self->stripes[i];
@@ -161,6 +154,7 @@ static int stripes_clear(Stripes *self) {
     Py_CLEAR(self->load);
     Py_CLEAR(self->write);
     Py_CLEAR(self->remove);
+    Py_CLEAR(self->reload);
     return 0;
 }
 
@@ -179,6 +173,7 @@ static void stripes_dealloc(PyObject *object) {
         PyMem_Free(s->sessions);
     }
     PyMem_Free(self->stripes);
+    Py_XDECREF(self->name);
     ((freefunc)PyType_GetSlot(kind, Py_tp_free))(object);
     Py_DECREF(kind);
 }
@@ -212,8 +207,10 @@ static bool parse(const signature *expected, PyObject *const *given, Py_ssize_t 
 static PyObject *get(Stripes *self, PyObject *key) {
     uint64_t hash;
     answer said;
+    bool is_old;
     if (!hash_of(self, key, &hash)) return NULL;
-    PyObject *value = hit(self, key, hash);
+    PyObject *value = hit(self, key, hash, &is_old);
+    if (is_old && !have_reloaded(self, key)) Py_CLEAR(value);
     if (value != NULL || PyErr_Occurred()) return value;
     if (!whole_call(self, JC_OP_GET, key, hash, NULL, NULL, AS_THE_CACHE_SAYS, &said)) return NULL;
     return said.value != NULL ? said.value : added(Py_None);
@@ -241,8 +238,25 @@ static PyObject *stripes_subscript(Stripes *self, PyObject *key) {
 static PyObject *stripes_hit(Stripes *self, PyObject *key) {
     uint64_t hash;
     if (!hash_of(self, key, &hash)) return NULL;
-    PyObject *value = hit(self, key, hash);
+    PyObject *value = hit(self, key, hash, NULL);
     return value != NULL || PyErr_Occurred() ? value : added(Py_None);
+}
+
+/* _look(key): as get, but nobody is asked and nothing is waited for. NotImplemented: nothing was done. */
+static PyObject *stripes_look(Stripes *self, PyObject *key) {
+    uint64_t hash;
+    bool is_old;
+    if (!hash_of(self, key, &hash)) return NULL;
+    PyObject *value = hit(self, key, hash, &is_old);
+    if (is_old && !have_reloaded(self, key)) Py_CLEAR(value);
+    return value != NULL || PyErr_Occurred() ? value : added(Py_NotImplemented);
+}
+
+/* _reload(key): see reload. */
+static PyObject *stripes_reload(Stripes *self, PyObject *key) {
+    uint64_t hash;
+    if (!hash_of(self, key, &hash) || !reload(self, key, hash)) return NULL;
+    Py_RETURN_NONE;
 }
 
 static int stripes_contains(Stripes *self, PyObject *key) {
@@ -288,6 +302,21 @@ static int stripes_ass_subscript(Stripes *self, PyObject *key, PyObject *value) 
     return 0;
 }
 
+static PyObject *stripes_invalidate(Stripes *self, PyObject *key) {
+    uint64_t hash;
+    node *n;
+    leavings left = {.count = 0};
+    if (!hash_of(self, key, &hash)) return NULL;
+    stripe *s = stripe_of(self, hash);
+    if (!find(s, key, hash, &n)) return NULL;
+    if (n != NULL && !s->is_closed) {
+        invalidate(self, s, n, &left);
+        release(s, n, &left);
+        drop_all(&left);
+    }
+    Py_RETURN_NONE;
+}
+
 /* Arguments of a call of any operation: _begin and _call. */
 typedef struct operation { unsigned op; PyObject *key, *value, *old; uint64_t hash; int64_t life; } operation;
 
@@ -305,7 +334,9 @@ static PyObject *stripes_begin(Stripes *self, PyObject *arguments) {
     ended end;
     if (!parse_operation(self, arguments, &it)) return NULL;
     begin(self, it.op, it.key, it.hash, it.value, it.old, it.life, &end);
-    return begun(self, &end);
+    if (!end.is_old || have_reloaded(self, it.key)) return begun(self, it.key, &end);
+    Py_XDECREF(end.answer.value);
+    return NULL;
 }
 
 static PyObject *stripes_call(Stripes *self, PyObject *arguments) {
@@ -315,106 +346,19 @@ static PyObject *stripes_call(Stripes *self, PyObject *arguments) {
     return whole_call(self, it.op, it.key, it.hash, it.value, it.old, it.life, &said) ? reply_tuple(&said) : NULL;
 }
 
-/* The looks at all stripes. */
-
-static bool is_open(Stripes *self) {
-    if (!is_ready(self)) return false;
-    if (!self->stripes[0].is_closed) return true;
-    closed();
-    return false;
-}
-
-static PyObject *stripes_keys(Stripes *self, PyObject *nothing) {
-    (void)nothing;
-    int64_t now;
-    PyObject *keys = read_clock(self, &now) ? PyList_New(0) : NULL;
-    if (keys != NULL && !is_open(self)) Py_CLEAR(keys);
-    for (size_t i = 0; keys != NULL && i < self->count; i++) {
-        stripe *s = &self->stripes[i];
-        for (size_t slot = 0; keys != NULL && slot < s->slots; slot++) {
-            node *n = s->nodes[slot];
-            if (n != NULL && n->version && !has_expired(self, n, now) && PyList_Append(keys, n->key) < 0) Py_CLEAR(keys);
-        }
-    }
-    return keys;
-}
-
-static Py_ssize_t stripes_length(Stripes *self) {
-    int64_t now;
-    Py_ssize_t length = 0;
-    if (!read_clock(self, &now) || !is_open(self)) return -1;
-    for (size_t i = 0; i < self->count; i++) {
-        stripe *s = &self->stripes[i];
-        for (size_t slot = 0; slot < s->slots; slot++) {
-            node *n = s->nodes[slot];
-            if (n != NULL && n->version && !has_expired(self, n, now)) length++;
-        }
-    }
-    return length;
-}
-
-/* Uncaches all that has expired and isn't reserved, each as a step of its own, and says how many. */
-static PyObject *stripes_expire(Stripes *self, PyObject *nothing) {
-    (void)nothing;
-    int64_t now;
-    size_t count = 0;
-    if (!read_clock(self, &now) || !is_open(self)) return NULL;
-    for (size_t i = 0; i < self->count; i++) {
-        stripe *s = &self->stripes[i];
-        for (size_t slot = 0; slot < s->slots && !s->is_closed; slot++) {
-            node *n = s->nodes[slot];
-            leavings left = {.count = 0};
-            if (n == NULL || !has_expired(self, n, now) || !expire(self, s, n, now, &left)) continue;
-            release(s, n, &left);
-            count++;
-            drop_all(&left);
-        }
-    }
-    return PyLong_FromSize_t(count);
-}
-
-static PyObject *stripes_stats(Stripes *self, PyObject *nothing) {
-    (void)nothing;
-    jc_statistics sum = {0};
-    if (!is_open(self)) return NULL;
-    for (size_t i = 0; i < self->count; i++) {
-        jc_statistics of;
-        uint32_t code = jc_statistics_of(&self->stripes[i].desk, &of);
-        if (code != JC_OK) return refuse(code);
-        sum.hits += of.hits, sum.misses += of.misses, sum.puts += of.puts, sum.removals += of.removals, sum.evictions += of.evictions;
-    }
-    return Py_BuildValue("{sKsKsKsKsK}", "hits", sum.hits, "misses", sum.misses, "puts", sum.puts, "removals", sum.removals, "evictions", sum.evictions);
-}
-
-static bool stripe_agrees(stripe *s) {
-    if (s->out_count != 0) return false;
-    if (s->is_closed) return s->node_count == 0;
-    size_t count = 0;
-    jc_entry one, *entries = PyMem_Calloc(s->node_count + 1, sizeof *entries);
-    if (entries == NULL || jc_entries(&s->desk, &one, 0, &count) != JC_OK || count != s->node_count) { PyMem_Free(entries); return false; }
-    bool agrees = jc_entries(&s->desk, entries, count, &count) == JC_OK;
-    for (size_t i = 0; agrees && i < count; i++) {
-        uint64_t number = 0;
-        memcpy(&number, entries[i].key.bytes, EIGHT);
-        node *n = has_node(s, number) ? s->nodes[slot_of(number)] : NULL;
-        agrees = n != NULL && n->version != 0 && n->version == number_in(&entries[i].value) && n->pins == 0 && n->flight == NULL;
-    }
-    PyMem_Free(entries);
-    return agrees;
-}
-
-/* For tests: whether nodes and core have the same entries, and nothing else is there. */
-static PyObject *stripes_agrees(Stripes *self, PyObject *nothing) {
-    (void)nothing;
-    for (size_t i = 0; i < self->count; i++) {
-        if (!stripe_agrees(&self->stripes[i])) Py_RETURN_FALSE;
-    }
-    Py_RETURN_TRUE;
-}
-
 static PyObject *stripes_closed(Stripes *self, void *nothing) {
     (void)nothing;
     return PyBool_FromLong(self->count == 0 || self->stripes[0].is_closed);
+}
+
+static PyObject *stripes_suspended(Stripes *self, void *nothing) {
+    (void)nothing;
+    return PyBool_FromLong(self->count > 0 && self->stripes[0].is_suspended);
+}
+
+static PyObject *stripes_is_foreign(Stripes *self, void *nothing) {
+    (void)nothing;
+    return PyBool_FromLong(self->forks != the.forks);
 }
 
 static PyObject *stripes_reduce(Stripes *self, PyObject *nothing) {
@@ -441,6 +385,8 @@ static PyMethodDef stripes_methods[] = {
      "Writes a value and caches it (JCache: put); ttl: its seconds to live, if they are others than the cache's.\n\n"
      "It waits for calls that have the key, and while the writer runs. After a WriterError the entry is as it was. If the writer was\n"
      "interrupted (by what isn't an Exception) nobody knows what the store has, and the key isn't cached."},
+    {"_look", (PyCFunction)stripes_look, METH_O, "_look(key): what get finds at once, or NotImplemented."},
+    {"_reload", (PyCFunction)stripes_reload, METH_O, "_reload(key): has the loader asked again, if no other call has the key."},
     {"_begin", (PyCFunction)stripes_begin, METH_VARARGS,
      "_begin(op, key, value=None, old=None, ttl=None): (reply, value), a Call, or a Blocked."},
     {"_call", (PyCFunction)stripes_call, METH_VARARGS,
@@ -449,10 +395,23 @@ static PyMethodDef stripes_methods[] = {
      "_get_or_load(key, function, arguments, words): a get whose loader is this function, for None of which NONE is cached."},
     {"keys", (PyCFunction)stripes_keys, METH_NOARGS,
      "keys($self, /)\n--\n\nThe keys that are cached, as a list, stripe by stripe. It isn't one moment of the whole cache if other threads change it."},
+    {"_all_keys", (PyCFunction)stripes_all_keys, METH_NOARGS, "_all_keys(): keys(), and those of entries that nobody sees."},
     {"expire", (PyCFunction)stripes_expire, METH_NOARGS,
      "expire($self, /)\n--\n\nUncaches all that has expired, but for keys that a call has, and says how many. It waits for nobody."},
     {"stats", (PyCFunction)stripes_stats, METH_NOARGS,
      "stats($self, /)\n--\n\nHits, misses, puts, removals and evictions since the cache was made, as a dict (JCache: CacheStatisticsMXBean)."},
+    {"invalidate", (PyCFunction)stripes_invalidate, METH_O,
+     "invalidate($self, key, /)\n--\n\n"
+     "Forgets a key, because the store has another value by now: the store isn't asked. It waits for nobody. If a call has reserved the key, its\n"
+     "entry is dropped as that call ends, and calls that begin before wait for that end. So what begins after this has returned is answered\n"
+     "nothing that was read before, by no load either. Of a closed cache it does nothing."},
+    {"invalidate_all", (PyCFunction)stripes_invalidate_all, METH_NOARGS,
+     "invalidate_all($self, /)\n--\n\nThe same as invalidate, of all keys."},
+    {"suspend", (PyCFunction)stripes_suspend, METH_NOARGS,
+     "suspend($self, /)\n--\n\n"
+     "Forgets all keys, as invalidate_all does, and keeps nothing until resume(): each call asks the store, or joins a load that began since."},
+    {"resume", (PyCFunction)stripes_resume, METH_NOARGS,
+     "resume($self, /)\n--\n\nForgets all keys once more, and keeps what is read and written from now on."},
     {"close", (PyCFunction)stripes_close, METH_NOARGS,
      "close($self, /)\n--\n\n"
      "Later calls, and those that wait to begin, raise ClosedError; calls under way end as they would (JCache: close). It waits for nobody,\n"
@@ -462,6 +421,7 @@ static PyMethodDef stripes_methods[] = {
     {NULL, NULL, 0, NULL},
 };
 static PyMemberDef stripes_members[] = {
+    {"name", T_OBJECT, offsetof(Stripes, name), READONLY, "What errors call it."},
     {"_reads", T_BOOL, offsetof(Stripes, reads), READONLY, NULL},
     {"_writes", T_BOOL, offsetof(Stripes, writes), READONLY, NULL},
     {"__weaklistoffset__", T_PYSSIZET, offsetof(Stripes, weak), READONLY, NULL},
@@ -469,6 +429,8 @@ static PyMemberDef stripes_members[] = {
 };
 static PyGetSetDef stripes_getset[] = {
     {"closed", (getter)stripes_closed, NULL, "Whether the cache was closed.", NULL},
+    {"_is_foreign", (getter)stripes_is_foreign, NULL, "Whether it is of another process.", NULL},
+    {"suspended", (getter)stripes_suspended, NULL, "Whether it keeps nothing: see suspend.", NULL},
     {NULL, NULL, NULL, NULL, NULL},
 };
 static PyType_Slot stripes_slots[] = {

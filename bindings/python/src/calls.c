@@ -17,7 +17,7 @@ PyObject *reply_tuple(answer *said) {
 }
 
 /* How a first phase ended, as an object: (reply, value), a Call or a Blocked. */
-PyObject *begun(Stripes *self, ended *end) {
+PyObject *begun(Stripes *self, PyObject *key, ended *end) {
     switch (end->kind) {
     case RAISED: return NULL;
     case DONE: return reply_tuple(&end->answer);
@@ -27,6 +27,7 @@ PyObject *begun(Stripes *self, ended *end) {
         if (made == NULL) { Py_XDECREF(end->flight); return NULL; }
         made->cache = (Stripes *)added((PyObject *)self);
         made->at = end->at;
+        made->key = added(key);
         made->flight = end->flight;
         made->changes = end->changes;
         return (PyObject *)made;
@@ -69,7 +70,7 @@ void recycle(Call *call) {
     empty_flight(flight);
     if (cache->spare != NULL || Py_REFCNT(call) > 1 || Py_REFCNT(flight) > 1) { Py_DECREF(call); return; }
     flight->number = flight->version = 0;
-    flight->is_over = false;
+    flight->is_over = flight->is_overtaken = false;
     cache->spare = call;
     call->cache = NULL;
     Py_DECREF(cache);
@@ -202,6 +203,7 @@ static PyMethodDef call_methods[] = {
     {NULL, NULL, 0, NULL},
 };
 static PyMemberDef call_members[] = {
+    {"cache", T_OBJECT, offsetof(Call, cache), READONLY, "The stripes at which it is out."},
     {"next", T_UINT, offsetof(Call, next), READONLY, "What its host does next."},
     {"key", T_OBJECT, offsetof(Call, key), READONLY, "The key, as the cache has it."},
     {"value", T_OBJECT, offsetof(Call, value), READONLY, "What is to be written."},
@@ -264,6 +266,7 @@ static PyMethodDef flight_methods[] = {
 };
 static PyMemberDef flight_members[] = {
     {"is_over", T_BOOL, offsetof(Flight, is_over), READONLY, "Whether it has ended."},
+    {"is_overtaken", T_BOOL, offsetof(Flight, is_overtaken), READONLY, "Whether its key was invalidated meanwhile."},
     {"value", T_OBJECT, offsetof(Flight, value), READONLY, "What was loaded, or None."},
     {"error", T_OBJECT, offsetof(Flight, error), READONLY, "Why the load failed, or None."},
     {"waits_for", T_OBJECT, offsetof(Flight, waits_for), 0, "The flight that its owner waits for, or None."},
@@ -293,12 +296,14 @@ static PyObject *blocked_add_waiter(Blocked *blocked, PyObject *waiter) {
 static int blocked_traverse(Blocked *blocked, visitproc visit, void *arg) {
     Py_VISIT(Py_TYPE(blocked));
     Py_VISIT(blocked->cache);
+    Py_VISIT(blocked->key);
     Py_VISIT(blocked->flight);
     return 0;
 }
 
 static int blocked_clear(Blocked *blocked) {
     Py_CLEAR(blocked->cache);
+    Py_CLEAR(blocked->key);
     Py_CLEAR(blocked->flight);
     return 0;
 }
@@ -310,6 +315,8 @@ static PyMethodDef blocked_methods[] = {
     {NULL, NULL, 0, NULL},
 };
 static PyMemberDef blocked_members[] = {
+    {"cache", T_OBJECT, offsetof(Blocked, cache), READONLY, "The stripes that have refused it."},
+    {"key", T_OBJECT, offsetof(Blocked, key), READONLY, "The key at which it was refused."},
     {"flight", T_OBJECT, offsetof(Blocked, flight), READONLY, "Who has the key, or None: the stripe has no room."},
     {NULL, 0, 0, 0, NULL},
 };

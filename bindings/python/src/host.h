@@ -14,6 +14,8 @@
  * steps.c   one phase of a call, at the core and in the table
  * calls.c   what a call has out, as objects: Call, Flight, Blocked
  * outside.c whole calls of a thread: phases, and the loader or the writer between them
+ * times.c   the clock, and how long what is cached lives
+ * whole.c   what is said of all stripes, and done at all of them
  * cache.c   the type Stripes, which Cache inherits
  * module.c  the module */
 #ifndef CADWRELCH_HOST_H
@@ -37,10 +39,13 @@ enum { UNKNOWN = 100 };     /* beside the core's answers of a writer: nobody kno
 /* What is the same for all caches. Only the main interpreter may have it: see module.c. */
 struct shared {
     PyTypeObject *stripes, *call, *flight, *blocked;
-    PyObject *closed_error, *loader_failed, *writer_failed;   /* the last two make an error of a key */
+    PyObject *closed_error, *forked, *loader_failed, *writer_failed;   /* the last three make an error: of a cache, and of a key of one */
+    PyObject *is_interrupt;                                   /* of an exception: whether it came from outside of what raised it */
     PyObject *until_free, *until_over;                        /* of waiting: they wait */
     PyObject *held_get, *held_set, *held_reset;               /* the methods of the context variable that says which calls this one is inside */
     PyObject *none;                                           /* what is cached for the None of a function whose results are cached */
+    PyObject *absent;                                         /* what is cached where a loader has found nothing, if that is remembered */
+    uint64_t forks;                                           /* of this process and those before it, since it was loaded */
 };
 extern struct shared the;
 
@@ -55,6 +60,7 @@ typedef struct node {
     uint64_t number;
     uint64_t version;      /* 0: nothing is cached */
     int64_t dies, used;    /* when it expires; when it was used last, if that counts */
+    int64_t due;           /* when a get has it reloaded */
     struct node *chain;
     Flight *flight;        /* of who has reserved the key */
     uint32_t pins;         /* how many calls have reserved the key or have joined its load */
@@ -90,19 +96,27 @@ struct stripe {
     size_t out_count;
     PyObject *waiters;     /* of who waits for room; a list or NULL */
     bool is_closed;
+    bool is_suspended;     /* nothing is kept that a call leaves */
 };
 
 typedef struct Stripes {
     PyObject_HEAD
     stripe *stripes;
     size_t count;
+    PyObject *name;
+    uint64_t forks;        /* when it was made */
+    long process;
     uint64_t seed;         /* of the mixing of hashes */
     Call *spare;           /* with a flight */
     PyObject *timer;       /* NULL: the system's monotonic clock */
     PyObject *life_of;     /* of a key and a value; NULL: life */
     PyObject *load, *write, *remove;   /* whom whole calls ask */
+    PyObject *reload;      /* of a key whose entry is old: has it reloaded later */
     int64_t life, idle;    /* nanoseconds; ETERNAL; 0 of idle: it doesn't count */
-    bool reads, writes, may_expire;
+    int64_t refresh_after, absent_for; /* the age of an old entry; how long it is remembered that a loader found nothing; 0: never */
+    uint64_t absent_gets;  /* how many gets were told so. The core has counted them as hits */
+    bool reads, writes;
+    bool is_timed;         /* the clock is read */
     PyObject *weak;
 } Stripes;
 
@@ -113,6 +127,7 @@ struct Flight {
     abandoned *abandoned;
     uint64_t number, version;
     bool is_over;
+    bool is_overtaken;     /* the key was invalidated: what it leaves is dropped, and who begins waits for its end */
 };
 
 /* A call that has something out: a reservation, or a load that it has joined. */
@@ -125,13 +140,14 @@ struct Call {
     uint64_t version;
     int64_t life;
     uint32_t next;
-    bool may_load;
+    bool may_load, is_get;
 };
 
 typedef struct Blocked {
     PyObject_HEAD
     Stripes *cache;
     stripe *at;
+    PyObject *key;
     Flight *flight;        /* NULL: any change of the stripe */
     uint64_t changes;
 } Blocked;
@@ -144,7 +160,7 @@ typedef struct answer { uint32_t reply; PyObject *value; } answer;
 
 /* How a first phase ends. DONE: answer. OUT: call. BLOCKED: at, flight (a new reference or NULL) and changes. RAISED: an exception is set. */
 enum kind { RAISED, DONE, OUT, BLOCKED };
-typedef struct ended { enum kind kind; answer answer; Call *call; stripe *at; Flight *flight; uint64_t changes; } ended;
+typedef struct ended { enum kind kind; answer answer; Call *call; stripe *at; Flight *flight; uint64_t changes; bool is_old; } ended;
 
 static inline void drop(leavings *left, void *object) { if (object != NULL) left->objects[left->count++] = object; }
 static inline PyObject *take(PyObject **place) { PyObject *it = *place; *place = NULL; return it; }
@@ -176,9 +192,17 @@ static inline bool has_node(const stripe *s, uint64_t number) {
     return slot < s->slots && s->nodes[slot] != NULL && s->nodes[slot]->number == number;
 }
 
+/* Whether it is the memory that a loader has found nothing. */
+static inline bool is_absent(const node *n) { return n->value == the.absent; }
+
 static inline bool has_expired(const Stripes *self, const node *n, int64_t now) {
-    if (!self->may_expire) return n->is_doubtful;
-    return n->version && (n->is_doubtful || now >= n->dies || (self->idle && now - n->used >= self->idle));
+    if (!self->is_timed) return n->is_doubtful;
+    return n->version && (n->is_doubtful || now >= n->dies || (self->idle && !is_absent(n) && now - n->used >= self->idle));
+}
+
+/* Whether there is an entry for who looks. */
+static inline bool is_seen(const Stripes *self, const node *n, int64_t now) {
+    return n->version && !is_absent(n) && !has_expired(self, n, now);
 }
 
 /* table.c */
@@ -190,16 +214,22 @@ void release(stripe *s, node *n, leavings *left);
 void free_nodes(node *all);
 void shut_if_idle(stripe *s, node **all);
 
-/* steps.c */
-void *refuse(uint32_t code);
-void *closed(void);
-void *other_value(void);
+/* times.c */
 bool read_clock(Stripes *self, int64_t *now);
 bool as_life(PyObject *seconds, int64_t *life);
 bool given_life(PyObject *seconds, int64_t *life);
+void start_life(const Stripes *self, node *n, int64_t life, int64_t now);
+bool claim_reload(const Stripes *self, node *n, int64_t now);
+bool have_reloaded(Stripes *self, PyObject *key);
+
+/* steps.c */
+void *refuse(const Stripes *self, uint32_t code);
+void *closed(const Stripes *self);
+void *other_value(void);
 bool contains(Stripes *self, PyObject *key, uint64_t hash, bool *is_cached);
-PyObject *hit(Stripes *self, PyObject *key, uint64_t hash);
-bool expire(Stripes *self, stripe *s, node *n, int64_t now, leavings *left);
+PyObject *hit(Stripes *self, PyObject *key, uint64_t hash, bool *is_old);
+bool uncache(Stripes *self, stripe *s, node *n, leavings *left);
+void invalidate(Stripes *self, stripe *s, node *n, leavings *left);
 void begin(Stripes *self, uint32_t op, PyObject *key, uint64_t hash, PyObject *value, PyObject *old, int64_t life, ended *end);
 bool commit_load(Call *call, PyObject *value, PyObject *error, int64_t life, answer *to);
 bool commit_write(Call *call, uint32_t outcome, answer *to);
@@ -213,7 +243,7 @@ bool is_out(const Call *call, uint32_t first, uint32_t last);
 /* calls.c */
 extern PyType_Spec call_spec, flight_spec, blocked_spec;
 PyObject *reply_tuple(answer *said);
-PyObject *begun(Stripes *self, ended *end);
+PyObject *begun(Stripes *self, PyObject *key, ended *end);
 bool has_spare(Stripes *self);
 void recycle(Call *call);
 
@@ -222,7 +252,22 @@ typedef struct source { PyObject *function, *arguments, *words; } source;   /* w
 bool life_for(Stripes *self, PyObject *key, PyObject *value, int64_t *life);
 bool whole_call(Stripes *self, uint32_t op, PyObject *key, uint64_t hash, PyObject *value, PyObject *old, int64_t life, answer *to);
 bool get_or_load(Stripes *self, PyObject *key, uint64_t hash, const source *from, answer *to);
+bool reload(Stripes *self, PyObject *key, uint64_t hash);
+
+/* whole.c */
+bool is_open(Stripes *self);
+PyObject *stripes_keys(Stripes *self, PyObject *nothing);
+PyObject *stripes_all_keys(Stripes *self, PyObject *nothing);
+Py_ssize_t stripes_length(Stripes *self);
+PyObject *stripes_expire(Stripes *self, PyObject *nothing);
+PyObject *stripes_stats(Stripes *self, PyObject *nothing);
+PyObject *stripes_agrees(Stripes *self, PyObject *nothing);
+PyObject *stripes_invalidate_all(Stripes *self, PyObject *nothing);
+PyObject *stripes_suspend(Stripes *self, PyObject *nothing);
+PyObject *stripes_resume(Stripes *self, PyObject *nothing);
+PyObject *stripes_close(Stripes *self, PyObject *nothing);
 
 /* cache.c */
 extern PyType_Spec stripes_spec;
+bool is_ready(const Stripes *self);
 #endif

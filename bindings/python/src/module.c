@@ -19,11 +19,11 @@ static const struct { const char *name; long value; } constants[] = {
     {"GET", JC_OP_GET}, {"CONTAINS_KEY", JC_OP_CONTAINS_KEY}, {"PUT", JC_OP_PUT}, {"GET_AND_PUT", JC_OP_GET_AND_PUT}, {"PUT_IF_ABSENT", JC_OP_PUT_IF_ABSENT},
     {"REMOVE", JC_OP_REMOVE}, {"REMOVE_IF", JC_OP_REMOVE_IF}, {"GET_AND_REMOVE", JC_OP_GET_AND_REMOVE}, {"REPLACE", JC_OP_REPLACE},
     {"REPLACE_IF", JC_OP_REPLACE_IF}, {"GET_AND_REPLACE", JC_OP_GET_AND_REPLACE}, {"CLEAR_KEY", JC_OP_CLEAR_KEY}, {"LOAD", JC_OP_LOAD},
-    {"RELOAD", JC_OP_RELOAD}, {"INVOKE", JC_OP_INVOKE}, {"ASK_LOADER", JC_ASK_LOAD}, {"HAVE_WRITTEN", JC_ASK_WRITE},
-    {"HAVE_DELETED", JC_ASK_DELETE}, {"RUN_PROCESSOR", JC_ASK_PROCESS}, {"JOINED", JC_NEXT_JOINED}, {"YES", JC_REPLY_YES},
+    {"RELOAD", JC_OP_RELOAD}, {"INVOKE", JC_OP_INVOKE}, {"ASK_LOAD", JC_ASK_LOAD}, {"ASK_WRITE", JC_ASK_WRITE},
+    {"ASK_DELETE", JC_ASK_DELETE}, {"ASK_PROCESS", JC_ASK_PROCESS}, {"JOINED", JC_NEXT_JOINED}, {"YES", JC_REPLY_YES},
     {"LOADER_FAILED", JC_REPLY_LOADER_FAILED}, {"NOT_ASKED", JC_ANSWER_NOT_ASKED}, {"FOUND", JC_ANSWER_FOUND}, {"WRITTEN", JC_ANSWER_WRITTEN}, {"NOTHING", JC_ANSWER_NOTHING},
-    {"FAILED", JC_ANSWER_FAILED}, {"UNKNOWN", UNKNOWN}, {"KEEP", JC_EFFECT_KEEP}, {"SET", JC_EFFECT_SET}, {"TAKE_OUT", JC_EFFECT_REMOVE},
-    {"PROCESS_FAILED", JC_EFFECT_FAILED}, {"STRIPES_MAX", STRIPES_MAX}, {"CAPACITY_MAX", JC_CAPACITY_MAX}, {"VERSION", JC_VERSION},
+    {"FAILED", JC_ANSWER_FAILED}, {"UNKNOWN", UNKNOWN}, {"KEEP", JC_EFFECT_KEEP}, {"SET", JC_EFFECT_SET}, {"EFFECT_REMOVE", JC_EFFECT_REMOVE},
+    {"EFFECT_FAILED", JC_EFFECT_FAILED}, {"STRIPES_MAX", STRIPES_MAX}, {"CAPACITY_MAX", JC_CAPACITY_MAX}, {"HISTORY_MIN", JC_HISTORY_MIN}, {"HISTORY_MAX", JC_HISTORY_MAX}, {"VERSION", JC_VERSION},
 };
 
 static bool add_constants(PyObject *module) {
@@ -47,6 +47,8 @@ static PyObject *taken_from(const char *module, const char *first, const char *s
 static bool take_names(void) {
     static const struct { PyObject **at; const char *module, *first, *second; } names[] = {
         {&the.closed_error, "cadwrelch.errors", "ClosedError", NULL},
+        {&the.forked, "cadwrelch.errors", "forked", NULL},
+        {&the.is_interrupt, "cadwrelch.errors", "is_interrupt", NULL},
         {&the.loader_failed, "cadwrelch.errors", "loader_failed", NULL},
         {&the.writer_failed, "cadwrelch.errors", "writer_failed", NULL},
         {&the.none, "cadwrelch._none", "NONE", NULL},
@@ -62,7 +64,8 @@ static bool take_names(void) {
         Py_XDECREF(*names[i].at);
         *names[i].at = found;
     }
-    return true;
+    if (the.absent == NULL) the.absent = PyObject_CallNoArgs((PyObject *)&PyBaseObject_Type);
+    return the.absent != NULL;
 }
 
 /* The objects of `the` belong to one interpreter. */
@@ -88,11 +91,21 @@ static int execute(PyObject *module) {
     return is_right ? 0 : -1;
 }
 
+static PyObject *forked(PyObject *module, PyObject *nothing) {
+    (void)module, (void)nothing;
+    the.forks++;
+    Py_RETURN_NONE;
+}
+
 /* From 3.12 on a module says whether several interpreters may have it: slot 3, with NULL, says no. Earlier versions don't know the slot, and
  * the limited API of 3.10 doesn't name it. */
 enum { MULTIPLE_INTERPRETERS = 3 };
 static PyModuleDef_Slot module_slots[] = {{Py_mod_exec, execute}, {0, NULL}, {0, NULL}};
-static PyModuleDef module_def = {PyModuleDef_HEAD_INIT, "_core", "The stripes of a cache, over the proved core.", 0, NULL, module_slots, NULL, NULL, NULL};
+static PyMethodDef module_methods[] = {
+    {"forked", forked, METH_NOARGS, "forked($module, /)\n--\n\nNotes that this is another process now: the caches that there are refuse calls."},
+    {NULL, NULL, 0, NULL},
+};
+static PyModuleDef module_def = {PyModuleDef_HEAD_INIT, "_core", "The stripes of a cache, over the proved core.", 0, module_methods, module_slots, NULL, NULL, NULL};
 
 static bool has_the_slot(void) {
     char *end;

@@ -46,12 +46,19 @@ static PyObject *caught(void) {
 
 static void raise(PyObject *error) { PyErr_SetObject((PyObject *)Py_TYPE(error), error); }
 
-/* Whether it is a failure that others are told of. What isn't an Exception is an interrupt, or the end of the program. */
-static bool is_failure(PyObject *error) { return PyErr_GivenExceptionMatches(error, PyExc_Exception); }
+/* Whether it is a failure of what raised it, of which others are told. If not it is an interrupt, or the end of the program. */
+static bool is_failure(PyObject *error) {
+    if (!PyErr_GivenExceptionMatches(error, PyExc_Exception)) return false;
+    PyObject *said = PyObject_CallFunctionObjArgs(the.is_interrupt, error, NULL);
+    bool is_interrupt = said == NULL || said == Py_True;
+    if (said == NULL) PyErr_Clear();
+    Py_XDECREF(said);
+    return !is_interrupt;
+}
 
 /* Raises the error of a key that this function makes, from its cause. */
-static void raise_from(PyObject *failed, PyObject *key, PyObject *cause) {
-    PyObject *error = PyObject_CallFunctionObjArgs(failed, key, NULL);
+static void raise_from(PyObject *failed, PyObject *key, const Stripes *self, PyObject *cause) {
+    PyObject *error = PyObject_CallFunctionObjArgs(failed, key, self->name, NULL);
     if (error == NULL) return;
     PyException_SetCause(error, added(cause));
     raise(error);
@@ -76,9 +83,9 @@ static PyObject *loaded(Stripes *self, Call *call, const source *from, int64_t *
 }
 
 /* Raises why a load failed. Whose results are cached gets the function's own exception. */
-static bool load_failed(PyObject *key, PyObject *error, const source *from) {
+static bool load_failed(const Call *call, PyObject *error, const source *from) {
     if (from != NULL) raise(error);
-    else raise_from(the.loader_failed, key, error);
+    else raise_from(the.loader_failed, call->key, call->cache, error);
     return false;
 }
 
@@ -94,7 +101,7 @@ static bool load(Stripes *self, Call *call, const source *from, PyObject *token,
     }
     PyObject *error = caught();
     if (commit_load(call, NULL, error, life, to)) {
-        if (is_failure(error)) load_failed(call->key, error, from);
+        if (is_failure(error)) load_failed(call, error, from);
         else raise(error);
     }
     Py_DECREF(error);
@@ -111,7 +118,7 @@ static bool join(Call *call, const source *from, answer *to) {
     if (to->reply != JC_REPLY_LOADER_FAILED) return true;
     PyObject *error = call->flight->error;
     if (error == NULL) return PyErr_NoMemory() != NULL;
-    return (from == NULL || is_failure(error)) && load_failed(call->key, error, from);
+    return (from == NULL || is_failure(error)) && load_failed(call, error, from);
 }
 
 /* Writes. */
@@ -133,7 +140,7 @@ static bool write_out(Stripes *self, Call *call, PyObject *token, answer *to) {
     PyObject *error = caught();
     if (commit_write(call, is_failure(error) ? JC_ANSWER_FAILED : UNKNOWN, to)) {
         Py_CLEAR(to->value);
-        if (is_failure(error)) raise_from(the.writer_failed, call->key, error);
+        if (is_failure(error)) raise_from(the.writer_failed, call->key, self, error);
         else raise(error);
     }
     Py_DECREF(error);
@@ -142,8 +149,8 @@ static bool write_out(Stripes *self, Call *call, PyObject *token, answer *to) {
 
 /* Whole calls. */
 
-static bool wait_until_free(Stripes *self, ended *end) {
-    PyObject *blocked = begun(self, end);
+static bool wait_until_free(Stripes *self, PyObject *key, ended *end) {
+    PyObject *blocked = begun(self, key, end);
     if (blocked == NULL) return false;
     PyObject *said = PyObject_CallFunctionObjArgs(the.until_free, blocked, NULL);
     Py_DECREF(blocked);
@@ -181,20 +188,35 @@ bool whole_call(Stripes *self, uint32_t op, PyObject *key, uint64_t hash, PyObje
         begin(self, op, key, hash, value, old, life, &end);
         switch (end.kind) {
         case RAISED: return false;
-        case DONE: *to = end.answer; return true;
+        case DONE:
+            *to = end.answer;
+            if (!end.is_old || have_reloaded(self, key)) return true;
+            Py_CLEAR(to->value);
+            return false;
         case OUT:
             if (finish(self, end.call, NULL, to)) return true;
             if (PyErr_Occurred()) return false;
             break;
         case BLOCKED:
-            if (!wait_until_free(self, &end)) return false;
+            if (!wait_until_free(self, key, &end)) return false;
         }
     }
 }
 
+/* Reloads a key. It waits for nobody: if another call has the key, or there is no room, nothing is done. */
+bool reload(Stripes *self, PyObject *key, uint64_t hash) {
+    ended end;
+    answer said = {0, NULL};
+    begin(self, JC_OP_RELOAD, key, hash, NULL, NULL, AS_THE_CACHE_SAYS, &end);
+    if (end.kind == OUT && !finish(self, end.call, NULL, &said) && PyErr_Occurred()) return false;
+    if (end.kind == BLOCKED) Py_XDECREF(end.flight);
+    Py_XDECREF(said.value);
+    return end.kind != RAISED;
+}
+
 /* Of a load of another call that this one has waited for: whether it has an answer for this one, too. */
 static bool shared(Flight *flight, answer *to, bool *is_right) {
-    if (!flight->is_over) return false;
+    if (!flight->is_over || flight->is_overtaken) return false;
     *is_right = flight->value != NULL;
     if (*is_right) *to = (answer){.reply = JC_REPLY_VALUE, .value = added(flight->value)};
     else if (flight->error == NULL || !is_failure(flight->error)) return false;
@@ -222,7 +244,7 @@ bool get_or_load(Stripes *self, PyObject *key, uint64_t hash, const source *from
             break;
         case BLOCKED: {
             PyObject *flight = added((PyObject *)end.flight);
-            bool is_right = wait_until_free(self, &end), is_over = !is_right;
+            bool is_right = wait_until_free(self, key, &end), is_over = !is_right;
             if (is_right && flight != NULL) is_over = shared((Flight *)flight, to, &is_right);
             Py_XDECREF(flight);
             if (is_over) return is_right;

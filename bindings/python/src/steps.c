@@ -1,63 +1,17 @@
 /* One phase of a call: at the core, and in the table. */
 #include "host.h"
-#include <time.h>
 
-void *refuse(uint32_t code) {
+void *refuse(const Stripes *self, uint32_t code) {
     switch (code) {
     case JC_CODE_NO_MEMORY: return PyErr_NoMemory();
-    case JC_CODE_WRONG_HANDLE: return closed();
+    case JC_CODE_WRONG_HANDLE: return closed(self);
     default: PyErr_Format(PyExc_AssertionError, "the core refused a phase with code %u", (unsigned)code);
     }
     return NULL;
 }
 
-void *closed(void) { PyErr_SetString(the.closed_error, "the cache is closed"); return NULL; }
+void *closed(const Stripes *self) { PyErr_Format(the.closed_error, "the cache %U is closed", self->name); return NULL; }
 void *other_value(void) { PyErr_SetString(PyExc_AssertionError, "the core has another value"); return NULL; }
-
-/* Time. */
-
-bool read_clock(Stripes *self, int64_t *now) {
-    *now = 0;
-    if (!self->may_expire) return true;
-    if (self->timer == NULL) {
-        struct timespec time;
-        clock_gettime(CLOCK_MONOTONIC, &time);
-        *now = time.tv_sec * INT64_C(1000000000) + time.tv_nsec;
-        return true;
-    }
-    PyObject *said = PyObject_CallNoArgs(self->timer);
-    if (said == NULL) return false;
-    double seconds = PyFloat_AsDouble(said);
-    Py_DECREF(said);
-    if (seconds == -1.0 && PyErr_Occurred()) return false;
-    if (!(seconds > -4e9 && seconds < 4e9)) { PyErr_SetString(PyExc_ValueError, "the timer says no seconds"); return false; }
-    *now = (int64_t)(seconds * 1e9);
-    return true;
-}
-
-/* Seconds as nanoseconds; None: for ever. */
-bool as_life(PyObject *seconds, int64_t *life) {
-    *life = ETERNAL;
-    if (seconds == NULL || seconds == Py_None) return true;
-    double span = PyFloat_AsDouble(seconds);
-    if (span == -1.0 && PyErr_Occurred()) return false;
-    if (!(span >= 0)) { PyErr_Format(PyExc_ValueError, "a time to live is not negative: %R was given", seconds); return false; }
-    if (span < 9e9) *life = (int64_t)(span * 1e9);
-    return true;
-}
-
-/* A given life of an argument: None says that it is the cache's. */
-bool given_life(PyObject *seconds, int64_t *life) {
-    *life = AS_THE_CACHE_SAYS;
-    return seconds == NULL || seconds == Py_None || as_life(seconds, life);
-}
-
-static void start_life(const Stripes *self, node *n, int64_t life, int64_t now) {
-    if (life == AS_THE_CACHE_SAYS) life = self->life;
-    bool is_eternal = life == ETERNAL || (now > 0 && life >= ETERNAL - now);
-    n->dies = is_eternal ? ETERNAL : now + life;
-    n->used = now;
-}
 
 /* What came and went. */
 
@@ -83,20 +37,21 @@ static bool follow(Stripes *self, stripe *s, node *n, uint64_t version, PyObject
     if (moves & JC_MOVE_STORED) {
         n->value = added(value);
         n->version = version;
-        if (self->may_expire) start_life(self, n, life, now);
+        if (self->is_timed) start_life(self, n, life, now);
     }
     return true;
 }
 
-/* What the core's reply stands for: the value is the node's, before the step, or the loaded one. */
+/* What the core's reply stands for: the value is the node's, before the step, or the loaded one. What is known to be absent is nothing. */
 static bool replied(const stripe *s, const node *n, uint64_t loaded_version, PyObject *loaded, answer *to) {
     to->reply = s->out.reply;
     to->value = NULL;
     if (s->out.reply != JC_REPLY_VALUE) return true;
     uint64_t version = number_in(&s->out.value);
-    if (version != 0 && version == n->version) to->value = added(n->value);
-    else if (version != 0 && version == loaded_version) to->value = added(loaded);
-    return to->value != NULL;
+    PyObject *value = version == 0 ? NULL : version == n->version ? n->value : version == loaded_version ? loaded : NULL;
+    if (value == the.absent) to->reply = JC_REPLY_NULL;
+    else to->value = added(value);
+    return value != NULL;
 }
 
 /* Sessions: one for each call that is out. */
@@ -135,13 +90,25 @@ static Call *take_out(Stripes *self, stripe *s, node *n, uint32_t session, uint6
 
 /* First phases. */
 
-/* Uncaches what has expired. False: it is blocked. */
-bool expire(Stripes *self, stripe *s, node *n, int64_t now, leavings *left) {
+/* Uncaches an entry as a step of its own. False: its key is reserved, or there is no room for the step. */
+bool uncache(Stripes *self, stripe *s, node *n, leavings *left) {
     uint64_t number = n->number;
     const uint8_t *key = (const uint8_t *)&number;
     if (n->flight != NULL) return false;
     if (jc_begin(&s->desk, free_session(s), JC_OP_CLEAR_KEY, key, EIGHT, key, 0, key, 0, &s->out) != JC_OK || s->out.next != JC_NEXT_DONE) return false;
-    return follow(self, s, n, 0, NULL, 0, now, left);
+    return follow(self, s, n, 0, NULL, 0, 0, left);
+}
+
+/* The same of one that nobody may see any more. If that can't be, it is hidden, as if it had expired. */
+static void uncache_or_hide(Stripes *self, stripe *s, node *n, leavings *left) {
+    if (n->version && !uncache(self, s, n, left)) n->is_doubtful = true;
+}
+
+/* What the store has at a key is another value by now. A call that has reserved the key drops what it leaves, and those that begin before
+ * its end wait for that. */
+void invalidate(Stripes *self, stripe *s, node *n, leavings *left) {
+    if (n->flight != NULL) n->flight->is_overtaken = true;
+    uncache_or_hide(self, s, n, left);
 }
 
 static void blocked(ended *end, stripe *s, Flight *flight) {
@@ -165,6 +132,14 @@ static bool is_use(uint32_t op, uint32_t reply) {
     return op == JC_OP_GET || ((op == JC_OP_REPLACE_IF || op == JC_OP_REMOVE_IF) && reply == JC_REPLY_NO);
 }
 
+/* What a get, or a look whether a key is cached, that is over at once has found: it may be old, or the memory that there is nothing. */
+static void note_look(Stripes *self, node *n, uint32_t op, int64_t now, ended *end) {
+    if (!n->version || (op != JC_OP_GET && op != JC_OP_CONTAINS_KEY)) return;
+    if (!is_absent(n)) end->is_old = op == JC_OP_GET && claim_reload(self, n, now);
+    else if (op == JC_OP_GET) self->absent_gets++;
+    else end->answer.reply = JC_REPLY_NO;
+}
+
 /* The first phase of a call of an operation, at a node that was found. */
 static void begin_at(Stripes *self, stripe *s, node *n, uint32_t op, PyObject *value, uint64_t expected, int64_t life, int64_t now,
                      leavings *left, ended *end) {
@@ -172,10 +147,12 @@ static void begin_at(Stripes *self, stripe *s, node *n, uint32_t op, PyObject *v
     uint64_t version = value != NULL ? ++s->last_version : 0;
     uint32_t code = begin_in_core(s, n, op, value != NULL, version, expected);
     if (code != JC_OK) {
-        refuse(code);
+        refuse(self, code);
     } else if (s->out.next == JC_NEXT_DONE) {
         if (replied(s, n, 0, NULL, &end->answer) && follow(self, s, n, version, value, life, now, left)) end->kind = DONE;
         else other_value();
+        if (end->kind == DONE) note_look(self, n, op, now, end);
+        if (s->is_suspended) uncache_or_hide(self, s, n, left);
         if (end->kind == DONE && self->idle && is_use(op, end->answer.reply) && n->version) n->used = now;
     } else if (s->out.next == JC_NEXT_REFUSED) {
         if (s->out.reply == JC_REFUSAL_HISTORY_FULL) PyErr_SetString(PyExc_AssertionError, "the cache has counted 2^64 calls");
@@ -183,6 +160,7 @@ static void begin_at(Stripes *self, stripe *s, node *n, uint32_t op, PyObject *v
     } else {
         Flight *flight = n->flight;
         end->call = take_out(self, s, n, session, version, value, life);
+        end->call->is_get = op == JC_OP_GET;
         end->kind = OUT;
         if (end->call->next == JC_NEXT_JOINED) {
             drop(left, end->call->flight);
@@ -204,6 +182,12 @@ static int compare(node *n, PyObject *old, uint64_t *compared, bool *is_equal) {
     return said < 0 ? -1 : 1;
 }
 
+/* Whether a call may see neither what is cached nor what is being loaded. One that may change an entry forgets first that there is none. */
+static bool is_out_of_date(const Stripes *self, const node *n, uint32_t op, int64_t now) {
+    bool is_look = op == JC_OP_GET || op == JC_OP_CONTAINS_KEY;
+    return has_expired(self, n, now) || (n->flight != NULL && n->flight->is_overtaken) || (is_absent(n) && !is_look);
+}
+
 /* The first phase of a call. */
 void begin(Stripes *self, uint32_t op, PyObject *key, uint64_t hash, PyObject *value, PyObject *old, int64_t life, ended *end) {
     stripe *s = stripe_of(self, hash);
@@ -216,15 +200,15 @@ void begin(Stripes *self, uint32_t op, PyObject *key, uint64_t hash, PyObject *v
         node *n;
         if (!has_spare(self) || !read_clock(self, &now) || !find(s, key, hash, &n)) return;
         if (self->spare == NULL) continue;   /* what ran meanwhile has taken it */
-        if (s->is_closed) { closed(); return; }
-        bool is_dead = n != NULL && has_expired(self, n, now);
+        if (s->is_closed) { closed(self); return; }
+        bool is_dead = n != NULL && is_out_of_date(self, n, op, now);
         if (old != NULL && n != NULL && n->version && !is_dead) {
             int said = compare(n, old, &compared, &is_equal);
             if (said < 0) return;
             if (said > 0) continue;
         }
         if (!has_session_room(s) || (n == NULL && (n = add_node(s, key, hash)) == NULL)) { PyErr_NoMemory(); return; }
-        if (is_dead && !expire(self, s, n, now, &left)) blocked(end, s, n->flight);
+        if (is_dead && !uncache(self, s, n, &left)) blocked(end, s, n->flight);
         else begin_at(self, s, n, op, value, is_equal ? compared : 0, life, now, &left, end);
         drop_all(&left);
         return;
@@ -241,21 +225,28 @@ bool contains(Stripes *self, PyObject *key, uint64_t hash, bool *is_cached) {
     if (end.kind != BLOCKED) return end.kind == DONE;
     Py_XDECREF(end.flight);
     if (!read_clock(self, &now) || !find(end.at, key, hash, &n)) return false;
-    *is_cached = n != NULL && n->version && !has_expired(self, n, now);
+    *is_cached = n != NULL && is_seen(self, n, now);
     return true;
 }
 
-/* A get that finds its entry: a new reference; or NULL, and nothing was done. */
-PyObject *hit(Stripes *self, PyObject *key, uint64_t hash) {
+/* A get that finds its entry: a new reference, to None if it is known to be absent; or NULL, and nothing was done. is_old, unless it is
+ * NULL: whether the caller has it reloaded. */
+PyObject *hit(Stripes *self, PyObject *key, uint64_t hash, bool *is_old) {
     stripe *s = stripe_of(self, hash);
     int64_t now;
     node *n;
+    if (is_old != NULL) *is_old = false;
     if (!read_clock(self, &now) || !find(s, key, hash, &n)) return NULL;
-    if (s->is_closed) return closed();
+    if (s->is_closed) return closed(self);
     if (n == NULL || !n->version || has_expired(self, n, now)) return NULL;
     if (jc_hit(&s->desk, AT_ONCE, (const uint8_t *)&n->number, EIGHT, &s->hit) != JC_OK) return NULL;
     if (number_in(&s->hit) != n->version) return other_value();
     n->used = now;
+    if (is_absent(n)) {
+        self->absent_gets++;
+        return added(Py_None);
+    }
+    if (is_old != NULL) *is_old = claim_reload(self, n, now);
     return added(n->value);
 }
 
@@ -293,6 +284,7 @@ static void end_reservation(Call *call) {
         leave(&joined->seat, &left, &all);
         PyMem_Free(joined);
     }
+    if (flight->is_overtaken || call->seat.at->is_suspended) uncache_or_hide(call->cache, call->seat.at, call->seat.node, &left);
     leave(&call->seat, &left, &all);
     PyObject *waiters = take(&flight->waiters), *room = take(&call->seat.at->waiters);
     drop_all(&left);
@@ -315,7 +307,7 @@ static bool end_call(Call *call, uint32_t code, const brought *with, uint64_t lo
     leavings left = {.count = 0};
     stripe *s = call->seat.at;
     node *n = call->seat.node;
-    if (code != JC_OK) return refuse(code);
+    if (code != JC_OK) return refuse(call->cache, code);
     bool is_right = replied(s, n, loaded_version, loaded, to);
     is_right = follow(call->cache, s, n, with->version, with->value, with->life, with->now, &left) && is_right;
     if (with->is_unknown && n->version) n->is_doubtful = true;
@@ -328,15 +320,16 @@ static bool end_call(Call *call, uint32_t code, const brought *with, uint64_t lo
     return other_value();
 }
 
-/* The last phase of a call whose loader was asked: NULL as the value says that it found nothing. */
+/* The last phase of a call whose loader was asked: NULL as the value says that it found nothing. A get may have that remembered. */
 bool commit_load(Call *call, PyObject *value, PyObject *error, int64_t life, answer *to) {
     brought with = {.value = value, .life = life};
     if (!read_clock(call->cache, &with.now) || !is_out(call, JC_ASK_LOAD, JC_ASK_LOAD)) return false;
     stripe *s = call->seat.at;
     Flight *flight = call->flight;
+    if (value == NULL && call->is_get && call->cache->absent_for) with.value = value = the.absent;
     if (value != NULL && error == NULL) with.version = ++s->last_version;
     flight->version = with.version;
-    flight->value = with.version ? added(value) : NULL;
+    flight->value = with.version && value != the.absent ? added(value) : NULL;
     flight->error = added(error);
     uint32_t answer = error != NULL ? JC_ANSWER_FAILED : with.version ? JC_ANSWER_FOUND : JC_ANSWER_NOTHING;
     uint32_t code = jc_commit_load(&s->desk, flight->number, answer, 1, (const uint8_t *)&with.version, with.version ? EIGHT : 0, &s->out);
@@ -369,7 +362,7 @@ bool commit_process(Call *call, const jc_processed *done, PyObject *value, uint6
 bool withdraw(Call *call) {
     if (!is_out(call, JC_ASK_LOAD, JC_ASK_PROCESS)) return false;
     uint32_t code = jc_withdraw(&call->seat.at->desk, call->flight->number);
-    if (code != JC_OK) return refuse(code);
+    if (code != JC_OK) return refuse(call->cache, code);
     end_reservation(call);
     return true;
 }
@@ -415,7 +408,7 @@ bool pick_up(Call *call, bool *is_done, answer *to) {
     if (!is_out(call, JC_NEXT_JOINED, JC_NEXT_JOINED)) return false;
     if (!call->flight->is_over) { PyErr_SetString(PyExc_RuntimeError, "the load is not over"); return false; }
     uint32_t code = pick_up_now(&call->seat, call->flight->number);
-    if (code != JC_OK) return refuse(code);
+    if (code != JC_OK) return refuse(call->cache, code);
     const jc_out *out = &call->seat.at->out;
     *is_done = out->next == JC_NEXT_DONE;
     *to = (answer){.reply = out->reply};
@@ -423,7 +416,8 @@ bool pick_up(Call *call, bool *is_done, answer *to) {
     bool is_right = !has_value || number_in(&out->value) == call->flight->version;
     leave_alone(call);
     if (!is_right) return other_value();
-    if (has_value) to->value = added(call->flight->value);
+    if (has_value && call->flight->value == NULL) to->reply = JC_REPLY_NULL;
+    else if (has_value) to->value = added(call->flight->value);
     return true;
 }
 

@@ -48,7 +48,7 @@ async def turns(count=5):
 class Coroutines(unittest.IsolatedAsyncioTestCase):
     async def asyncSetUp(self):
         self.store = Gated()
-        self.cache = cadwrelch.AsyncCache(loader=self.store, writer=self.store, stripes=2, capacity=64)
+        self.cache = cadwrelch.AsyncCache(loader=self.store, writer=self.store, stripes=2, capacity=128)
 
     async def asyncTearDown(self):
         await turns()

@@ -1,4 +1,4 @@
-"""Each operation, with what may go wrong."""
+"""Operations, with what may go wrong, as far as the table of cases (test_cases.py) doesn't say it."""
 import os
 import subprocess
 import sys
@@ -14,7 +14,7 @@ HERE = os.path.dirname(os.path.abspath(__file__))
 
 def cache_of(store, **words):
     words.setdefault('stripes', 2)
-    words.setdefault('capacity', 8)
+    words.setdefault('capacity', 16)
     return cadwrelch.Cache(loader=store.load, writer=store, **words)
 
 
@@ -36,81 +36,12 @@ class Operations(unittest.TestCase):
         self.assertEqual(self.store.loads, 4)
         self.assertEqual(self.cache.stats(), {'hits': 1, 'misses': 4, 'puts': 0, 'removals': 0, 'evictions': 0})
 
-    def test_contains(self):
-        self.assertNotIn('a', self.cache)
-        self.cache.get('a')
-        self.assertIn('a', self.cache)
-        self.assertEqual(self.store.loads, 1)
-
-    def test_put(self):
+    def test_subscripts(self):
         self.cache['a'] = 2
-        self.cache.put('b', [3])
-        self.assertEqual(self.store.held, {'a': 2, 'b': [3]})
-        self.assertEqual(self.cache['b'], [3])
-        self.assertEqual((len(self.cache), sorted(self.cache.keys())), (2, ['a', 'b']))
-
-    def test_get_and_put(self):
-        self.assertIsNone(self.cache.get_and_put('a', 2))
-        self.assertEqual(self.cache.get_and_put('a', 3), 2)
-        self.assertEqual(self.store.held, {'a': 3})
-
-    def test_put_if_absent(self):
-        self.assertTrue(self.cache.put_if_absent('a', 2))
-        self.assertFalse(self.cache.put_if_absent('a', 3))
-        self.assertEqual(self.store.held, {'a': 2})
-
-    def test_remove(self):
-        self.assertFalse(self.cache.remove('a'))
-        self.cache['b'] = 2
-        self.assertTrue(self.cache.remove('b'))
-        self.cache['c'] = 2
-        del self.cache['c'], self.cache['d']
+        self.cache['b'] = [3]
+        self.assertEqual((self.store.held, self.cache['b']), ({'a': 2, 'b': [3]}, [3]))
+        del self.cache['a'], self.cache['b'], self.cache['d']
         self.assertEqual(self.store.held, {})
-
-    def test_remove_if(self):
-        self.cache['a'] = 2
-        self.assertFalse(self.cache.remove_if('a', 3))
-        self.assertFalse(self.cache.remove_if('b', 2))
-        self.assertTrue(self.cache.remove_if('a', 2))
-        self.assertEqual(self.store.held, {})
-
-    def test_get_and_remove(self):
-        self.cache['a'] = 2
-        self.assertEqual(self.cache.get_and_remove('a'), 2)
-        self.assertIsNone(self.cache.get_and_remove('a'))
-
-    def test_replace(self):
-        self.assertFalse(self.cache.replace('a', 2))
-        self.cache.get('a')
-        self.assertTrue(self.cache.replace('a', 2))
-        self.assertEqual(self.store.held, {'a': 2})
-
-    def test_replace_if(self):
-        self.cache.get('a')
-        self.assertFalse(self.cache.replace_if('a', 2, 3))
-        self.assertTrue(self.cache.replace_if('a', 1, 3))
-        self.assertEqual((self.store.held, self.cache['a']), ({'a': 3}, 3))
-
-    def test_get_and_replace(self):
-        self.assertIsNone(self.cache.get_and_replace('a', 2))
-        self.cache.get('a')
-        self.assertEqual(self.cache.get_and_replace('a', 2), 1)
-        self.assertEqual(self.cache['a'], 2)
-
-    def test_clear(self):
-        self.cache['a'] = 2
-        self.cache['b'] = 2
-        self.cache.clear()
-        self.assertEqual((len(self.cache), self.store.held), (0, {'a': 2, 'b': 2}))
-
-    def test_eviction(self):
-        cache = cache_of(self.store, stripes=1, capacity=2)
-        for key in 'abc':
-            cache[key] = key
-            cache.get('a')
-        self.assertEqual(sorted(cache.keys()), ['a', 'c'])
-        self.assertEqual(cache.stats()['evictions'], 1)
-        self.assertTrue(cache._agrees())
 
     def test_none_is_no_value(self):
         for call in (lambda: self.cache.put('a', None), lambda: self.cache.put_many({'a': None}),
@@ -151,20 +82,6 @@ class Operations(unittest.TestCase):
         self.assertEqual(list(self.cache), [])
         self.cache['b'] = 2
         self.assertEqual((list(self.cache), self.store.loads), (['b'], 0))
-
-    def test_limits(self):
-        for words in ({'stripes': 0}, {'stripes': 4097}, {'capacity': 0}, {'capacity': 4097}, {'history': 15}, {'maxsize': 0}, {'maxsize': 4096 * 4096 + 1},
-                      {'maxsize': 10, 'capacity': 10}):
-            self.assertRaises(ValueError, cadwrelch.Cache, **words)
-
-
-    def test_maxsize_is_dealt_to_stripes(self):
-        cache = cadwrelch.Cache(maxsize=10_000)
-        for key in range(20_000):
-            cache[key] = key
-        self.assertLessEqual(len(cache), 10_002)
-        self.assertGreaterEqual(len(cache), 9_990)
-        self.assertTrue(cache._agrees())
 
     def test_an_empty_cache_is_true(self):
         self.assertTrue(self.cache)
@@ -274,20 +191,6 @@ class Processors(unittest.TestCase):
         self.cache.invoke('a', lambda entry: entry.remove())
         self.assertEqual((self.store.held, len(self.cache)), ({}, 0))
 
-    def test_what_it_loads_is_cached(self):
-        self.assertEqual(self.cache.invoke('a', lambda entry: entry.value), 1)
-        self.assertIn('a', self.cache)
-        self.assertEqual(self.store.writes, 0)
-
-    def test_what_it_sets_first_is_not_loaded(self):
-        def process(entry):
-            entry.value = 5
-            del entry.value
-            return entry.value
-
-        self.assertIsNone(self.cache.invoke('a', process))
-        self.assertEqual((self.store.loads, self.store.held), (0, {}))
-
     def test_its_exception_is_the_caller_s(self):
         def process(entry):
             entry.value = 5
@@ -309,25 +212,14 @@ class Processors(unittest.TestCase):
         self.assertIs(caught.exception.__cause__, self.store.load_fails)
         self.assertEqual((self.store.loads, len(self.cache)), (1, 0))
 
-    def test_a_failed_write(self):
-        self.store.write_fails = Broken('no write')
-        with self.assertRaises(cadwrelch.WriterError):
-            self.cache.invoke('a', lambda entry: entry.remove())
-        self.assertEqual(len(self.cache), 0)
-
 
 class Bulk(unittest.TestCase):
     def setUp(self):
         self.store = Store({'a': 1, 'b': 2})
-        self.cache = cache_of(self.store, capacity=200)
+        self.cache = cache_of(self.store, capacity=400)
 
     def tearDown(self):
         self.assertTrue(self.cache._agrees())
-
-    def test_get_many(self):
-        self.cache.get('a')
-        self.assertEqual(self.cache.get_many(['a', 'b', 'c', 'b']), {'a': 1, 'b': 2})
-        self.assertEqual(self.cache.get_many([]), {})
 
     def test_put_and_remove_many(self):
         entries = {f'key{i}': i for i in range(150)}
@@ -336,22 +228,6 @@ class Bulk(unittest.TestCase):
         self.assertEqual(self.cache.get_many(entries), entries)
         self.cache.remove_many(entries)
         self.assertEqual((self.store.held, len(self.cache)), ({'a': 1, 'b': 2}, 0))
-
-    def test_load_many(self):
-        self.cache.load_many('abc')
-        self.store.held['a'] = 3
-        self.cache.load_many('a')
-        self.assertEqual(self.cache['a'], 1)
-        self.cache.load_many('a', replace=True)
-        self.assertEqual(self.cache['a'], 3)
-
-    def test_a_failed_load(self):
-        self.cache.get('a')
-        self.store.load_fails = Broken('no load')
-        with self.assertRaises(cadwrelch.BulkError) as caught:
-            self.cache.get_many('abc')
-        self.assertEqual(sorted(caught.exception.failed), ['b', 'c'])
-        self.assertIs(caught.exception.__cause__, self.store.load_fails)
 
     def test_a_writer_that_fails_in_part(self):
         class Odd(Store):

@@ -39,7 +39,7 @@ class Misuse(unittest.TestCase):
         ticket = desk.begin(1, core.GET, b'a').number
         self.refused(core.BAD_ARGUMENT, desk.commit_load, ticket, 4)
         self.refused(core.BAD_ARGUMENT, desk.commit_load, ticket, core.FOUND, 0, b'v' * 257)
-        self.assertEqual(desk.commit_load(ticket, core.FOUND, 0, b'v').moves, core.KEPT)
+        self.assertEqual(desk.commit_load(ticket, core.FOUND, 0, b'v').moves, core.STORED)
 
     def test_tickets(self):
         desk = Desk(shape())

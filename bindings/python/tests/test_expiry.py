@@ -25,7 +25,7 @@ class Expiry(unittest.TestCase):
         self.store = Store({'a': 1})
 
     def cache(self, **words):
-        cache = cadwrelch.Cache(loader=self.store, writer=self.store, stripes=2, capacity=8, timer=self.clock, **words)
+        cache = cadwrelch.Cache(loader=self.store, writer=self.store, stripes=2, capacity=16, timer=self.clock, **words)
         self.addCleanup(lambda: self.assertTrue(cache._agrees()))
         return cache
 

@@ -1,6 +1,9 @@
 """Exceptions that come from outside, as of a signal's handler: one at each bytecode of each call in turn. Whatever they meet, no key stays
 reserved, what is cached is what the store has, and no later call is refused."""
+import asyncio
+import inspect
 import os
+import signal
 import sys
 import unittest
 
@@ -106,7 +109,7 @@ class Interrupts(unittest.TestCase):
             cache.put(key, 5)
             cache.remove(key)
         self.assertTrue(cache._agrees())
-        waiting.check_outside()
+        self.assertFalse(waiting.is_inside())
         return was_interrupted
 
     def test_at_each_bytecode(self):
@@ -119,6 +122,106 @@ class Interrupts(unittest.TestCase):
                         number += 1
                     count += number
         self.assertGreater(count, 3000)
+
+
+class TimeIsOver(Exception):
+    """What a handler of a soft time limit raises. It is an Exception."""
+
+
+def end_it(number, frame):
+    raise TimeIsOver
+
+
+class Limited(One):
+    """A store that does what it is asked. Then comes the signal."""
+
+    def load(self, key):
+        return self.ended(super().load(key))
+
+    def write(self, key, value):
+        self.ended(super().write(key, value))
+
+    def delete(self, key):
+        self.ended(super().delete(key))
+
+    def ended(self, found=None):
+        if self.is_limited:
+            signal.raise_signal(signal.SIGUSR1)
+        return found
+
+
+class Awaited:
+    """The same for coroutines."""
+
+    def __init__(self, store):
+        self.store = store
+
+    async def load(self, key):
+        return self.store.load(key)
+
+    async def write(self, key, value):
+        self.store.write(key, value)
+
+    async def delete(self, key):
+        self.store.delete(key)
+
+
+class Handlers(unittest.TestCase):
+    """An Exception of a signal's handler that lands inside the store's own method isn't the store's."""
+
+    calls = ('put', 'replace_if', 'remove', 'invoke', 'invoke that loads', 'put_many', 'remove_many', 'load_many', 'get', 'a function')
+
+    def setUp(self):
+        self.addCleanup(signal.signal, signal.SIGUSR1, signal.signal(signal.SIGUSR1, end_it))
+        self.store = Limited()
+        self.store.is_limited = False
+        self.store.held.update(a=1, b=2)
+
+    def end(self, cache, run):
+        """A key that was being written isn't cached: the store may have either value."""
+        for name in self.calls:
+            with self.subTest(name):
+                run(cache.put('a', 1))
+                run(cache.load_many(['a']))
+                cache.invalidate('b')
+                self.store.is_limited = True
+                with self.assertRaises(TimeIsOver):
+                    run(CALLS[name](cache))
+                self.store.is_limited = False
+                for key in 'abc':
+                    self.assertIn(cache.hit(key), (None, self.store.held.get(key)))
+                self.assertEqual(run(cache.get('a')), self.store.held.get('a'))
+        self.assertTrue(cache._agrees())
+
+    def test_threads(self):
+        self.end(cadwrelch.Cache(loader=self.store, writer=self.store, stripes=1), lambda result: result)
+
+    def test_coroutines(self):
+        store = Awaited(self.store)
+        with asyncio.Runner() if hasattr(asyncio, 'Runner') else Loop() as runner:
+            self.end(cadwrelch.AsyncCache(loader=store, writer=store, stripes=1), lambda it: runner.run(it) if inspect.isawaitable(it) else it)
+
+    def test_what_the_store_raises_is_its_own(self):
+        def fail(*_):
+            raise TimeIsOver
+
+        cache = cadwrelch.Cache(loader=fail, writer=fail)
+        self.assertRaises(cadwrelch.LoaderError, cache.get, 'a')
+        self.assertRaises(cadwrelch.WriterError, cache.put, 'a', 1)
+
+
+class Loop:
+    """asyncio.Runner, which is there from Python 3.11 on."""
+
+    def __enter__(self):
+        self.loop = asyncio.new_event_loop()
+        return self
+
+    def __exit__(self, *_):
+        self.loop.close()
+
+    def run(self, coroutine):
+        return self.loop.run_until_complete(coroutine)
 
 
 if __name__ == '__main__':

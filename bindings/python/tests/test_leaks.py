@@ -122,7 +122,7 @@ def fail(key, value=None):
     if key % 7 == 0:
         raise ValueError(key)
     return key
-cache = cadwrelch.Cache(loader=fail, writer=fail, stripes=2, capacity=64)
+cache = cadwrelch.Cache(loader=fail, writer=fail, stripes=2, capacity=128)
 def turn():
     for key in range(5000):
         for call in (lambda: cache.get(key), lambda: cache.put(key, key), lambda: cache.remove(key - 10), lambda: cache.get_many([key, key + 1])):

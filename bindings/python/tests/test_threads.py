@@ -269,10 +269,10 @@ class Stress(unittest.TestCase):
         self.assertEqual(results, [None] * 6)
         self.assertTrue(cache._agrees())
         self.assertEqual({key: store.held.get(key) for key in cache.keys()}, cache.get_many(cache.keys()))
-        self.assertLessEqual(len(cache), words['stripes'] * words['capacity'])
+        self.assertLessEqual(len(cache), words['capacity'])
 
     def test_cached_is_stored(self):
-        self.long_run(stripes=2, capacity=8)
+        self.long_run(stripes=2, capacity=16)
 
     def test_in_little_room(self):
         self.long_run(stripes=1, capacity=2, history=16)
