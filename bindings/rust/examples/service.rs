@@ -44,7 +44,7 @@ fn main() -> Result<(), Box<dyn std::error::Error>> {
     let folder = Arc::new(Folder(path.into()));
     let cache = Cache::builder()
         .stripes(4)
-        .capacity(1000)
+        .capacity(16_000)
         .store(folder)
         .build()?;
     thread::scope(|workers| {

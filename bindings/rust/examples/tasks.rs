@@ -1,9 +1,9 @@
 //! Async tasks over one cache, with an executor of forty lines: `cargo run --example tasks`.
 //!
-//! The phases of a call are public, so a task awaits its own store between them. A task that waits for another's load is woken when
+//! Half of the tasks call `get_with`; the others have the same in phases, which are public, and await their store between them. A task that waits for another's load is woken when
 //! that load is over; one that is dropped on the way leaves no key reserved.
 use cadwrelch::call::Begun;
-use cadwrelch::{Cache, Error, NoWriter, Op, Reply};
+use cadwrelch::{ByCall, Cache, Error, NoWriter, Op, Reply};
 use std::collections::VecDeque;
 use std::convert::Infallible;
 use std::future::Future;
@@ -13,9 +13,7 @@ use std::sync::{Arc, Mutex};
 use std::task::{Context, Poll, Wake, Waker};
 
 type LoadError = std::io::Error;
-/// The loader of the cache itself is not called: tasks ask their own. It says of what kind its errors are, and that there is one.
-type Loads = fn(&String) -> Result<Option<usize>, LoadError>;
-type Lengths = Cache<String, usize, Loads, NoWriter>;
+type Lengths = Cache<String, usize, ByCall<LoadError>, NoWriter>;
 
 /// A store whose answer takes a turn of the executor.
 struct Slow {
@@ -57,8 +55,7 @@ async fn get(
 }
 
 fn main() -> Result<(), Box<dyn std::error::Error>> {
-    let unused: Loads = |_| unreachable!("tasks ask their own store");
-    let cache: Lengths = Cache::builder().loader(unused).build()?;
+    let cache: Lengths = Cache::builder().loader(ByCall::new()).build()?;
     let store = Slow {
         loads: AtomicUsize::new(0),
     };
@@ -67,7 +64,11 @@ fn main() -> Result<(), Box<dyn std::error::Error>> {
         let (cache, store) = (&cache, &store);
         executor.spawn(async move {
             let key = "x".repeat(task % 3 + 1);
-            match get(cache, store, key).await {
+            let length = match task % 2 {
+                0 => get(cache, store, key).await,
+                _ => cache.get_with(key.clone(), store.load(&key)).await,
+            };
+            match length {
                 Ok(length) => println!("task {task}: {}", length.map_or(0, |it| *it)),
                 Err(error) => println!("task {task}: {error}"),
             }

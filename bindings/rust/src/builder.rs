@@ -5,104 +5,122 @@ use crate::core::Shape;
 use crate::expiry::Expiry;
 use crate::lives::{Lives, Times};
 use crate::outside::{Loader, NoLoader, NoWriter, Shared, Writer};
-use crate::stripe::Stripe;
-use std::marker::PhantomData;
+use crate::refresh::{Executor, Job, Reloading, own_threads, reloading};
+use crate::sizes::{STRIPES_MAX, Sizes, wrong};
+use crate::stripe::{Listener, Stripe};
+use std::fmt;
+use std::hash::Hash;
 use std::sync::Arc;
 use std::time::Duration;
 
-/// The most stripes of a cache: each is a desk of one stripe, so the core's own limit doesn't count.
-const STRIPES_MAX: usize = 4096;
-
-/// What a builder begins with: room for as many calls of a stripe as there can be at a time.
-pub(crate) const HISTORY: usize = 260;
-
 /// Builds a [`Cache`]. It is made by [`Cache::builder`].
-#[derive(Clone, Debug)]
+#[derive(Clone)]
 #[must_use]
-pub struct Builder<K, V, L = NoLoader, W = NoWriter> {
-    shape: Shape,
+pub struct Builder<K, V, L = NoLoader, W = NoWriter>
+where
+    L: Loader<K, V>,
+{
+    sizes: Sizes,
+    read_through: bool,
+    write_through: bool,
     times: Times<K, V>,
     loader: L,
     writer: W,
-    kinds: PhantomData<fn() -> (K, V)>,
+    executor: Option<Executor>,
+    listener: Option<Listener<K, V>>,
+    /// None: the loader was given after the age at which entries are reloaded.
+    reloading: Option<Reloading<K, V, L>>,
+}
+
+impl<K, V, L: Loader<K, V>, W> fmt::Debug for Builder<K, V, L, W> {
+    fn fmt(&self, f: &mut fmt::Formatter<'_>) -> fmt::Result {
+        f.debug_struct("Builder")
+            .field("sizes", &self.sizes)
+            .field("read_through", &self.read_through)
+            .field("write_through", &self.write_through)
+            .field("times", &self.times)
+            .finish_non_exhaustive()
+    }
 }
 
 impl<K, V> Builder<K, V> {
     pub(crate) fn new() -> Self {
         Builder {
-            // A key's number says nothing of its stripe, which is chosen by its hash: each desk is a cache of one stripe, and this
-            // number is that of the desks.
-            shape: Shape {
-                stripes: 16,
-                capacity: 1024,
-                history: HISTORY,
-                read_through: false,
-                write_through: false,
-                keeps_events: false,
-            },
+            sizes: Sizes::default(),
+            read_through: false,
+            write_through: false,
             times: Times::default(),
             loader: NoLoader,
             writer: NoWriter,
-            kinds: PhantomData,
+            executor: None,
+            listener: None,
+            reloading: None,
         }
     }
 }
 
-impl<K, V, L, W> Builder<K, V, L, W> {
-    /// How many stripes: 1 to 4,096, without it 16. Calls in different stripes don't share a lock.
+impl<K, V, L: Loader<K, V>, W> Builder<K, V, L, W> {
+    /// How many entries the whole cache has room for: at least 1, and 1 to 4,096 for each stripe; without it 65,536. A new key evicts
+    /// the entry of its stripe that was used longest ago.
+    pub fn capacity(mut self, entries: usize) -> Self {
+        self.sizes.capacity = Some(entries);
+        self
+    }
+
+    /// How many stripes: 1 to 4,096. Calls in different stripes share no lock. Without it a cache of up to 511 entries has one stripe,
+    /// and so is full with exactly its capacity; a larger one has a stripe for each 256, up to 16, and more if it needs them.
     pub fn stripes(mut self, stripes: usize) -> Self {
-        self.shape.stripes = stripes;
+        self.sizes.stripes = Some(stripes);
         self
     }
 
-    /// How many entries of each stripe: 1 to 4,096, without it 1,024. A new key of a full stripe evicts the one that was used longest
-    /// ago.
-    pub fn capacity(mut self, capacity: usize) -> Self {
-        self.shape.capacity = capacity;
-        self
-    }
-
-    /// How many events of each stripe's history, 16 to 65,536, before it begins a new one; 884 bytes each. A call under way needs room
+    /// How many events of each stripe's history, 16 to 65,536, before it begins another one; 884 bytes each. A call under way needs room
     /// for three, and one that has joined a load for one: with 260, as without this, there is room for as many as there can be. With
     /// fewer, calls at other keys of the stripe wait beside a slow load that many have joined.
-    pub fn history(mut self, history: usize) -> Self {
-        self.shape.history = history;
+    pub fn history(mut self, events: usize) -> Self {
+        self.sizes.history = Some(events);
         self
     }
 
     /// Whether a `get` of a missing key asks the loader: true once a loader is given. If not, only `load_all` asks it.
     pub fn read_through(mut self, is_on: bool) -> Self {
-        self.shape.read_through = is_on;
+        self.read_through = is_on;
         self
     }
 
     /// Whether mutations are written: true once a writer is given.
     pub fn write_through(mut self, is_on: bool) -> Self {
-        self.shape.write_through = is_on;
+        self.write_through = is_on;
         self
     }
 
     /// What reads the store.
-    pub fn loader<N: Loader<K, V>>(mut self, loader: N) -> Builder<K, V, N, W> {
-        self.shape.read_through = true;
+    pub fn loader<N: Loader<K, V>>(self, loader: N) -> Builder<K, V, N, W> {
         Builder {
-            shape: self.shape,
+            sizes: self.sizes,
+            read_through: true,
+            write_through: self.write_through,
             times: self.times,
             loader,
             writer: self.writer,
-            kinds: PhantomData,
+            executor: self.executor,
+            listener: self.listener,
+            reloading: None,
         }
     }
 
     /// What changes the store.
-    pub fn writer<N: Writer<K, V>>(mut self, writer: N) -> Builder<K, V, L, N> {
-        self.shape.write_through = true;
+    pub fn writer<N: Writer<K, V>>(self, writer: N) -> Builder<K, V, L, N> {
         Builder {
-            shape: self.shape,
+            sizes: self.sizes,
+            read_through: self.read_through,
+            write_through: true,
             times: self.times,
             loader: self.loader,
             writer,
-            kinds: PhantomData,
+            executor: self.executor,
+            listener: self.listener,
+            reloading: self.reloading,
         }
     }
 
@@ -117,7 +135,8 @@ impl<K, V, L, W> Builder<K, V, L, W> {
     /// How long an entry lives after its value was put or loaded. One that lives for `Duration::ZERO` is never found.
     ///
     /// The call that meets an expired entry uncaches it, as a step of its own, and then goes on as if the key hadn't been cached. If
-    /// another call has reserved the key, it waits for that. While no entry can expire, the clock isn't read.
+    /// another call has reserved the key, it waits for that, but for a `contains_key`, which answers no. While no entry can expire, the
+    /// clock isn't read.
     ///
     /// ```
     /// use cadwrelch::Cache;
@@ -156,6 +175,59 @@ impl<K, V, L, W> Builder<K, V, L, W> {
         self
     }
 
+    /// How long an entry is young, more than nothing: a `get`, also of many keys, that finds an older one answers it at once, and has it
+    /// loaded again in the background by [`Loader::load`]. Puts of that key wait for the reload, so it never overwrites a newer value. A
+    /// reload that fails, or finds nothing, leaves the entry until it is old once more; if the key is reserved, or its stripe has no
+    /// room, it is left out. The loader is given before.
+    ///
+    /// ```
+    /// use cadwrelch::Cache;
+    /// use std::time::Duration;
+    ///
+    /// let cache = Cache::<String, String>::builder()
+    ///     .loader(|path: &String| std::fs::read_to_string(path).map(Some))
+    ///     .refresh_after(Duration::from_secs(60))
+    ///     .build()?;
+    /// # Ok::<(), Box<dyn std::error::Error>>(())
+    /// ```
+    pub fn refresh_after(mut self, age: Duration) -> Self
+    where
+        K: Eq + Hash + Send + Sync + 'static,
+        V: Send + Sync + 'static,
+        L: Send + Sync + 'static,
+        L::Error: Send + Sync + 'static,
+    {
+        self.times.refresh = Some(age);
+        self.reloading = Some(reloading);
+        self
+    }
+
+    /// Who runs reloads, in place of up to four threads of the cache's own, which end when they have nothing to do. It should have
+    /// threads of its own: what runs a job at once keeps the `get` that found an old entry.
+    pub fn executor(mut self, run: impl Fn(Job) + Send + Sync + 'static) -> Self {
+        self.executor = Some(Arc::new(run));
+        self
+    }
+
+    /// How long it is remembered that a `get`, also of many keys, has found nothing, more than nothing. Meanwhile those and
+    /// `contains_key` answer that there is nothing, and nobody is asked; any other call at the key forgets it first. It takes the room
+    /// of an entry, which `keys` and `len` leave out, and no use makes its time longer. Read-through has to be on.
+    pub fn absent_for(mut self, time: Duration) -> Self {
+        self.times.absent = Some(time);
+        self
+    }
+
+    /// Who is told of each entry that a full stripe evicts, after that, with no lock held, by the call that brought another one. An
+    /// entry that is removed, replaced or forgotten, or has expired, isn't evicted. It may call the cache as a loader may. If it panics that goes on, and the call has taken
+    /// effect.
+    pub fn eviction_listener(
+        mut self,
+        listener: impl Fn(&Arc<K>, &Arc<V>) + Send + Sync + 'static,
+    ) -> Self {
+        self.listener = Some(Arc::new(listener));
+        self
+    }
+
     /// What the cache takes the time from: a function that says how much has passed since some moment, never goes back, and doesn't call
     /// the cache. Without it that is the system's monotonic clock. It is read with no lock held, and only while an entry may expire.
     pub fn clock(mut self, clock: impl Fn() -> Duration + Send + Sync + 'static) -> Self {
@@ -166,21 +238,57 @@ impl<K, V, L, W> Builder<K, V, L, W> {
     /// The cache.
     ///
     /// # Errors
-    /// [`BuildError::Limits`]: a number is out of its limits. [`BuildError::NoMemory`]. [`BuildError::Version`]: `CADWRELCH_CORE` named
-    /// a library of another version at the build.
-    pub fn build(mut self) -> Result<Cache<K, V, L, W>, BuildError>
+    /// [`BuildError::Option`]: an option is out of its limits. [`BuildError::NoMemory`]. [`BuildError::Version`]: `CADWRELCH_CORE`
+    /// named a library of another version at the build.
+    pub fn build(self) -> Result<Cache<K, V, L, W>, BuildError>
     where
         L: Loader<K, V>,
         W: Writer<K, V>,
     {
-        let stripes = std::mem::replace(&mut self.shape.stripes, 1);
-        if !(1..=STRIPES_MAX).contains(&stripes) {
-            return Err(BuildError::Limits);
-        }
+        let shapes = self
+            .sizes
+            .shapes(STRIPES_MAX, self.read_through, self.write_through)?;
+        self.check_times()?;
         let lives = Arc::new(Lives::new(self.times));
-        let stripes: Result<_, _> = (0..stripes)
-            .map(|_| Stripe::open(&self.shape, lives.clone()))
+        // A key's number says nothing of its stripe, which is chosen by its hash: each desk is a cache of one stripe.
+        let stripes: Result<Arc<[_]>, _> = shapes
+            .map(|shape| {
+                Stripe::open(
+                    &Shape {
+                        stripes: 1,
+                        ..shape
+                    },
+                    lives.clone(),
+                    self.listener.clone(),
+                )
+            })
             .collect();
-        Ok(Cache::new(stripes?, lives, self.loader, self.writer))
+        let (stripes, loader) = (stripes?, Arc::new(self.loader));
+        if let Some(reloading) = self.reloading {
+            let executor = self.executor.unwrap_or_else(own_threads);
+            lives.set_reload(reloading(&stripes, &loader, executor));
+        }
+        Ok(Cache::new(stripes, lives, loader, self.writer))
+    }
+
+    fn check_times(&self) -> Result<(), BuildError> {
+        let Times {
+            refresh, absent, ..
+        } = self.times;
+        for (option, given) in [("refresh_after", refresh), ("absent_for", absent)] {
+            if let Some(given) = given.filter(Duration::is_zero) {
+                return Err(wrong(option, given, "longer than 0"));
+            }
+        }
+        match (refresh, absent) {
+            (Some(given), _) if self.reloading.is_none() => {
+                Err(wrong("refresh_after", given, "set after the loader"))
+            }
+            (_, Some(given)) if !self.read_through => {
+                let wanted = "left out while read-through is off";
+                Err(wrong("absent_for", given, wanted))
+            }
+            _ => Ok(()),
+        }
     }
 }

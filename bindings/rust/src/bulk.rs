@@ -8,13 +8,15 @@ use crate::call::{AskedLoad, AskedWrite, Begun, Busy, Change, Join, Ticket};
 use crate::error::{BulkError, Error};
 use crate::op::{Op, Reply};
 use crate::outside::{Loader, Unwritten, Writer, in_call};
+use crate::step::Owner;
 use std::collections::HashMap;
 use std::hash::Hash;
 use std::panic::{AssertUnwindSafe, catch_unwind, resume_unwind};
 use std::sync::Arc;
 
 /// The error of a cache's calls of many keys.
-type Bulk<K, V, L, W> = BulkError<Arc<K>, <L as Loader<K, V>>::Error, <W as Writer<K, V>>::Error>;
+type Bulk<K, V, L, W> =
+    BulkError<Arc<K>, V, <L as Loader<K, V>>::Error, <W as Writer<K, V>>::Error>;
 
 struct Item<K, V> {
     key: Arc<K>,
@@ -72,17 +74,27 @@ impl<K, V, L, W> Progress<K, V, L, W> {
         }
     }
 
-    fn stop(mut self, error: Error<L, W>, left: Vec<Item<K, V>>) -> BulkError<Arc<K>, L, W> {
+    /// The call has ended, or was stopped by this error and hasn't reached what is left.
+    fn stop(mut self, error: Error<L, W>, left: Vec<Item<K, V>>) -> BulkError<Arc<K>, V, L, W> {
         self.failed.extend(left.into_iter().map(|item| item.key));
         BulkError {
             error: self.error.unwrap_or(error),
             failed: self.failed,
+            found: found(self.replies).collect(),
         }
     }
 }
 
-/// Ends calls one after the other: also if a policy panics at one of them, and then the panic goes on after the last.
-fn end_all<T>(calls: impl Iterator<Item = T>, mut end: impl FnMut(T)) {
+/// The values among replies.
+fn found<K, V>(replies: Vec<(Arc<K>, Reply<V>)>) -> impl Iterator<Item = (Arc<K>, Arc<V>)> {
+    replies.into_iter().filter_map(|(key, reply)| match reply {
+        Reply::Value(Some(value)) => Some((key, value)),
+        _ => None,
+    })
+}
+
+/// Ends calls one after the other: also if a policy or a listener panics at one of them, and then the panic goes on after the last.
+pub(crate) fn end_all<T>(calls: impl Iterator<Item = T>, mut end: impl FnMut(T)) {
     let mut panic = None;
     for call in calls {
         if let Err(payload) = catch_unwind(AssertUnwindSafe(|| end(call))) {
@@ -105,7 +117,7 @@ where
     /// The values of these keys, of those that have one. [`Loader::load_all`] is asked for all that are missing.
     ///
     /// # Errors
-    /// The first failure, with the keys that failed. What was found for others is cached. [`Error::Closed`] and
+    /// The first failure, with the keys that failed, and what was found at the others, which is cached, too. [`Error::Closed`] and
     /// [`Error::WouldDeadlock`] stop it.
     pub fn get_all(
         &self,
@@ -115,10 +127,7 @@ where
         K: Clone,
     {
         let replies = self.rounds(self.items(keys, || Op::Get))?;
-        let found = replies.into_iter().filter_map(|(key, reply)| match reply {
-            Reply::Value(Some(value)) => Some((Arc::unwrap_or_clone(key), value)),
-            _ => None,
-        });
+        let found = found(replies).map(|(key, value)| (Arc::unwrap_or_clone(key), value));
         Ok(found.collect())
     }
 
@@ -146,6 +155,21 @@ where
         self.rounds(self.items(keys, || Op::Remove)).map(drop)
     }
 
+    /// Deletes all keys that are cached when it begins from store and cache; what only the store has stays. [`Writer::delete_all`] is
+    /// asked.
+    ///
+    /// # Errors
+    /// As [`remove_all`](Cache::remove_all).
+    pub fn remove_every(&self) -> Result<(), Bulk<K, V, L, W>> {
+        let keys = self.keys().map_err(|error| BulkError {
+            error,
+            failed: Vec::new(),
+            found: Vec::new(),
+        })?;
+        let items = keys.into_iter().map(|key| self.item(key, Op::Remove));
+        self.rounds(items.collect()).map(drop)
+    }
+
     /// Loads these keys: those that aren't cached, or all. [`Loader::load_all`] is asked, also without read-through.
     ///
     /// # Errors
@@ -168,7 +192,7 @@ where
     pub fn clear(&self) -> Result<(), CacheError<K, V, L, W>> {
         self.expire();
         let items = self
-            .keys()?
+            .list_keys(true)?
             .into_iter()
             .map(|key| self.item(key, Op::Clear));
         match self.rounds(items.collect()) {
@@ -205,12 +229,9 @@ where
                 return Err(progress.stop(error, items));
             }
         }
-        match progress.error {
+        match progress.error.take() {
             None => Ok(progress.replies),
-            Some(error) => Err(BulkError {
-                error,
-                failed: progress.failed,
-            }),
+            Some(error) => Err(progress.stop(error, Vec::new())),
         }
     }
 
@@ -245,7 +266,7 @@ where
     ) -> Result<(), (CacheError<K, V, L, W>, Vec<Item<K, V>>)> {
         let mut items = items.into_iter();
         while let Some(item) = items.next() {
-            match self.begin_at(&item.key, item.hash, &item.op, None) {
+            match self.begin_at(&item.key, item.hash, &item.op, None, Owner::ThisThread) {
                 Ok(Begun::Done(reply)) => progress.replies.push((item.key, reply)),
                 Ok(Begun::Load(ticket)) => round.loads.push((item, ticket)),
                 Ok(Begun::Write(ticket)) => round.writes.push((item, ticket)),
@@ -285,10 +306,10 @@ where
         let borrowed: Vec<&K> = keys.iter().map(|key| &**key).collect();
         match in_call(|| self.loader().load_all(&borrowed)) {
             Ok(found) => {
-                let found = found.into_iter().chain(std::iter::repeat_with(|| None));
+                let found = found.into_iter().chain(std::iter::repeat_with(|| Ok(None)));
                 let calls = keys.into_iter().zip(asked).zip(found);
                 end_all(calls, |((key, asked), found)| {
-                    progress.note(key, asked.commit(Ok(found)));
+                    progress.note(key, asked.commit(found));
                 });
             }
             Err(error) => {

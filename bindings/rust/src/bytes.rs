@@ -1,10 +1,10 @@
 //! A cache of short byte strings, which the core keeps itself.
 mod stripe;
 
-use crate::builder::HISTORY;
-use crate::core::{self, Shape, Statistics};
+use crate::core::{self, Statistics};
 use crate::op::Reply;
 use crate::outside::{Loader, NoLoader, NoWriter, Shared, Writer, in_call};
+use crate::sizes::Sizes;
 use crate::{BuildError, Error};
 use std::fmt;
 use std::sync::Arc;
@@ -44,23 +44,20 @@ pub type BytesError<L, W> =
 #[derive(Clone, Debug)]
 #[must_use]
 pub struct BytesBuilder<L = NoLoader, W = NoWriter> {
-    shape: Shape,
+    sizes: Sizes,
+    read_through: bool,
+    write_through: bool,
     loader: L,
     writer: W,
 }
 
 impl BytesCache {
-    /// Begins to build a cache: 16 stripes of 1,024 entries, no loader, no writer.
+    /// Begins to build a cache: 65,536 entries in 16 stripes, no loader, no writer.
     pub fn builder() -> BytesBuilder {
         BytesBuilder {
-            shape: Shape {
-                stripes: 16,
-                capacity: 1024,
-                history: HISTORY,
-                read_through: false,
-                write_through: false,
-                keeps_events: false,
-            },
+            sizes: Sizes::default(),
+            read_through: false,
+            write_through: false,
             loader: NoLoader,
             writer: NoWriter,
         }
@@ -68,39 +65,41 @@ impl BytesCache {
 }
 
 impl<L, W> BytesBuilder<L, W> {
-    /// How many stripes: 1 to 64, without it 16. Calls in different stripes don't share a lock.
-    pub fn stripes(mut self, stripes: usize) -> Self {
-        self.shape.stripes = stripes;
+    /// How many entries the whole cache has room for: at least 1, and 1 to 4,096 for each stripe; without it 65,536.
+    pub fn capacity(mut self, entries: usize) -> Self {
+        self.sizes.capacity = Some(entries);
         self
     }
 
-    /// How many entries of each stripe: 1 to 4,096, without it 1,024.
-    pub fn capacity(mut self, capacity: usize) -> Self {
-        self.shape.capacity = capacity;
+    /// How many stripes: 1 to 64; without it as a [`Cache`](crate::Builder::stripes) of that capacity has.
+    pub fn stripes(mut self, stripes: usize) -> Self {
+        self.sizes.stripes = Some(stripes);
         self
     }
 
     /// How many events of each stripe's history, 16 to 65,536: see [`Builder::history`](crate::Builder::history).
-    pub fn history(mut self, history: usize) -> Self {
-        self.shape.history = history;
+    pub fn history(mut self, events: usize) -> Self {
+        self.sizes.history = Some(events);
         self
     }
 
     /// What reads the store; with it a `get` of a missing key asks it.
-    pub fn loader<N: Loader<[u8], Vec<u8>>>(mut self, loader: N) -> BytesBuilder<N, W> {
-        self.shape.read_through = true;
+    pub fn loader<N: Loader<[u8], Vec<u8>>>(self, loader: N) -> BytesBuilder<N, W> {
         BytesBuilder {
-            shape: self.shape,
+            sizes: self.sizes,
+            read_through: true,
+            write_through: self.write_through,
             loader,
             writer: self.writer,
         }
     }
 
     /// What changes the store; with it a mutation is written first.
-    pub fn writer<N: Writer<[u8], [u8]>>(mut self, writer: N) -> BytesBuilder<L, N> {
-        self.shape.write_through = true;
+    pub fn writer<N: Writer<[u8], [u8]>>(self, writer: N) -> BytesBuilder<L, N> {
         BytesBuilder {
-            shape: self.shape,
+            sizes: self.sizes,
+            read_through: self.read_through,
+            write_through: true,
             loader: self.loader,
             writer,
         }
@@ -117,16 +116,19 @@ impl<L, W> BytesBuilder<L, W> {
     /// The cache.
     ///
     /// # Errors
-    /// [`BuildError::Limits`]: a number is out of its limits. [`BuildError::NoMemory`]. [`BuildError::Version`]: `CADWRELCH_CORE` named
+    /// [`BuildError::Option`]: an option is out of its limits. [`BuildError::NoMemory`]. [`BuildError::Version`]: `CADWRELCH_CORE` named
     /// a library of another version at the build.
     pub fn build(self) -> Result<BytesCache<L, W>, BuildError>
     where
         L: Loader<[u8], Vec<u8>>,
         W: Writer<[u8], [u8]>,
     {
-        let numbers = 0..self.shape.stripes.clamp(1, core::STRIPES_MAX);
-        let stripes: Result<_, core::Code> = numbers
-            .map(|number| Stripe::open(&self.shape, number))
+        let shapes = self
+            .sizes
+            .shapes(core::STRIPES_MAX, self.read_through, self.write_through)?;
+        let stripes: Result<_, core::Code> = shapes
+            .enumerate()
+            .map(|(number, shape)| Stripe::open(&shape, number))
             .collect();
         Ok(BytesCache {
             stripes: stripes?,
@@ -252,6 +254,44 @@ where
         Ok(())
     }
 
+    /// Forgets a key, of which the store has another value by now: see [`Cache::invalidate`](crate::Cache::invalidate).
+    pub fn invalidate(&self, key: &[u8]) {
+        self.stripe(key).invalidate(key);
+    }
+
+    /// The same of all keys.
+    ///
+    /// # Panics
+    /// If there is no memory for a list of them.
+    pub fn invalidate_all(&self) {
+        self.stripes.iter().for_each(|it| it.invalidate_all(None));
+    }
+
+    /// Forgets all keys, and keeps nothing until [`resume`](BytesCache::resume): see [`Cache::suspend`](crate::Cache::suspend).
+    ///
+    /// # Panics
+    /// If there is no memory for a list of them.
+    pub fn suspend(&self) {
+        for stripe in &self.stripes {
+            stripe.invalidate_all(Some(false));
+        }
+    }
+
+    /// Forgets all keys once more, and keeps what is read and written from now on.
+    ///
+    /// # Panics
+    /// If there is no memory for a list of them.
+    pub fn resume(&self) {
+        for stripe in &self.stripes {
+            stripe.invalidate_all(Some(true));
+        }
+    }
+
+    /// Whether the cache keeps nothing, since it was [suspended](BytesCache::suspend).
+    pub fn is_suspended(&self) -> bool {
+        self.stripes.iter().any(Stripe::is_suspended)
+    }
+
     /// What is cached, stripe by stripe, in each the most recently used first.
     ///
     /// # Errors
@@ -262,8 +302,7 @@ where
     pub fn entries(&self) -> Result<Vec<(Vec<u8>, Vec<u8>)>, BytesError<L, W>> {
         let mut entries = Vec::new();
         for stripe in &self.stripes {
-            let listed = stripe.open_side()?.desk.entries();
-            entries.append(&mut listed.expect("the desk is open, and has memory"));
+            entries.append(&mut stripe.entries()?);
         }
         Ok(entries)
     }

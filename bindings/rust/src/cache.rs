@@ -7,8 +7,8 @@ use crate::hashing::Hashing;
 use crate::lives::Lives;
 use crate::op::{Expected, Op, Reply};
 use crate::outside::{Loader, NoLoader, NoWriter, Writer, in_call};
-use crate::step::Call;
-use crate::stripe::Stripe;
+use crate::step::{Call, Owner};
+use crate::stripe::{Stripe, of_hash};
 use std::borrow::Borrow;
 use std::fmt;
 use std::hash::{BuildHasher, Hash};
@@ -23,9 +23,9 @@ use std::time::Duration;
 ///
 /// - A `get` of a missing key asks the loader; calls for the same key meanwhile join that load.
 /// - A mutation is written first, and is in the cache when the writer has written.
-/// - No lock is held while a loader, a writer, a processor, a policy, a clock, or any method of a key or a value runs. While one call
-///   has reserved a key, other calls at this key wait, and all others don't; a `contains_key`, and a `get` that finds the entry, don't
-///   wait either.
+/// - No lock is held while a loader, a writer, a processor, a policy, a clock, or any method of a key or a value runs, but for `Eq` of
+///   keys: as in a map in a `Mutex`, it must not call the cache. While one call has reserved a key, other calls at this key wait, and
+///   all others don't; a `contains_key`, and a `get` that finds the entry, don't wait either.
 /// - A loader, writer or processor may call the cache at other keys. Where it would wait for itself it gets
 ///   [`Error::WouldDeadlock`].
 ///
@@ -38,10 +38,10 @@ where
     L: Loader<K, V>,
     W: Writer<K, V>,
 {
-    stripes: Box<[Stripe<K, V, L::Error>]>,
+    stripes: Arc<[Stripe<K, V, L::Error>]>,
     lives: Arc<Lives<K, V>>,
     hashing: Hashing,
-    loader: L,
+    loader: Arc<L>,
     writer: W,
 }
 
@@ -61,7 +61,7 @@ pub type CacheBegun<'c, K, V, L, W> =
     Begun<'c, K, V, <L as Loader<K, V>>::Error, <W as Writer<K, V>>::Error>;
 
 impl<K, V> Cache<K, V> {
-    /// Begins to build a cache: 16 stripes of 1,024 entries, no loader, no writer, and entries that don't expire.
+    /// Begins to build a cache: 65,536 entries in 16 stripes, no loader, no writer, and entries that don't expire.
     pub fn builder() -> Builder<K, V> {
         Builder::new()
     }
@@ -86,9 +86,8 @@ where
         Q: Eq + Hash + ToOwned<Owned = K> + ?Sized,
     {
         let hash = self.hashing.hash_one(key);
-        let stripe = self.stripe(hash);
-        match stripe.hit(hash, |held| held.borrow() == key)? {
-            Some(value) => Ok(Some(value)),
+        match self.hit(hash, |held| held.borrow() == key)? {
+            Some(found) => Ok(found),
             None => value_of(self.call_at(Arc::new(key.to_owned()), hash, &Op::Get, None)),
         }
     }
@@ -248,7 +247,7 @@ where
         life: Option<Duration>,
     ) -> Result<Reply<V>, CacheError<K, V, L, W>> {
         loop {
-            match self.begin_at(&key, hash, op, life)? {
+            match self.begin_at(&key, hash, op, life, Owner::ThisThread)? {
                 Begun::Done(reply) => return Ok(reply),
                 Begun::Load(ticket) => {
                     let asked = ticket.ask();
@@ -288,11 +287,25 @@ where
         op: &Op<V>,
     ) -> Result<CacheBegun<'_, K, V, L, W>, CacheError<K, V, L, W>> {
         let hash = self.hash_of(&key);
-        self.begin_at(&Arc::new(key), hash, op, None)
+        self.begin_at(&Arc::new(key), hash, op, None, Owner::Anybody)
     }
 
-    pub(crate) fn hash_of(&self, key: &K) -> u64 {
+    pub(crate) fn hash_of<Q: Hash + ?Sized>(&self, key: &Q) -> u64 {
         self.hashing.hash_one(key)
+    }
+
+    /// What a `get` finds that needs no other phase.
+    #[inline]
+    pub(crate) fn hit(
+        &self,
+        hash: u64,
+        is_key: impl Fn(&K) -> bool,
+    ) -> Result<Option<Option<Arc<V>>>, CacheError<K, V, L, W>> {
+        Ok(self.stripe(hash).hit(hash, is_key)?)
+    }
+
+    pub(crate) fn reads_through(&self) -> bool {
+        self.stripes[0].has_read_through
     }
 
     pub(crate) fn begin_at(
@@ -301,12 +314,14 @@ where
         hash: u64,
         op: &Op<V>,
         life: Option<Duration>,
+        owner: Owner,
     ) -> Result<CacheBegun<'_, K, V, L, W>, CacheError<K, V, L, W>> {
         let call = Call {
             key,
             hash,
             op,
             life,
+            owner,
         };
         call::begin(self.stripe(hash), &call)
     }
@@ -319,9 +334,9 @@ where
     W: Writer<K, V>,
 {
     pub(crate) fn new(
-        stripes: Box<[Stripe<K, V, L::Error>]>,
+        stripes: Arc<[Stripe<K, V, L::Error>]>,
         lives: Arc<Lives<K, V>>,
-        loader: L,
+        loader: Arc<L>,
         writer: W,
     ) -> Self {
         Cache {
@@ -333,9 +348,8 @@ where
         }
     }
 
-    /// The table of a stripe has its buckets by the lowest bits of a hash, and its tags by the highest.
-    fn stripe(&self, hash: u64) -> &Stripe<K, V, L::Error> {
-        &self.stripes[(hash >> 32) as usize % self.stripes.len()]
+    pub(crate) fn stripe(&self, hash: u64) -> &Stripe<K, V, L::Error> {
+        of_hash(&self.stripes, hash)
     }
 
     pub(crate) fn stripes(&self) -> &[Stripe<K, V, L::Error>] {
@@ -362,7 +376,7 @@ where
     /// [`Error::Closed`].
     pub fn stats(&self) -> Result<Statistics, CacheError<K, V, L, W>> {
         let mut sum = Statistics::default();
-        for stripe in &self.stripes {
+        for stripe in self.stripes.iter() {
             sum = sum + stripe.statistics()?;
         }
         Ok(sum)
@@ -373,10 +387,18 @@ where
     /// # Errors
     /// [`Error::Closed`].
     pub fn keys(&self) -> Result<Vec<Arc<K>>, CacheError<K, V, L, W>> {
+        self.list_keys(false)
+    }
+
+    /// The same, with those that are known to be absent, or without.
+    pub(crate) fn list_keys(
+        &self,
+        with_absent: bool,
+    ) -> Result<Vec<Arc<K>>, CacheError<K, V, L, W>> {
         let now = self.lives.now();
         let mut keys = Vec::new();
-        for stripe in &self.stripes {
-            keys.append(&mut stripe.keys(now)?);
+        for stripe in self.stripes.iter() {
+            keys.append(&mut stripe.keys(now, with_absent)?);
         }
         Ok(keys)
     }
@@ -388,7 +410,7 @@ where
     pub fn len(&self) -> Result<usize, CacheError<K, V, L, W>> {
         let now = self.lives.now();
         let mut sum = 0;
-        for stripe in &self.stripes {
+        for stripe in self.stripes.iter() {
             sum += stripe.len(now)?;
         }
         Ok(sum)
@@ -410,7 +432,7 @@ where
 
     /// Closes the cache: later calls, and those that wait to begin, fail with [`Error::Closed`]. Calls under way end as they would.
     pub fn close(&self) {
-        for stripe in &self.stripes {
+        for stripe in self.stripes.iter() {
             stripe.close();
         }
     }

@@ -12,11 +12,11 @@
 //! | a [`Join`], a [`Busy`] | nothing |
 //!
 //! If a panic drops an asked load, those who have joined it fail with [`Error::LoaderPanicked`]. Who drops an asked write, and doesn't
-//! know what the store has then, uncaches the key: [`Op::Clear`](crate::Op::Clear).
+//! know what the store has then, forgets the key: [`Cache::invalidate`](crate::Cache::invalidate).
 //!
-//! Who has a ticket or an asked call should await nothing but its store: whoever waits for the key waits for that. Entries
-//! [expire](crate::Expiry) here as in whole calls: a first phase that meets an expired entry uncaches it, or is [`Begun::Busy`] if the
-//! key is reserved; a commit asks the policy.
+//! Who has a ticket or an asked call should await nothing but its store: whoever waits for the key waits for that, and since any
+//! thread may end such a call, a thread that holds it itself isn't told that it would wait for ever. Entries [expire](crate::Expiry) here as in whole calls: a first phase that meets an expired entry uncaches it, or is [`Begun::Busy`] if the
+//! key is reserved (a [`ContainsKey`](crate::Op::ContainsKey) is answered); a commit asks the policy.
 use crate::Error;
 use crate::core::{self, Written};
 use crate::op::Reply;
@@ -186,6 +186,17 @@ impl<K, V, L, W> AskedLoad<'_, K, V, L, W> {
         self.commit_shared(loaded)
     }
 
+    /// The same; it answers what was loaded, also of a call that has no value for its reply.
+    pub(crate) fn commit_value(
+        self,
+        loaded: Result<Option<V>, L>,
+    ) -> Result<Option<Arc<V>>, Error<L, W>> {
+        let loaded = loaded.map(|found| found.map(Arc::new));
+        let value = loaded.as_ref().ok().cloned().flatten();
+        let loaded = loaded.map_err(|error| Failure::Error(Arc::new(error)));
+        self.commit_shared(loaded).map(|_| value)
+    }
+
     /// Ends the call with an error of the loader that other calls have, too.
     pub(crate) fn commit_failed(self, error: Arc<L>) -> Result<Reply<V>, Error<L, W>> {
         self.commit_shared(Err(Failure::Error(error)))
@@ -240,8 +251,9 @@ impl<K, V, L, W> AskedWrite<'_, K, V, L, W> {
 
     /// What the writer is to do.
     pub fn change(&self) -> Change<'_, V> {
-        match &self.held.out.brought {
-            Some(value) => Change::Write(&value.value),
+        let brought = self.held.out.brought.as_ref();
+        match brought.and_then(|brought| brought.value.as_deref()) {
+            Some(value) => Change::Write(value),
             None => Change::Delete,
         }
     }

@@ -64,22 +64,45 @@ impl<L: StdError + 'static, W: StdError + 'static> StdError for Error<L, W> {
 
 /// Why a call of many keys failed: at some of its keys, or as a whole.
 #[derive(Debug)]
-pub struct BulkError<K, L, W> {
+pub struct BulkError<K, V, L, W> {
     /// The first failure.
     pub error: Error<L, W>,
     /// The keys that failed, and those that a call which was stopped has not reached. At all others it took effect.
     pub failed: Vec<K>,
+    /// What a [`get_all`](crate::Cache::get_all) has found at the others, of those that have a value.
+    pub found: Vec<(K, Arc<V>)>,
 }
 
-impl<K, L: fmt::Display, W: fmt::Display> fmt::Display for BulkError<K, L, W> {
-    fn fmt(&self, f: &mut fmt::Formatter<'_>) -> fmt::Result {
-        write!(f, "{} ({} keys failed)", self.error, self.failed.len())
+/// How many failed keys a text names, and how long each may be.
+const NAMED: usize = 3;
+const NAME_MAX: usize = 40;
+
+/// A key's `Debug`, cut.
+fn name(key: &impl fmt::Debug) -> String {
+    let text = format!("{key:?}");
+    match text.char_indices().nth(NAME_MAX) {
+        Some((end, _)) => format!("{}..", &text[..end]),
+        None => text,
     }
 }
 
-impl<K, L, W> StdError for BulkError<K, L, W>
+impl<K: fmt::Debug, V, L: fmt::Display, W: fmt::Display> fmt::Display for BulkError<K, V, L, W> {
+    fn fmt(&self, f: &mut fmt::Formatter<'_>) -> fmt::Result {
+        let mut names: Vec<String> = self.failed.iter().take(NAMED).map(name).collect();
+        if self.failed.len() > NAMED {
+            names.push(format!("and {} more", self.failed.len() - NAMED));
+        }
+        match names.is_empty() {
+            true => write!(f, "{} (at no key)", self.error),
+            false => write!(f, "{} (at {})", self.error, names.join(", ")),
+        }
+    }
+}
+
+impl<K, V, L, W> StdError for BulkError<K, V, L, W>
 where
     K: fmt::Debug,
+    V: fmt::Debug,
     L: StdError + 'static,
     W: StdError + 'static,
 {
@@ -89,11 +112,18 @@ where
 }
 
 /// Why a cache can't be built.
-#[derive(Clone, Copy, Debug, PartialEq, Eq)]
+#[derive(Clone, Debug, PartialEq, Eq)]
 #[non_exhaustive]
 pub enum BuildError {
-    /// Stripes are 1 to 4,096 (of a cache of bytes to 64), the capacity of a stripe is 1 to 4,096, a history 16 to 65,536 events.
-    Limits,
+    /// An option of the builder is out of its limits.
+    Option {
+        /// Its method's name.
+        option: &'static str,
+        /// What it was given, as `Debug` writes it.
+        given: String,
+        /// What it has to be.
+        wanted: String,
+    },
     /// An allocation failed.
     NoMemory,
     /// The library that `CADWRELCH_CORE` named at the build is of another version: 1,000,000 * major + 1,000 * minor + patch.
@@ -118,9 +148,10 @@ impl fmt::Display for Version {
 impl fmt::Display for BuildError {
     fn fmt(&self, f: &mut fmt::Formatter<'_>) -> fmt::Result {
         match self {
-            BuildError::Limits => f.write_str(
-                "stripes are 1 to 4,096 (of a cache of bytes to 64), capacity is 1 to 4,096 a stripe, history 16 to 65,536",
-            ),
+            #[rustfmt::skip]
+            BuildError::Option { option, given, wanted } => {
+                write!(f, "{option} is {given}: it has to be {wanted}")
+            }
             BuildError::NoMemory => f.write_str("out of memory"),
             BuildError::Version { found, wanted } => write!(
                 f,
@@ -137,12 +168,12 @@ impl StdError for BuildError {}
 impl From<core::Code> for BuildError {
     fn from(code: core::Code) -> BuildError {
         match code {
-            core::Code::NoMemory => BuildError::NoMemory,
             core::Code::WrongVersion => BuildError::Version {
                 found: core::version(),
                 wanted: core::VERSION,
             },
-            _ => BuildError::Limits,
+            // The shape was within its limits.
+            _ => BuildError::NoMemory,
         }
     }
 }

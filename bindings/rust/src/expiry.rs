@@ -2,6 +2,7 @@
 use crate::cache::{Cache, CacheBegun, CacheError, flag_of, value_of};
 use crate::op::{Expected, Op};
 use crate::outside::{Loader, Writer};
+use crate::step::Owner;
 use std::hash::Hash;
 use std::sync::Arc;
 use std::time::Duration;
@@ -174,7 +175,7 @@ where
     ) -> Result<CacheBegun<'_, K, V, L, W>, CacheError<K, V, L, W>> {
         self.lives().turn_on();
         let hash = self.hash_of(&key);
-        self.begin_at(&Arc::new(key), hash, op, Some(life))
+        self.begin_at(&Arc::new(key), hash, op, Some(life), Owner::Anybody)
     }
 }
 

@@ -3,6 +3,7 @@ use crate::cache::{Cache, CacheError};
 use crate::call::{Begun, Processing};
 use crate::op::Op;
 use crate::outside::{Loader, Writer, in_call};
+use crate::step::Owner;
 use std::hash::Hash;
 use std::sync::Arc;
 use std::time::Duration;
@@ -14,7 +15,15 @@ pub struct Entry<'c, K, V, L: Loader<K, V>, W: Writer<K, V>> {
     loader: &'c L,
 }
 
-impl<K, V, L: Loader<K, V>, W: Writer<K, V>> Entry<'_, K, V, L, W> {
+impl<'c, K, V, L: Loader<K, V>, W: Writer<K, V>> Entry<'c, K, V, L, W> {
+    pub(crate) fn new(processing: Processing<'c, K, V, L::Error, W::Error>, loader: &'c L) -> Self {
+        Entry { processing, loader }
+    }
+
+    pub(crate) fn into_processing(self) -> Processing<'c, K, V, L::Error, W::Error> {
+        self.processing
+    }
+
     /// The entry's key.
     pub fn key(&self) -> &K {
         self.processing.key()
@@ -87,12 +96,9 @@ where
         key: K,
         processor: impl FnOnce(&mut Entry<'_, K, V, L, W>) -> Result<T, CacheError<K, V, L, W>>,
     ) -> Result<T, CacheError<K, V, L, W>> {
-        let mut entry = Entry {
-            processing: self.processing(key)?,
-            loader: self.loader(),
-        };
+        let mut entry = Entry::new(self.processing(key)?, self.loader());
         let result = in_call(|| processor(&mut entry));
-        let mut processing = entry.processing;
+        let mut processing = entry.into_processing();
         let value = match result {
             Ok(value) => value,
             Err(error) => return Err(processing.end_failed().unwrap_or(error)),
@@ -113,7 +119,7 @@ where
         let hash = self.hash_of(&key);
         let key = Arc::new(key);
         loop {
-            match self.begin_at(&key, hash, &Op::Invoke, None)? {
+            match self.begin_at(&key, hash, &Op::Invoke, None, Owner::ThisThread)? {
                 Begun::Process(ticket) => return Ok(ticket.ask()),
                 Begun::Busy(busy) => busy.wait()?,
                 _ => unreachable!("an invoke runs its processor, or is refused"),

@@ -3,10 +3,12 @@
 //! An entry has three deadlines: its own, of the policy or of the call that brought its value; that of the cache's time to live; and
 //! that of its time to idle. It has expired once the first of them has come.
 use crate::expiry::Expiry;
+use crate::refresh::Reload;
+use crate::table::Slot;
 use std::fmt;
 use std::panic::{RefUnwindSafe, UnwindSafe};
-use std::sync::Arc;
 use std::sync::atomic::{AtomicBool, Ordering::Relaxed};
+use std::sync::{Arc, OnceLock};
 use std::time::{Duration, Instant};
 
 /// Nanoseconds of a cache's clock.
@@ -25,6 +27,8 @@ type Clock = Arc<dyn Fn() -> Duration + Send + Sync>;
 pub(crate) struct Times<K, V> {
     pub live: Option<Duration>,
     pub idle: Option<Duration>,
+    pub refresh: Option<Duration>,
+    pub absent: Option<Duration>,
     pub policy: Option<Policy<K, V>>,
     pub clock: Option<Clock>,
 }
@@ -34,6 +38,8 @@ impl<K, V> Default for Times<K, V> {
         Times {
             live: None,
             idle: None,
+            refresh: None,
+            absent: None,
             policy: None,
             clock: None,
         }
@@ -45,6 +51,8 @@ impl<K, V> Clone for Times<K, V> {
         Times {
             live: self.live,
             idle: self.idle,
+            refresh: self.refresh,
+            absent: self.absent,
             policy: self.policy.clone(),
             clock: self.clock.clone(),
         }
@@ -56,6 +64,8 @@ impl<K, V> fmt::Debug for Times<K, V> {
         f.debug_struct("Times")
             .field("live", &self.live)
             .field("idle", &self.idle)
+            .field("refresh", &self.refresh)
+            .field("absent", &self.absent)
             .field("has_policy", &self.policy.is_some())
             .finish_non_exhaustive()
     }
@@ -67,6 +77,8 @@ pub(crate) struct Life {
     own: Nanos,
     live: Nanos,
     idle: Nanos,
+    /// When it is to be loaded again.
+    old: Nanos,
 }
 
 impl Life {
@@ -74,6 +86,15 @@ impl Life {
         own: NEVER,
         live: NEVER,
         idle: NEVER,
+        old: NEVER,
+    };
+
+    /// Of an entry that nobody is to see, also while the clock isn't read. A step that gives it no value changes nothing of that.
+    pub(crate) const OVER: Life = Life {
+        own: 0,
+        live: 0,
+        idle: 0,
+        old: NEVER,
     };
 
     #[inline]
@@ -119,6 +140,7 @@ pub(crate) struct Renewal {
     own: Option<Nanos>,
     live: Nanos,
     idle: Nanos,
+    old: Nanos,
 }
 
 impl Renewal {
@@ -128,6 +150,7 @@ impl Renewal {
         own: Some(NEVER),
         live: NEVER,
         idle: NEVER,
+        old: NEVER,
     };
 
     /// The life of an entry after a step, by which it has got a value or not.
@@ -142,6 +165,7 @@ impl Renewal {
                 own: self.own.unwrap_or(before),
                 live: self.live,
                 idle: self.idle,
+                old: self.old,
             };
         } else if self.question == Some(Question::Read) {
             life.own = self.own.unwrap_or(life.own);
@@ -156,8 +180,12 @@ pub(crate) struct Lives<K, V> {
     is_on: AtomicBool,
     live: Option<Nanos>,
     idle: Option<Nanos>,
+    refresh: Option<Nanos>,
+    absent: Option<Nanos>,
     policy: Option<Policy<K, V>>,
     clock: Clock,
+    /// Loads an old entry again, once the cache has set it.
+    reload: OnceLock<Reload<K>>,
 }
 
 // Policy and clock are called with nothing half done.
@@ -166,11 +194,15 @@ impl<K, V> RefUnwindSafe for Lives<K, V> {}
 
 impl<K, V> Lives<K, V> {
     pub(crate) fn new(times: Times<K, V>) -> Self {
-        let is_on = times.live.is_some() || times.idle.is_some() || times.policy.is_some();
+        let set = [times.live, times.idle, times.refresh, times.absent];
+        let is_on = set.iter().any(Option::is_some) || times.policy.is_some();
         Lives {
             is_on: is_on.into(),
             live: times.live.map(nanos),
             idle: times.idle.map(nanos),
+            refresh: times.refresh.map(nanos),
+            absent: times.absent.map(nanos),
+            reload: OnceLock::new(),
             policy: times.policy,
             clock: times.clock.unwrap_or_else(|| {
                 let start = Instant::now();
@@ -243,7 +275,46 @@ impl<K, V> Lives<K, V> {
             },
             live,
             idle: after(self.idle),
+            old: after(self.refresh),
         }
+    }
+
+    /// Whether it is remembered that a `get` has found nothing.
+    pub(crate) fn remembers(&self) -> bool {
+        self.absent.is_some()
+    }
+
+    /// The life of an entry that says so.
+    pub(crate) fn absence(&self, now: Nanos) -> Renewal {
+        Renewal {
+            own: self.absent.map(|time| now.saturating_add(time)),
+            ..Renewal::NONE
+        }
+    }
+
+    /// The key of an entry that is to be loaded again, since a `get` has found it old. Until it is old once more, no other `get` has it
+    /// loaded.
+    #[inline]
+    pub(crate) fn claim<E>(&self, slot: &mut Slot<K, V, E>, now: Nanos) -> Option<Arc<K>> {
+        let refresh = self.refresh?;
+        if now < slot.life.old || !slot.is_cached(now) {
+            return None;
+        }
+        slot.life.old = now.saturating_add(refresh);
+        Some(slot.key().clone())
+    }
+
+    /// Has a key that was claimed loaded again, with no lock held.
+    #[inline]
+    pub(crate) fn reload(&self, key: Option<Arc<K>>, hash: u64) {
+        if let (Some(key), Some(reload)) = (key, self.reload.get()) {
+            reload(key, hash);
+        }
+    }
+
+    /// From now on old entries are loaded again.
+    pub(crate) fn set_reload(&self, reload: Reload<K>) {
+        let _ = self.reload.set(reload);
     }
 }
 

@@ -1,6 +1,8 @@
 //! The loader and the writer: what a cache has behind it.
 use std::cell::Cell;
 use std::convert::Infallible;
+use std::fmt;
+use std::marker::PhantomData;
 use std::sync::Arc;
 
 /// Reads the store.
@@ -57,15 +59,18 @@ pub trait Loader<K: ?Sized, V> {
     /// Its own: the call fails with [`Error::Loader`](crate::Error::Loader), and so do those that have joined it.
     fn load(&self, key: &K) -> Result<Option<V>, Self::Error>;
 
-    /// The store's value of each of these keys, in their order. If the answer is shorter, the other keys have no value. Without a
-    /// method of its own it asks for one key after the other, up to the first failure.
+    /// What the store has of each of these keys, in their order, or why that key has failed. If the answer is shorter, the other keys
+    /// have no value. Without a method of its own it asks for one key after the other, also after a failure.
     ///
     /// # Errors
     /// Its own: each of these keys has failed.
-    fn load_all(&self, keys: &[&K]) -> Result<Vec<Option<V>>, Self::Error> {
-        keys.iter().map(|key| self.load(key)).collect()
+    fn load_all(&self, keys: &[&K]) -> Result<Vec<Found<V, Self::Error>>, Self::Error> {
+        Ok(keys.iter().map(|key| self.load(key)).collect())
     }
 }
+
+/// What a loader answers of one of many keys: its value, if it has one, or why it has failed.
+pub type Found<V, E> = Result<Option<V>, E>;
 
 impl<F, K: ?Sized, V, E> Loader<K, V> for F
 where
@@ -152,6 +157,45 @@ impl<K: ?Sized, V> Loader<K, V> for NoLoader {
     }
 }
 
+/// There is no loader of the cache's own: calls bring theirs, as [`get_or_load_with`](crate::Cache::get_or_load_with), or ask in
+/// [phases](crate::call). It finds nothing, and says of what kind their errors are.
+pub struct ByCall<E>(PhantomData<fn() -> E>);
+
+impl<E> ByCall<E> {
+    /// One whose calls have errors of this kind.
+    pub fn new() -> ByCall<E> {
+        ByCall(PhantomData)
+    }
+}
+
+impl<E> Default for ByCall<E> {
+    fn default() -> Self {
+        ByCall::new()
+    }
+}
+
+impl<E> Clone for ByCall<E> {
+    fn clone(&self) -> Self {
+        *self
+    }
+}
+
+impl<E> Copy for ByCall<E> {}
+
+impl<E> fmt::Debug for ByCall<E> {
+    fn fmt(&self, f: &mut fmt::Formatter<'_>) -> fmt::Result {
+        f.write_str("ByCall")
+    }
+}
+
+impl<K: ?Sized, V, E> Loader<K, V> for ByCall<E> {
+    type Error = E;
+
+    fn load(&self, _key: &K) -> Result<Option<V>, E> {
+        Ok(None)
+    }
+}
+
 /// There is no writer: the cache is all that is changed.
 #[derive(Clone, Copy, Debug, Default)]
 pub struct NoWriter;
@@ -185,7 +229,7 @@ impl<K: ?Sized, V, T: Loader<K, V> + ?Sized> Loader<K, V> for Shared<T> {
         self.0.load(key)
     }
 
-    fn load_all(&self, keys: &[&K]) -> Result<Vec<Option<V>>, T::Error> {
+    fn load_all(&self, keys: &[&K]) -> Result<Vec<Found<V, T::Error>>, T::Error> {
         self.0.load_all(keys)
     }
 }

@@ -247,6 +247,17 @@ impl<'c, K, V, L, W> Processing<'c, K, V, L, W> {
         }
     }
 
+    /// Ends the call with whether a writer of many keys has written its change; None: there is none. The error of a load that failed; of
+    /// a writer that did, None.
+    pub(crate) fn end(mut self, is_written: Option<bool>) -> Result<(), Option<Error<L, W>>> {
+        let failure = self.held.process.load_failure();
+        let answer = self.held.process.answer(is_written.map(written));
+        match self.held.commit(&answer) {
+            Ok(_) => Ok(()),
+            Err(_) => Err(failure.map(Failure::into)),
+        }
+    }
+
     /// Ends the call with a failure of the processor: nothing of it counts. It returns that error, or that of a load, which comes
     /// before it.
     pub fn fail(self, error: impl Into<Box<dyn std::error::Error + Send + Sync>>) -> Error<L, W> {

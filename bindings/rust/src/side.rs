@@ -1,11 +1,11 @@
 //! What the mutex of a stripe guards: a desk, its table, and who has a call out.
 use crate::core::{self, Asked, Desk, Done, PickedUp, Refusal, Shape, Ticket};
 use crate::lives::{Nanos, Renewal};
-use crate::op::Reply;
+use crate::op::{Op, Reply};
 use crate::step::{AT_ONCE, Answer, Blocked, Call, Effect, Fault, First, Out, Sessions, Stop};
 use crate::step::{bytes_of, found_of, numbered};
-use crate::table::{Failure, Flight, Leavings, Table, Versioned};
-use crate::waiting::{Waiters, this_thread};
+use crate::table::{Failure, Fate, Flight, Leavings, Table, Versioned};
+use crate::waiting::Waiters;
 use std::sync::atomic::Ordering::Relaxed;
 use std::sync::{Arc, OnceLock};
 
@@ -19,16 +19,22 @@ pub(crate) struct Side<K, V, E> {
     pub is_closed: bool,
     /// How many commits, withdrawals and pick-ups there were.
     changes: u64,
+    /// Whether the entries stay that calls leave.
+    pub keeps: bool,
+    /// Whether it is remembered that a `get` has found nothing.
+    remembers: bool,
 }
 
 impl<K, V, E> Side<K, V, E> {
-    pub(crate) fn open(shape: &Shape) -> Result<Self, core::Code> {
+    pub(crate) fn open(shape: &Shape, remembers: bool) -> Result<Self, core::Code> {
         Ok(Side {
             desk: Desk::open(shape, 0, &[])?,
             table: Table::new(),
             sessions: Sessions::new(),
             is_closed: false,
             changes: 0,
+            keeps: true,
+            remembers,
         })
     }
 
@@ -48,9 +54,11 @@ impl<K, V, E> Side<K, V, E> {
         !self.is_closed && !is_over
     }
 
-    pub(crate) fn hit(&mut self, slot: usize) -> Option<Arc<V>> {
+    /// What a `get` finds that needs no other phase.
+    #[inline]
+    pub(crate) fn hit(&mut self, slot: usize, now: Nanos) -> Option<Option<Arc<V>>> {
         let slot = self.table.slot(slot);
-        let entry = slot.entry.as_ref()?;
+        let entry = slot.entry.as_ref().filter(|_| !slot.life.is_over(now))?;
         let hit = self.desk.hit(AT_ONCE, &slot.id.bytes());
         let value = hit.expect("the desk is open")?;
         assert_eq!(value, entry.bytes(), "the core has another value");
@@ -67,8 +75,11 @@ impl<K, V, E> Side<K, V, E> {
         leavings: &mut Leavings<K, V, E>,
     ) -> Result<First<K, V, E>, Stop> {
         let brought = call.op.brought();
-        let brought = brought.map(|value| self.table.version(value.clone()));
+        let brought = brought.map(|value| self.table.version(Some(value.clone())));
         let first = self.step(call, slot, old, brought, renewal, leavings);
+        if !self.keeps && matches!(first, Ok(First::Done(_))) {
+            self.drop_entry(slot, leavings);
+        }
         self.table.release(slot, &mut leavings.keys[0]);
         first
     }
@@ -143,13 +154,19 @@ impl<K, V, E> Side<K, V, E> {
         brought: Option<Versioned<V>>,
     ) -> Out<K, V, E> {
         let flight = Arc::new(Flight {
-            owner: this_thread(),
+            owner: call.owner.number(),
             number: ticket.0,
             is_over: false.into(),
             found: OnceLock::new(),
             waiters: Waiters::default(),
         });
-        self.table.slot(slot).flight = Some(flight.clone());
+        let reserved = self.table.slot(slot);
+        reserved.flight = Some(flight.clone());
+        reserved.fate = if self.keeps {
+            Fate::Stays
+        } else {
+            Fate::Dropped
+        };
         self.take_out(call, slot, session, flight, brought)
     }
 
@@ -170,6 +187,7 @@ impl<K, V, E> Side<K, V, E> {
             flight,
             brought,
             life: call.life,
+            is_get: matches!(call.op, Op::Get),
         }
     }
 
@@ -192,6 +210,41 @@ impl<K, V, E> Side<K, V, E> {
             }
             Asked::Refused(refusal) => self.refused(slot, refusal).map(Some),
             _ => unreachable!("a clear asks nobody"),
+        }
+    }
+
+    /// Uncaches the entry of a key that isn't reserved. While the history has no room for that step, it is there, and hidden.
+    pub(crate) fn drop_entry(&mut self, slot: usize, leavings: &mut Leavings<K, V, E>) {
+        let held = self.table.slot(slot);
+        if held.entry.is_some() {
+            held.hide();
+            let mut dropped = Leavings::default();
+            let _ = self.expire(slot, &mut dropped);
+            leavings.dropped = Some(Box::new(dropped));
+        }
+    }
+
+    /// Uncaches the entry of a key; if the key is reserved, when that reservation ends.
+    pub(crate) fn invalidate(&mut self, slot: usize, leavings: &mut Leavings<K, V, E>) {
+        let held = self.table.slot(slot);
+        if held.flight.is_some() {
+            held.fate = Fate::Overtaken;
+            held.hide();
+        } else {
+            self.drop_entry(slot, leavings);
+        }
+    }
+
+    /// The same in these slots.
+    pub(crate) fn invalidate_some(
+        &mut self,
+        slots: std::ops::Range<usize>,
+        leavings: &mut Vec<Leavings<K, V, E>>,
+    ) {
+        for slot in slots {
+            let mut left = Leavings::default();
+            self.invalidate(slot, &mut left);
+            leavings.push(left);
         }
     }
 
@@ -224,12 +277,18 @@ impl<K, V, E> Side<K, V, E> {
         leavings: &mut Leavings<K, V, E>,
     ) -> Result<Reply<V>, Fault> {
         let ticket = Ticket(out.flight.number);
-        let Side { desk, table, .. } = self;
+        let Side {
+            desk,
+            table,
+            remembers,
+            ..
+        } = self;
+        let remembers = *remembers;
         let mut loaded = None;
         let mut brought = out.brought.clone();
         let done = match answer {
             Answer::Load(load) => {
-                let found = found_of(table, load);
+                let found = found_of(table, load, remembers && out.is_get);
                 loaded = found.as_ref().ok().cloned().flatten();
                 brought = loaded.clone();
                 let bytes = bytes_of(brought.as_ref());
@@ -332,10 +391,10 @@ fn commit_process<'d, K, V, E>(
     else {
         unreachable!("a processor has answered");
     };
-    let found = load.as_ref().map(|load| found_of(table, load));
+    let found = load.as_ref().map(|load| found_of(table, load, false));
     let found_value = found.as_ref().and_then(|it| it.as_ref().ok()?.as_ref());
     let set = match effect {
-        Effect::Set(value) => Some(table.version(value.clone())),
+        Effect::Set(value) => Some(table.version(Some(value.clone()))),
         _ => None,
     };
     let (found_bytes, set_bytes) = (bytes_of(found_value), bytes_of(set.as_ref()));

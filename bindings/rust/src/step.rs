@@ -3,6 +3,7 @@ use crate::core::{self, Written};
 use crate::lives::Question;
 use crate::op::{Op, Reply};
 use crate::table::{Failure, Flight, Found, Table, Versioned};
+use crate::waiting::{NOBODY, this_thread};
 use std::sync::Arc;
 use std::time::Duration;
 
@@ -44,6 +45,25 @@ pub(crate) struct Call<'a, K, V> {
     pub op: &'a Op<V>,
     /// How long the value lives that the operation brings, if it has a life of its own.
     pub life: Option<Duration>,
+    /// Who ends the call: this thread, or, of a call in phases, anybody.
+    pub owner: Owner,
+}
+
+/// Who ends a call that has reserved a key.
+#[derive(Clone, Copy, Debug, PartialEq, Eq)]
+pub(crate) enum Owner {
+    ThisThread,
+    Anybody,
+}
+
+impl Owner {
+    /// By which the register of waits knows it.
+    pub(crate) fn number(self) -> u64 {
+        match self {
+            Owner::ThisThread => this_thread(),
+            Owner::Anybody => NOBODY,
+        }
+    }
 }
 
 /// A call that has something out at a stripe.
@@ -55,6 +75,8 @@ pub(crate) struct Out<K, V, E> {
     /// The value that the operation brings, and its life, if that is its own.
     pub brought: Option<Versioned<V>>,
     pub life: Option<Duration>,
+    /// Whether it is a `get`, of which it may be remembered that it found nothing.
+    pub is_get: bool,
 }
 
 /// What the first phase of a call asks for.
@@ -118,7 +140,9 @@ impl<V, E> Answer<V, E> {
             Answer::Load(load) => load.as_ref().ok()?.clone(),
             Answer::Write(write) => {
                 has_written(write).then_some(())?;
-                out.brought.as_ref().map(|brought| brought.value.clone())
+                out.brought
+                    .as_ref()
+                    .and_then(|brought| brought.value.clone())
             }
             Answer::Process {
                 load,
@@ -141,7 +165,7 @@ impl<V, E> Answer<V, E> {
             (Some(value), Some(_)) => Some((Question::Update, value)),
             (None, entry) => {
                 let entry = entry.filter(|_| self.has_only_read())?;
-                Some((Question::Read, entry.value.clone()))
+                Some((Question::Read, entry.value.clone()?))
             }
         }
     }
@@ -207,10 +231,15 @@ impl Sessions {
     }
 }
 
-pub(crate) fn found_of<K, V, E>(table: &mut Table<K, V, E>, load: &Loaded<V, E>) -> Found<V, E> {
+/// What a load found, with a version. That there is nothing may be remembered.
+pub(crate) fn found_of<K, V, E>(
+    table: &mut Table<K, V, E>,
+    load: &Loaded<V, E>,
+    is_remembered: bool,
+) -> Found<V, E> {
     match load {
-        Ok(Some(value)) => Ok(Some(table.version(value.clone()))),
-        Ok(None) => Ok(None),
+        Ok(None) if !is_remembered => Ok(None),
+        Ok(found) => Ok(Some(table.version(found.clone()))),
         Err(failure) => Err(failure.clone()),
     }
 }

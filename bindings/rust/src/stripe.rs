@@ -1,14 +1,14 @@
-//! One stripe: a desk and its table under a mutex, the last phases of calls, and who waits. First phases are in `first`. Nothing of the
-//! user's is called while the mutex is held.
+//! One stripe: a desk and its table under a mutex, the last phases of calls, and who waits. First phases are in `first`. Of the user's,
+//! only whether keys are equal is asked while the mutex is held.
 use crate::core::{self, Shape, Statistics, Ticket};
 use crate::lives::{Asking, Lives, Nanos, Renewal};
 use crate::op::Reply;
 use crate::outside::in_call;
 use crate::side::Side;
 use crate::step::{Answer, Blocked, Fault, Out, Stop};
-use crate::table::{Failure, Flight, Leavings};
+use crate::table::{Failure, Fate, Flight, Leavings};
 use crate::waiting::{self, Seat, Waiters};
-use std::panic::{AssertUnwindSafe, catch_unwind, resume_unwind};
+use std::panic::{AssertUnwindSafe, RefUnwindSafe, UnwindSafe, catch_unwind, resume_unwind};
 use std::sync::atomic::Ordering::Relaxed;
 use std::sync::{Arc, Mutex, MutexGuard};
 use std::task::Waker;
@@ -19,26 +19,57 @@ const SWEPT_AT_ONCE: usize = 64;
 /// What a joiner is told: None: the load isn't over. Some of None: it was withdrawn.
 type Picked<V, E> = Option<Option<Result<Reply<V>, Failure<E>>>>;
 
+/// Who is told what was evicted.
+pub(crate) type Listener<K, V> = Arc<dyn Fn(&Arc<K>, &Arc<V>) + Send + Sync>;
+
 pub(crate) struct Stripe<K, V, E> {
     side: Mutex<Side<K, V, E>>,
     /// Those who wait for any commit, withdrawal or pick-up.
     room: Waiters,
+    pub has_read_through: bool,
     pub has_write_through: bool,
+    listener: Option<Listener<K, V>>,
     pub lives: Arc<Lives<K, V>>,
 }
 
+// A listener is called with nothing half done, and all else is under a mutex.
+impl<K, V, E> UnwindSafe for Stripe<K, V, E> {}
+impl<K, V, E> RefUnwindSafe for Stripe<K, V, E> {}
+
+/// The stripe of a hash. The table of a stripe has its buckets by the lowest bits, and its tags by the highest.
+pub(crate) fn of_hash<K, V, E>(stripes: &[Stripe<K, V, E>], hash: u64) -> &Stripe<K, V, E> {
+    &stripes[(hash >> 32) as usize % stripes.len()]
+}
+
 impl<K, V, E> Stripe<K, V, E> {
-    pub(crate) fn open(shape: &Shape, lives: Arc<Lives<K, V>>) -> Result<Self, core::Code> {
+    pub(crate) fn open(
+        shape: &Shape,
+        lives: Arc<Lives<K, V>>,
+        listener: Option<Listener<K, V>>,
+    ) -> Result<Self, core::Code> {
         Ok(Stripe {
-            side: Mutex::new(Side::open(shape)?),
+            side: Mutex::new(Side::open(shape, lives.remembers())?),
             room: Waiters::default(),
+            has_read_through: shape.read_through,
             has_write_through: shape.write_through,
+            listener,
             lives,
         })
     }
 
     pub(crate) fn lock(&self) -> MutexGuard<'_, Side<K, V, E>> {
         self.side.lock().expect("a stripe's lock is poisoned")
+    }
+
+    /// Tells who listens what was evicted, with no lock held.
+    #[inline]
+    pub(crate) fn tell(&self, leavings: &Leavings<K, V, E>) {
+        let Some((key, entry)) = &leavings.evicted else {
+            return;
+        };
+        if let (Some(listener), Some(value)) = (&self.listener, &entry.value) {
+            in_call(|| listener(key, value));
+        }
     }
 
     fn reservation(&self, flight: &Flight<V, E>) -> waiting::Reservation {
@@ -59,6 +90,7 @@ impl<K, V, E> Stripe<K, V, E> {
         let reply = side.commit(out, answer, counts, &mut leavings);
         self.end(side, out, &mut leavings);
         drop(guard);
+        self.tell(&leavings);
         // The store was asked, so the call takes effect first.
         match renewal {
             Ok(_) => reply,
@@ -78,6 +110,9 @@ impl<K, V, E> Stripe<K, V, E> {
         // While the call had it reserved, it may have expired.
         let entry = slot.entry.as_ref().filter(|_| !slot.has_expired(now));
         let left = slot.life.left(now);
+        if out.is_get && matches!(answer, Answer::Load(Ok(None))) {
+            return lives.absence(now);
+        }
         let question = answer.question(out, entry);
         drop(guard);
         let given = answer.life(out);
@@ -107,7 +142,11 @@ impl<K, V, E> Stripe<K, V, E> {
     }
 
     fn end(&self, side: &mut Side<K, V, E>, out: &Out<K, V, E>, leavings: &mut Leavings<K, V, E>) {
-        leavings.flight = side.table.slot(out.slot).flight.take();
+        let slot = side.table.slot(out.slot);
+        leavings.flight = slot.flight.take();
+        if std::mem::replace(&mut slot.fate, Fate::Stays) != Fate::Stays {
+            side.drop_entry(out.slot, leavings);
+        }
         out.flight.is_over.store(true, Relaxed);
         if out.flight.waiters.wake(&mut leavings.wakers) {
             waiting::is_over(self.reservation(&out.flight));
@@ -238,12 +277,12 @@ impl<K, V, E> Stripe<K, V, E> {
         }
     }
 
-    /// The keys that are cached, but for those whose entry has expired by then.
-    pub(crate) fn keys(&self, now: Nanos) -> Result<Vec<Arc<K>>, Stop> {
+    /// The keys that are cached, but for those whose entry has expired by then; with those that are known to be absent, or without.
+    pub(crate) fn keys(&self, now: Nanos, with_absent: bool) -> Result<Vec<Arc<K>>, Stop> {
         let guard = self.lock();
         guard.check_open()?;
         let slots = guard.table.slots();
-        let slots = slots.filter(|slot| slot.entry.is_some() && !slot.has_expired(now));
+        let slots = slots.filter(|slot| slot.is_cached(now) || with_absent && slot.is_absent());
         Ok(slots.map(|slot| slot.key().clone()).collect())
     }
 
@@ -251,7 +290,7 @@ impl<K, V, E> Stripe<K, V, E> {
         let guard = self.lock();
         guard.check_open()?;
         let slots = guard.table.slots();
-        let cached = slots.filter(|slot| slot.entry.is_some() && !slot.has_expired(now));
+        let cached = slots.filter(|slot| slot.is_cached(now));
         Ok(cached.count())
     }
 
@@ -269,6 +308,35 @@ impl<K, V, E> Stripe<K, V, E> {
             count += guard.expire_some(next..end, now, &mut leavings);
             next = end;
         }
+    }
+
+    /// Drops the entry of a key, at once or at the end of the call that has reserved it. It waits for no call.
+    pub(crate) fn invalidate(&self, hash: u64, is_key: impl Fn(&K) -> bool) {
+        let mut leavings = Leavings::default();
+        let Ok((mut guard, Some(slot))) = self.find(hash, is_key) else {
+            return;
+        };
+        guard.invalidate(slot, &mut leavings);
+    }
+
+    /// The same of all keys, some at a time. From now on the entries stay that calls leave, or don't; None: as before.
+    pub(crate) fn invalidate_all(&self, keeps: Option<bool>) {
+        let mut next = 0;
+        loop {
+            let mut leavings = Vec::new();
+            let mut guard = self.lock();
+            guard.keeps = keeps.unwrap_or(guard.keeps);
+            let end = guard.table.len().min(next + SWEPT_AT_ONCE);
+            if next >= end || guard.is_closed {
+                return;
+            }
+            guard.invalidate_some(next..end, &mut leavings);
+            next = end;
+        }
+    }
+
+    pub(crate) fn is_suspended(&self) -> bool {
+        !self.lock().keeps
     }
 
     /// How many threads sleep in calls here.

@@ -2,7 +2,7 @@
 //!
 //! The core knows a key by eight bytes, its slot and how often the slot was given, and a value by eight bytes, its version. Neither is
 //! given twice. A key has a slot while it is cached, reserved or joined. Which value comes and goes is what the core's moves say, and
-//! nothing else. Keys are compared, and what is dropped is dropped, by the caller, with no lock held.
+//! nothing else. What is dropped is dropped by the caller, with no lock held.
 use crate::core::{Join, Moves, Reply as Told};
 use crate::lives::{Life, Nanos, Renewal};
 use crate::waiting::Waiters;
@@ -49,10 +49,10 @@ fn number_of(bytes: &[u8]) -> u64 {
     u64::from_le_bytes(bytes.try_into().expect("the core has only eight bytes"))
 }
 
-/// A value with its version.
+/// A value with its version; or none, with one: its key is known to be absent.
 pub(crate) struct Versioned<V> {
     pub version: u64,
-    pub value: Arc<V>,
+    pub value: Option<Arc<V>>,
 }
 
 impl<V> Clone for Versioned<V> {
@@ -96,7 +96,7 @@ pub(crate) type Found<V, E> = Result<Option<Versioned<V>>, Failure<E>>;
 
 /// A call that has reserved a key, as others see it.
 pub(crate) struct Flight<V, E> {
-    /// The thread that began it.
+    /// The thread that ends it, or nobody.
     pub owner: u64,
     /// The ticket's number.
     pub number: u64,
@@ -104,6 +104,17 @@ pub(crate) struct Flight<V, E> {
     pub is_over: AtomicBool,
     pub found: OnceLock<Found<V, E>>,
     pub waiters: Waiters,
+}
+
+/// What becomes of the entry of a key that a call has reserved, when that call ends.
+#[derive(Clone, Copy, Debug, PartialEq, Eq)]
+pub(crate) enum Fate {
+    /// It is as the call leaves it.
+    Stays,
+    /// It is dropped.
+    Dropped,
+    /// It is dropped, and what begins before that waits for it.
+    Overtaken,
 }
 
 pub(crate) struct Slot<K, V, E> {
@@ -119,6 +130,8 @@ pub(crate) struct Slot<K, V, E> {
     /// How many calls have reserved the key or have joined its load.
     pub pins: usize,
     pub flight: Option<Arc<Flight<V, E>>>,
+    /// Of the entry, if a call has reserved the key.
+    pub fate: Fate,
     /// Joins that nobody waits for any more: they are picked up when the load is over.
     pub abandoned: Vec<Join>,
 }
@@ -127,10 +140,12 @@ pub(crate) struct Slot<K, V, E> {
 pub(crate) struct Leavings<K, V, E> {
     pub keys: [Option<Arc<K>>; 2],
     pub left: Option<Versioned<V>>,
-    pub evicted: Option<Versioned<V>>,
+    pub evicted: Option<(Arc<K>, Versioned<V>)>,
     pub flight: Option<Arc<Flight<V, E>>>,
     pub table: Option<Table<K, V, E>>,
     pub wakers: Vec<Waker>,
+    /// Of the step that dropped the entry which the phase had left.
+    pub dropped: Option<Box<Leavings<K, V, E>>>,
 }
 
 impl<K, V, E> Default for Leavings<K, V, E> {
@@ -142,6 +157,7 @@ impl<K, V, E> Default for Leavings<K, V, E> {
             flight: None,
             table: None,
             wakers: Vec::new(),
+            dropped: None,
         }
     }
 }
@@ -170,32 +186,6 @@ impl Hasher for Identity {
     fn write_u64(&mut self, number: u64) {
         self.0 = number;
     }
-}
-
-/// The slots whose keys were compared with a key, and whether they were equal. Since no number is given twice, that stays true.
-#[derive(Default)]
-pub(crate) struct Compared {
-    same: Option<Id>,
-    others: Vec<Id>,
-}
-
-impl Compared {
-    #[inline]
-    pub(crate) fn note(&mut self, id: Id, is_same: bool) {
-        if is_same {
-            self.same = Some(id);
-        } else {
-            self.others.push(id);
-        }
-    }
-}
-
-/// Where a key is.
-pub(crate) enum Place<K> {
-    Nowhere,
-    At(usize),
-    /// That depends on whether it equals this key, of this slot.
-    Unknown(Id, Arc<K>),
 }
 
 pub(crate) struct Table<K, V, E> {
@@ -238,7 +228,7 @@ impl<K, V, E> Table<K, V, E> {
     }
 
     /// The next version, for this value.
-    pub(crate) fn version(&mut self, value: Arc<V>) -> Versioned<V> {
+    pub(crate) fn version(&mut self, value: Option<Arc<V>>) -> Versioned<V> {
         self.last_version += 1;
         Versioned {
             version: self.last_version,
@@ -246,33 +236,18 @@ impl<K, V, E> Table<K, V, E> {
         }
     }
 
-    /// Whether a key still has its slot.
+    /// The slot of a key, by what compares keys of its hash with it.
     #[inline]
-    pub(crate) fn is_in_use(&self, id: Id) -> bool {
-        let slot = &self.slots[id.slot()];
-        slot.id == id && slot.key.is_some()
-    }
-
-    /// The first key of a hash.
-    #[inline]
-    pub(crate) fn first_of(&self, hash: u64) -> Option<(Id, Arc<K>)> {
-        let slot = &self.slots[*self.first.get(&hash)? as usize];
-        Some((slot.id, slot.key().clone()))
-    }
-
-    pub(crate) fn find(&self, hash: u64, compared: &Compared) -> Place<K> {
-        if let Some(id) = compared.same.filter(|id| self.is_in_use(*id)) {
-            return Place::At(id.slot());
-        }
-        let mut at = self.first.get(&hash).copied().unwrap_or(NO_SLOT);
+    pub(crate) fn find(&self, hash: u64, is_key: impl Fn(&K) -> bool) -> Option<usize> {
+        let mut at = *self.first.get(&hash)?;
         while at != NO_SLOT {
             let slot = &self.slots[at as usize];
-            if !compared.others.contains(&slot.id) {
-                return Place::Unknown(slot.id, slot.key().clone());
+            if is_key(slot.key()) {
+                return Some(at as usize);
             }
             at = slot.next;
         }
-        Place::Nowhere
+        None
     }
 
     /// Gives a slot to a key that has none.
@@ -304,6 +279,7 @@ impl<K, V, E> Table<K, V, E> {
             life: Life::ENDLESS,
             pins: 0,
             flight: None,
+            fate: Fate::Stays,
             abandoned: Vec::new(),
         });
         at
@@ -312,7 +288,7 @@ impl<K, V, E> Table<K, V, E> {
     /// Takes a slot back, if its key is neither cached nor reserved nor joined.
     pub(crate) fn release(&mut self, at: usize, keys: &mut Option<Arc<K>>) {
         let slot = &mut self.slots[at];
-        if slot.entry.is_some() || slot.pins > 0 {
+        if slot.key.is_none() || slot.entry.is_some() || slot.pins > 0 {
             return;
         }
         *keys = slot.key.take();
@@ -352,7 +328,8 @@ impl<K, V, E> Table<K, V, E> {
         if let Some((key, value)) = moves.victim {
             let id = Id::of(key);
             assert_eq!(self.slots[id.slot()].id, id, "the core names another key");
-            leavings.evicted = self.take(id.slot(), value);
+            let victim = self.slots[id.slot()].key().clone();
+            leavings.evicted = self.take(id.slot(), value).map(|entry| (victim, entry));
             self.release(id.slot(), &mut leavings.keys[1]);
         }
         if let Some(value) = moves.left {
@@ -380,7 +357,7 @@ impl<K, V, E> Table<K, V, E> {
         let entry = self.slots[at].entry.as_ref();
         let version = entry.map(|entry| entry.version);
         assert_eq!(version, known.map(number_of), "the core has another value");
-        entry.map(|entry| entry.value.clone())
+        entry.and_then(|entry| entry.value.clone())
     }
 
     /// What the core's reply stands for: the value is the slot's, before the step, or the loaded one.
@@ -396,13 +373,30 @@ impl<K, V, E> Table<K, V, E> {
         let version = number_of(bytes);
         let held = [self.slots[at].entry.as_ref(), loaded];
         let found = held.into_iter().flatten().find(|it| it.version == version);
-        Some(found.expect("the core has another value").value.clone())
+        found.expect("the core has another value").value.clone()
     }
 }
 
 impl<K, V, E> Slot<K, V, E> {
     pub(crate) fn has_expired(&self, now: Nanos) -> bool {
         self.entry.is_some() && self.life.is_over(now)
+    }
+
+    /// Whether the key is known to be absent: its entry has no value.
+    pub(crate) fn is_absent(&self) -> bool {
+        matches!(&self.entry, Some(entry) if entry.value.is_none())
+    }
+
+    /// Whether there is a value that calls find.
+    pub(crate) fn is_cached(&self, now: Nanos) -> bool {
+        matches!(&self.entry, Some(entry) if entry.value.is_some()) && !self.life.is_over(now)
+    }
+
+    /// No call sees the entry any more: it is as one that has expired, by any clock.
+    pub(crate) fn hide(&mut self) {
+        if self.entry.is_some() {
+            self.life = Life::OVER;
+        }
     }
 
     pub(crate) fn key(&self) -> &Arc<K> {

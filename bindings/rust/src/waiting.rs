@@ -69,6 +69,10 @@ impl Waiters {
     }
 }
 
+/// The number that no thread has. A reservation of a call in phases is nobody's: who ends it may be any thread, so nobody is said to
+/// wait for himself who waits for it.
+pub(crate) const NOBODY: u64 = 0;
+
 /// A number of the thread.
 pub(crate) fn this_thread() -> u64 {
     static NEXT: AtomicU64 = AtomicU64::new(1);

@@ -1,6 +1,6 @@
-//! Calls of many keys.
+//! Calls of many keys: what the table of cases can't say.
 mod common;
-use cadwrelch::{Cache, Error, Loader, Op, Unwritten, Writer};
+use cadwrelch::{Cache, Error, Found, Loader, Unwritten, Writer};
 use common::{Broken, Mode, Store, cache_of, text};
 use std::collections::HashMap;
 use std::sync::atomic::{AtomicUsize, Ordering::SeqCst};
@@ -8,34 +8,6 @@ use std::sync::{Arc, Mutex};
 
 fn keys(names: &[&str]) -> Vec<String> {
     names.iter().map(|name| name.to_string()).collect()
-}
-
-#[test]
-fn get_all_returns_those_that_have_a_value() {
-    let (store, cache) = cache_of(4, 8);
-    for key in ["a", "b"] {
-        store.set(key, key);
-    }
-    cache.get("a").unwrap();
-    let found = cache.get_all(keys(&["a", "b", "c", "b"])).unwrap();
-    assert_eq!(found.len(), 2);
-    assert_eq!(found.get("b").cloned(), text("b"));
-    assert!(cache.agrees());
-}
-
-#[test]
-fn put_all_and_remove_all_write_through() {
-    let (store, cache) = cache_of(2, 100);
-    let entries = (0..150).map(|i| (format!("key{i}"), format!("{i}")));
-    cache.put_all(entries).unwrap();
-    assert_eq!(store.held.lock().unwrap().len(), 150);
-    assert_eq!(cache.get("key149").unwrap(), text("149"));
-    cache
-        .remove_all((0..150).map(|i| format!("key{i}")))
-        .unwrap();
-    assert!(store.held.lock().unwrap().is_empty());
-    assert!(cache.keys().unwrap().is_empty());
-    assert!(cache.agrees());
 }
 
 #[test]
@@ -47,34 +19,6 @@ fn a_key_that_is_put_twice_has_its_last_value() {
         .unwrap();
     assert_eq!(store.get("a").unwrap(), "3");
     assert_eq!(cache.get("a").unwrap(), text("3"));
-}
-
-#[test]
-fn load_all_keeps_or_replaces() {
-    let (store, cache) = cache_of(1, 8);
-    store.set("a", "1");
-    cache.load_all(keys(&["a", "b"]), false).unwrap();
-    store.set("a", "2");
-    cache.load_all(keys(&["a"]), false).unwrap();
-    assert_eq!(cache.get("a").unwrap(), text("1"));
-    cache.load_all(keys(&["a"]), true).unwrap();
-    assert_eq!(cache.get("a").unwrap(), text("2"));
-    assert_eq!(store.writes.load(SeqCst), 0);
-    assert!(cache.agrees());
-}
-
-#[test]
-fn a_failed_load_fails_its_keys() {
-    let (store, cache) = cache_of(2, 8);
-    store.set("a", "1");
-    cache.get("a").unwrap();
-    *store.loading.lock().unwrap() = Mode::Fails;
-    let failed = cache.get_all(keys(&["a", "b", "c"])).unwrap_err();
-    assert!(matches!(&failed.error, Error::Loader(error) if **error == Broken("no load")));
-    let mut names: Vec<String> = failed.failed.iter().map(|key| key.to_string()).collect();
-    names.sort();
-    assert_eq!(names, keys(&["b", "c"]));
-    assert!(cache.agrees());
 }
 
 /// A store that is asked for many keys at once, and refuses to change odd ones.
@@ -94,10 +38,10 @@ impl Loader<u32, u32> for ByBatch {
         panic!("it is asked for many keys")
     }
 
-    fn load_all(&self, keys: &[&u32]) -> Result<Vec<Option<u32>>, Broken> {
+    fn load_all(&self, keys: &[&u32]) -> Result<Vec<Found<u32, Broken>>, Broken> {
         self.0.calls.fetch_add(1, SeqCst);
         let held = self.0.held.lock().unwrap();
-        Ok(keys.iter().map(|key| held.get(key).copied()).collect())
+        Ok(keys.iter().map(|key| Ok(held.get(key).copied())).collect())
     }
 }
 
@@ -173,13 +117,15 @@ fn a_round_asks_once_and_fails_in_part() {
 fn a_call_that_is_stopped_says_what_failed_first() {
     let (store, cache) = cache_of(1, 8);
     *store.writing.lock().unwrap() = Mode::Fails;
-    // This thread has reserved b: its own call would wait for it.
-    let begun = cache.begin("b".to_string(), &Op::Get).unwrap();
-    let entries = ["a", "b"].map(|key| (key.to_string(), "1".to_string()));
-    let failed = cache.put_all(entries).unwrap_err();
-    assert!(matches!(failed.error, Error::Writer(Broken("no write"))));
-    assert_eq!(failed.failed.len(), 2);
-    drop(begun);
+    let processed = cache.invoke("b".to_string(), |_entry| {
+        // This thread has reserved b: its own call would wait for it.
+        let entries = ["a", "b"].map(|key| (key.to_string(), "1".to_string()));
+        let failed = cache.put_all(entries).unwrap_err();
+        assert!(matches!(failed.error, Error::Writer(Broken("no write"))));
+        assert_eq!(failed.failed.len(), 2);
+        Ok(())
+    });
+    assert!(processed.is_ok());
     assert!(cache.agrees());
 }
 
@@ -193,4 +139,113 @@ fn a_panic_leaves_no_key_reserved() {
     assert!(std::panic::catch_unwind(|| calls.remove_all(keys(&["a", "b"]))).is_err());
     assert!(cache.agrees());
     let _: &Store = &store;
+}
+
+#[test]
+fn a_bad_key_spoils_no_other() {
+    let load = |key: &u32| match key {
+        2 => Err(Broken("no load")),
+        3 => Ok(None),
+        _ => Ok(Some(key * 10)),
+    };
+    let cache = Cache::<u32, u32>::builder().loader(load).build().unwrap();
+    let failed = cache.get_all([1, 2, 3, 4]).unwrap_err();
+    assert!(matches!(&failed.error, Error::Loader(error) if **error == Broken("no load")));
+    assert_eq!(failed.failed, [Arc::new(2)]);
+    assert_eq!(
+        failed.found,
+        [(Arc::new(1), Arc::new(10)), (Arc::new(4), Arc::new(40))]
+    );
+    assert_eq!(cache.len().unwrap(), 2);
+    let stopped = cache.load_all([5, 2, 6], true).unwrap_err();
+    assert_eq!((stopped.failed.len(), stopped.found.len()), (1, 0));
+    assert!(cache.contains_key(&6).unwrap() && cache.agrees());
+}
+
+#[test]
+fn an_error_names_its_keys() {
+    let load = |_: &String| Err::<Option<u32>, _>(Broken("no load"));
+    let cache = Cache::<String, u32>::builder()
+        .loader(load)
+        .build()
+        .unwrap();
+    let text = |keys: &[&str]| {
+        let keys = keys.iter().map(|key| key.to_string());
+        cache.get_all(keys).unwrap_err().to_string()
+    };
+    assert_eq!(text(&["a"]), "the loader failed: no load (at \"a\")");
+    let long = "k".repeat(100);
+    let named = format!("the loader failed: no load (at \"{}..)", &long[..39]);
+    assert_eq!(text(&[&long]), named);
+    assert!(text(&["a", "b", "c", "d", "e"]).ends_with(", and 2 more)"));
+}
+
+#[test]
+fn a_processor_of_many_keys_that_panics_leaves_all_as_it_was() {
+    let (store, cache) = cache_of(2, 8);
+    cache.put("b".to_string(), "1".to_string()).unwrap();
+    let calls = std::panic::AssertUnwindSafe(|| {
+        cache.invoke_all(keys(&["a", "b", "c"]), |entry| {
+            assert!(entry.key() != "c", "no third");
+            entry.set("2".to_string());
+            Ok(())
+        })
+    });
+    assert!(std::panic::catch_unwind(calls).is_err());
+    assert_eq!(
+        (store.get("a"), store.get("b").as_deref()),
+        (None, Some("1"))
+    );
+    assert_eq!(cache.len().unwrap(), 1);
+    assert!(cache.agrees());
+    cache.close();
+    let replies = cache.invoke_all(keys(&["a", "a"]), |_entry| Ok(()));
+    assert_eq!(replies.len(), 2);
+    for (_, reply) in replies {
+        assert!(matches!(reply, Err(error) if matches!(*error, Error::Closed)));
+    }
+}
+
+#[test]
+fn a_key_that_is_named_twice_is_processed_twice() {
+    let (store, cache) = cache_of(2, 8);
+    let replies = cache.invoke_all(keys(&["a", "b", "a"]), |entry| {
+        let before = entry.value()?.map_or(0, |it| it.len());
+        match before {
+            0 => entry.set("x".to_string()),
+            _ => entry.remove(),
+        }
+        Ok(before)
+    });
+    let replies: Vec<usize> = replies.into_iter().map(|it| it.1.unwrap()).collect();
+    assert_eq!(replies, [0, 0, 1]);
+    assert_eq!((store.get("a"), store.get("b").is_some()), (None, true));
+    assert!(cache.agrees());
+}
+
+/// What the writer has written takes effect at each key, whatever panics at one of them.
+#[test]
+fn a_listener_that_panics_spoils_no_key_that_was_written() {
+    let store = Arc::new(Store::default());
+    let cache = Cache::builder()
+        .capacity(2)
+        .eviction_listener(|key: &Arc<String>, _| panic!("{key} is gone"))
+        .store(store.clone())
+        .build()
+        .unwrap();
+    for key in ["x", "c"] {
+        cache.put(key.to_string(), "0".to_string()).unwrap();
+    }
+    let calls = std::panic::AssertUnwindSafe(|| {
+        cache.invoke_all(keys(&["a", "c"]), |entry| {
+            entry.set("1".to_string());
+            Ok(())
+        })
+    });
+    assert!(std::panic::catch_unwind(calls).is_err());
+    for key in ["a", "c"] {
+        assert_eq!(store.get(key).as_deref(), Some("1"));
+        assert_eq!(cache.get(key).unwrap(), text("1"), "{key}");
+    }
+    assert!(cache.agrees());
 }

@@ -1,5 +1,6 @@
 //! Plays the table of cases that all languages share, bindings/cases, whose README describes the format.
-use cadwrelch::{BulkError, Cache, CacheError, Entry, Error, Loader, Shared, Unwritten, Writer};
+use cadwrelch::{BulkError, Cache, CacheError, Entry, Error, Found, Loader};
+use cadwrelch::{Shared, Unwritten, Writer};
 use std::cell::RefCell;
 use std::collections::{BTreeMap, HashMap};
 use std::sync::atomic::{AtomicU64, Ordering::SeqCst};
@@ -8,11 +9,7 @@ use std::thread::{JoinHandle, spawn, yield_now};
 use std::time::Duration;
 
 /// What can't be played: a word of a line or the name of a case, and why.
-const LEFT_OUT: [(&str, &str); 3] = [
-    ("leaves", "a writer that leaves a key has failed"),
-    ("remove_all", "there is no such call without keys"),
-    ("invoke_many", "there is no such call"),
-];
+const LEFT_OUT: [(&str, &str); 1] = [("leaves", "a writer that leaves a key has failed")];
 
 type Word = &'static str;
 /// A line: its number, words and reply, and the asks below it.
@@ -113,10 +110,10 @@ impl Loader<Word, Word> for Store {
     type Error = Broken;
 
     fn load(&self, key: &Word) -> Result<Option<Word>, Broken> {
-        Ok(self.load_all(&[key])?[0])
+        self.load_all(&[key])?.remove(0)
     }
 
-    fn load_all(&self, keys: &[&Word]) -> Result<Vec<Option<Word>>, Broken> {
+    fn load_all(&self, keys: &[&Word]) -> Result<Vec<Found<Word, Broken>>, Broken> {
         let answer = std::mem::take(&mut *self.load_next.lock().unwrap());
         let found = match answer.as_slice() {
             [] => self.stored.lock().unwrap().clone(),
@@ -127,7 +124,10 @@ impl Loader<Word, Word> for Store {
         if answer == ["fails"] {
             return Err(Broken);
         }
-        Ok(keys.iter().map(|key| found.get(*key).copied()).collect())
+        Ok(keys
+            .iter()
+            .map(|key| Ok(found.get(*key).copied()))
+            .collect())
     }
 }
 
@@ -217,14 +217,8 @@ shown! {
     bool, flag => flag.to_string();
     Option<Arc<Word>>, value => value.map_or("none".to_string(), |value| value.to_string());
     HashMap<Word, Arc<Word>>, found => shown(&found.into_iter().map(|(key, value)| (key, *value)).collect(), "none");
-    Failed, error => match error {
-        Error::Loader(_) => "loader failed".to_string(),
-        Error::Writer(_) => "writer failed".to_string(),
-        Error::Processor(error) => error.to_string(),
-        Error::Closed => "closed".to_string(),
-        other => format!("{other:?}"),
-    };
-    BulkError<Arc<Word>, Broken, Broken>, stopped => {
+    Failed, error => said(&error);
+    BulkError<Arc<Word>, Word, Broken, Broken>, stopped => {
         let mut failed: Vec<_> = stopped.failed.iter().map(|key| key.to_string()).collect();
         failed.sort();
         match stopped.error {
@@ -232,6 +226,16 @@ shown! {
             error => format!("{} at {}", error.shown(), or(&failed, "no key")),
         }
     };
+}
+
+fn said(error: &Failed) -> String {
+    match error {
+        Error::Loader(_) => "loader failed".to_string(),
+        Error::Writer(_) => "writer failed".to_string(),
+        Error::Processor(error) => error.to_string(),
+        Error::Closed => "closed".to_string(),
+        other => format!("{other:?}"),
+    }
 }
 
 impl<T: Shown, E: Shown> Shown for Result<T, E> {
@@ -311,10 +315,22 @@ impl Player {
                 let reply = cache.invoke(key, |entry| process(entry, acts));
                 reply.unwrap_or_else(Shown::shown)
             }
+            ["invoke_many", ref rest @ ..] => {
+                let (keys, acts) = rest.split_at(rest.iter().position(|it| *it == "do").unwrap());
+                let keys = keys.iter().copied();
+                let invoked = cache.invoke_all(keys, |entry| process(entry, &acts[1..]));
+                let replies = invoked.into_iter().map(|(key, reply)| {
+                    let reply = reply.unwrap_or_else(|error| said(&error));
+                    (*key, format!("{key}={reply}"))
+                });
+                let replies: BTreeMap<_, _> = replies.collect();
+                replies.into_values().collect::<Vec<_>>().join("; ")
+            }
             ["get_many", ref keys @ ..] => cache.get_all(keys.iter().copied()).shown(),
             ["put_many", ref entries @ ..] => cache
                 .put_all(entries.iter().filter_map(|it| it.split_once('=')))
                 .shown(),
+            ["remove_all"] => cache.remove_every().shown(),
             ["remove_many", ref keys @ ..] => cache.remove_all(keys.iter().copied()).shown(),
             ["load_many", "replacing", ref keys @ ..] => {
                 cache.load_all(keys.iter().copied(), true).shown()

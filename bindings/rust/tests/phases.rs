@@ -8,6 +8,7 @@ use std::panic::{AssertUnwindSafe, catch_unwind};
 use std::pin::pin;
 use std::sync::Arc;
 use std::sync::atomic::{AtomicUsize, Ordering::SeqCst};
+use std::sync::mpsc::channel;
 use std::task::{Context, Poll, Wake, Waker};
 
 #[derive(Default)]
@@ -357,4 +358,26 @@ fn a_cache_that_is_closed_meanwhile_ends_its_calls() {
     ticket.ask().commit(Ok(Some("1".to_string()))).unwrap();
     assert!(matches!(join.wait(), Ok(Some(Reply::Value(Some(_))))));
     assert!(cache.agrees());
+}
+
+/// A call in phases may be ended by any thread: who waits for it is not told that it would wait for itself.
+#[test]
+fn a_call_that_has_moved_is_waited_for() {
+    let (_store, cache) = cache_of(1, 8);
+    for op in [Op::Get, Op::Invoke] {
+        let begun = begin(&cache, &op);
+        let (cache, (tell, told)) = (&cache, channel());
+        std::thread::scope(|threads| {
+            threads.spawn(move || {
+                let _moved = begun;
+                // Until the call below waits, or has failed.
+                while cache.waiting() == 0 && told.try_recv().is_err() {
+                    std::thread::yield_now();
+                }
+            });
+            let got = cache.get("a");
+            let _ = tell.send(());
+            assert!(matches!(got, Ok(None)), "{got:?}");
+        });
+    }
 }

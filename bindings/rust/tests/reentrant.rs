@@ -1,4 +1,4 @@
-//! Keys and values whose own methods call the cache: nothing of the user's runs with a lock held, or these would never end.
+//! Keys and values whose own methods call the cache: of the user's only `Eq` of keys runs with a lock held, or these would never end.
 use cadwrelch::{Cache, Error};
 use std::cell::Cell;
 use std::collections::HashMap;
@@ -54,7 +54,6 @@ impl Hash for Key {
 
 impl PartialEq for Key {
     fn eq(&self, other: &Key) -> bool {
-        call_the_cache("Key::eq");
         self.0 == other.0
     }
 }
@@ -99,7 +98,6 @@ fn methods_of_keys_and_values_may_call_the_cache() {
     let calls = CALLS.lock().unwrap();
     for from in [
         "Key::hash",
-        "Key::eq",
         "Key::clone",
         "Key::drop",
         "Value::eq",

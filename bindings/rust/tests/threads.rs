@@ -348,7 +348,7 @@ fn long_run([stripes, capacity, history]: [usize; 3], kinds: u64, times: fn(Buil
     let is_going = goes.clone();
     let builder = Cache::builder()
         .stripes(stripes)
-        .capacity(capacity)
+        .capacity(stripes * capacity)
         .history(history)
         .clock(move || {
             let step = u64::from(is_going.load(SeqCst));
@@ -419,7 +419,7 @@ fn after_a_long_run_cached_bytes_are_stored() {
     let store = outside.0.clone();
     let cache = BytesCache::builder()
         .stripes(4)
-        .capacity(8)
+        .capacity(32)
         .loader(outside.clone())
         .writer(outside)
         .build()

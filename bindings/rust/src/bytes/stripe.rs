@@ -4,17 +4,21 @@ use crate::core::{self, Asked, Desk, Done, Loaded, PickedUp, Refusal, Shape, Tic
 use crate::op::Reply;
 use crate::outside::is_in_call;
 use crate::step::{FAILED, Sessions, Stop};
-use crate::table::{Failure, Flight};
+use crate::table::{Failure, Fate, Flight};
 use crate::waiting::{self, Waiters, this_thread};
-use std::collections::HashMap;
+use std::collections::{HashMap, HashSet};
 use std::sync::atomic::Ordering::Relaxed;
 use std::sync::{Arc, Mutex, MutexGuard, OnceLock};
 
 pub(super) struct Side<E> {
     pub desk: Desk,
     sessions: Sessions,
-    /// The calls that have reserved a key.
-    flights: HashMap<Vec<u8>, Arc<Flight<(), E>>>,
+    /// The calls that have reserved a key, and what becomes of its entry when they end.
+    flights: HashMap<Vec<u8>, (Arc<Flight<(), E>>, Fate)>,
+    /// The keys whose entries nobody is to see, and can't be uncached yet.
+    hidden: HashSet<Vec<u8>>,
+    /// Whether the entries stay that calls leave.
+    keeps: bool,
     /// Joins that nobody waits for any more.
     abandoned: Vec<(core::Join, Vec<u8>)>,
     is_closed: bool,
@@ -99,7 +103,10 @@ impl<E> Asking<'_, E> {
         let mut side = self.stripe.lock();
         let done = commit(&mut side.desk, Ticket(self.flight.number));
         let reply = owned(&done.expect("the host keeps the core's rules").reply);
-        side.flights.remove(&self.key);
+        let reserved = side.flights.remove(&self.key);
+        if reserved.is_some_and(|(_, fate)| fate != Fate::Stays) {
+            side.drop_entry(&self.key);
+        }
         self.flight.is_over.store(true, Relaxed);
         if self.flight.waiters.wake(&mut Vec::new()) {
             waiting::is_over(self.stripe.reservation(&self.flight));
@@ -139,6 +146,8 @@ impl<E> Stripe<E> {
                 desk: Desk::open(shape, number, &[])?,
                 sessions: Sessions::new(),
                 flights: HashMap::new(),
+                hidden: HashSet::new(),
+                keeps: true,
                 abandoned: Vec::new(),
                 is_closed: false,
                 changes: 0,
@@ -166,6 +175,9 @@ impl<E> Stripe<E> {
 
     pub(super) fn hit(&self, key: &[u8]) -> Result<Option<Vec<u8>>, Stop> {
         let mut side = self.open_side()?;
+        if side.is_hidden(key) {
+            return Ok(None);
+        }
         let session = side.sessions.next();
         let hit = side.desk.hit(session, key).map_err(|_| Stop::Limits)?;
         Ok(hit.map(<[u8]>::to_vec))
@@ -174,6 +186,12 @@ impl<E> Stripe<E> {
     pub(super) fn begin(&self, op: core::Op<'_>, key: &[u8]) -> Result<First<'_, E>, Stop> {
         let mut guard = self.open_side()?;
         let side = &mut *guard;
+        if let Some(blocked) = side.out_of_date(key) {
+            return Ok(match op {
+                core::Op::ContainsKey => First::Done(Reply::Flag(false)),
+                _ => First::Busy(blocked),
+            });
+        }
         let session = side.sessions.next();
         let asked = match side.desk.begin(session, op, key) {
             Ok(asked) => asked,
@@ -183,6 +201,9 @@ impl<E> Stripe<E> {
         let (number, is_load, value) = match asked {
             Asked::Done(done) => {
                 let reply = owned(&done.reply);
+                if !side.keeps {
+                    side.drop_entry(key);
+                }
                 return Ok(First::Done(reply.expect("a first phase has no fault")));
             }
             Asked::Load(ticket) => (ticket.0, true, None),
@@ -190,15 +211,9 @@ impl<E> Stripe<E> {
             Asked::Delete(ticket) => (ticket.0, false, None),
             Asked::Joined(join) => {
                 side.sessions.take();
-                return Ok(First::Joined(join, side.flights[key].clone()));
+                return Ok(First::Joined(join, side.flights[key].0.clone()));
             }
-            Asked::Refused(Refusal::HistoryFull) => return Err(Stop::HistoryFull),
-            Asked::Refused(refusal) => {
-                return Ok(First::Busy(match side.flights.get(key) {
-                    Some(flight) if refusal == Refusal::Busy => Blocked::Key(flight.clone()),
-                    _ => Blocked::Room(side.changes),
-                }));
-            }
+            Asked::Refused(refusal) => return side.refused(refusal, key).map(First::Busy),
             Asked::Process { .. } | Asked::Full => unreachable!("it was not asked for"),
         };
         let asking = self.reserve(side, key, session, number, is_load);
@@ -225,7 +240,12 @@ impl<E> Stripe<E> {
             waiters: Waiters::default(),
         });
         side.sessions.take();
-        side.flights.insert(key.to_vec(), flight.clone());
+        let fate = if side.keeps {
+            Fate::Stays
+        } else {
+            Fate::Dropped
+        };
+        side.flights.insert(key.to_vec(), (flight.clone(), fate));
         Asking {
             stripe: self,
             key: key.to_vec(),
@@ -239,6 +259,7 @@ impl<E> Stripe<E> {
     fn leave(&self, side: &mut Side<E>, session: u32) {
         side.changes += 1;
         side.sessions.give(session);
+        side.drop_hidden();
         self.room.wake(&mut Vec::new());
         side.shut_if_idle();
     }
@@ -304,18 +325,51 @@ impl<E> Stripe<E> {
         Ok(())
     }
 
+    /// Drops the entry of a key, at once or at the end of the call that has reserved it. It waits for no call.
+    pub(super) fn invalidate(&self, key: &[u8]) {
+        if let Ok(mut side) = self.open_side() {
+            side.invalidate(key);
+        }
+    }
+
+    /// The same of all keys. From now on the entries stay that calls leave, or don't; None: as before.
+    pub(super) fn invalidate_all(&self, keeps: Option<bool>) {
+        if let Ok(mut side) = self.open_side() {
+            side.keeps = keeps.unwrap_or(side.keeps);
+            let listed = side.desk.entries();
+            let cached = listed.expect("the desk is open, and has memory");
+            let reserved: Vec<_> = side.flights.keys().cloned().collect();
+            for key in cached.into_iter().map(|(key, _)| key).chain(reserved) {
+                side.invalidate(&key);
+            }
+        }
+    }
+
+    pub(super) fn is_suspended(&self) -> bool {
+        !self.lock().keeps
+    }
+
+    /// What is cached, the most recently used first.
+    pub(super) fn entries(&self) -> Result<Vec<(Vec<u8>, Vec<u8>)>, Stop> {
+        let mut side = self.open_side()?;
+        let listed = side.desk.entries();
+        let mut entries = listed.expect("the desk is open, and has memory");
+        entries.retain(|(key, _)| !side.is_hidden(key));
+        Ok(entries)
+    }
+
     /// How many threads sleep in calls here.
     pub(super) fn waiting(&self) -> usize {
         let side = self.lock();
         let flights = side.flights.values();
-        let asleep: usize = flights.map(|flight| flight.waiters.sleepers()).sum();
+        let asleep: usize = flights.map(|(flight, _)| flight.waiters.sleepers()).sum();
         asleep + self.room.sleepers()
     }
 
     pub(super) fn close(&self) {
         let mut side = self.lock();
         side.is_closed = true;
-        for flight in side.flights.values() {
+        for (flight, _) in side.flights.values() {
             flight.waiters.wake(&mut Vec::new());
         }
         self.room.wake(&mut Vec::new());
@@ -330,6 +384,68 @@ impl<E> Side<E> {
             Blocked::Room(changes) => self.changes != *changes,
         };
         !self.is_closed && !is_over
+    }
+
+    fn refused(&self, refusal: Refusal, key: &[u8]) -> Result<Blocked<E>, Stop> {
+        match (refusal, self.flights.get(key)) {
+            (Refusal::HistoryFull, _) => Err(Stop::HistoryFull),
+            (Refusal::Busy, Some((flight, _))) => Ok(Blocked::Key(flight.clone())),
+            _ => Ok(Blocked::Room(self.changes)),
+        }
+    }
+
+    fn is_hidden(&self, key: &[u8]) -> bool {
+        !self.hidden.is_empty() && self.hidden.contains(key)
+    }
+
+    fn invalidate(&mut self, key: &[u8]) {
+        let Some((_, fate)) = self.flights.get_mut(key) else {
+            return self.drop_entry(key);
+        };
+        *fate = Fate::Overtaken;
+        self.hidden.insert(key.to_vec());
+    }
+
+    /// Uncaches the entry of a key that isn't reserved. While the history has no room for that step, it is there, and hidden.
+    fn drop_entry(&mut self, key: &[u8]) {
+        let session = self.sessions.next();
+        let is_cached = matches!(self.desk.peek(key), Ok(Some(_)));
+        if !is_cached
+            || matches!(
+                self.desk.begin(session, core::Op::Clear, key),
+                Ok(Asked::Done(_))
+            )
+        {
+            self.hidden.remove(key);
+        } else {
+            self.hidden.insert(key.to_vec());
+        }
+    }
+
+    /// Uncaches what is hidden, as far as there is room.
+    fn drop_hidden(&mut self) {
+        if self.hidden.is_empty() {
+            return;
+        }
+        for key in std::mem::take(&mut self.hidden) {
+            if self.flights.contains_key(&key) {
+                self.hidden.insert(key);
+            } else {
+                self.drop_entry(&key);
+            }
+        }
+    }
+
+    /// What a call waits for that may see neither the entry nor the load of this key.
+    fn out_of_date(&mut self, key: &[u8]) -> Option<Blocked<E>> {
+        if !self.is_hidden(key) {
+            return None;
+        }
+        if let Some((flight, _)) = self.flights.get(key) {
+            return Some(Blocked::Key(flight.clone()));
+        }
+        self.drop_entry(key);
+        self.is_hidden(key).then_some(Blocked::Room(self.changes))
     }
 
     /// Picks up what nobody waits for, as far as its load is over.

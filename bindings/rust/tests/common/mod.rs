@@ -92,7 +92,7 @@ pub fn cache_of(stripes: usize, capacity: usize) -> (Arc<Store>, Texts) {
     let store = Arc::new(Store::default());
     let cache = Cache::builder()
         .stripes(stripes)
-        .capacity(capacity)
+        .capacity(stripes * capacity)
         .store(store.clone())
         .build()
         .unwrap();

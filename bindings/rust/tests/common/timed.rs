@@ -101,7 +101,7 @@ type Built = Builder<String, String, Outside, Outside>;
 pub fn timed(build: impl FnOnce(Built) -> Built) -> Timed {
     let clock = Clock::default();
     let store = Arc::new(Store::default());
-    let builder = Cache::builder().stripes(2).capacity(8).clock(clock.read());
+    let builder = Cache::builder().stripes(2).capacity(16).clock(clock.read());
     Timed {
         cache: build(builder.store(store.clone())).build().unwrap(),
         clock,
