@@ -2,6 +2,7 @@ package cadwrelch.jcache;
 
 import java.util.List;
 import java.util.function.BooleanSupplier;
+import java.util.function.Consumer;
 import java.util.stream.Collectors;
 
 /**
@@ -24,12 +25,33 @@ final class ByteDesk extends KeyedDesk {
 
     @Override
     Object hit(KeyLookup sought, Node node) {
-        return desk.hit(Sessions.AT_ONCE, sought.bytes);
+        return isHidden(sought) ? null : desk.hit(Sessions.AT_ONCE, sought.bytes);
+    }
+
+    private boolean isHidden(KeyLookup sought) {
+        Node node = nodes().hiddenCount() != 0 ? nodes().find(sought) : null;
+        return node != null && node.isHidden;
     }
 
     @Override
-    boolean isCached(KeyLookup sought, Node node) {
-        return desk.peek(sought.bytes) != null;
+    boolean isCached(Node node) {
+        return desk.peek(lookup(node).bytes) != null;
+    }
+
+    @Override
+    KeyLookup lookup(Node node) {
+        return copier.lookup(node.key);
+    }
+
+    @Override
+    void forEachKey(Consumer<Node> action) {
+        nodes().forEach(action);
+        for (byte[] bytes : desk.keys()) {
+            KeyLookup key = copier.lookup(copier.keyOf(bytes));
+            if (nodes().find(key) == null) {
+                action.accept(add(key.key, key.hash));
+            }
+        }
     }
 
     @Override
@@ -102,7 +124,8 @@ final class ByteDesk extends KeyedDesk {
 
     @Override
     List<Object> keys(boolean withAbsent) {
-        return desk.keys().stream().map(copier::keyOf).collect(Collectors.toList());
+        return desk.keys().stream().map(copier::keyOf).filter(key -> !isHidden(copier.lookup(key)))
+                .collect(Collectors.toList());
     }
 
     @Override

@@ -108,6 +108,12 @@ final class Call {
         return reply == Native.YES;
     }
 
+    /** It can't begin, since its entry is out of date and still there: one that only looks for it is answered so. */
+    void refuse() {
+        next = op == Native.CONTAINS_KEY ? Native.DONE : Native.REFUSED;
+        reply = Native.NO;
+    }
+
     boolean hasFailed() {
         return reply >= Native.LOADER_FAILED;
     }

@@ -139,7 +139,7 @@ final class Counts {
             case Native.GET_AND_REMOVE:
                 return existed && !call.hasFailed();
             case Native.INVOKE:
-                return call.effect == Native.TAKE_OUT && existed && !call.hasFailed();
+                return call.effect == Native.TAKE_OUT && !call.hasFailed();
             default:
                 return false;
         }

@@ -8,8 +8,6 @@ import java.nio.ByteOrder;
  * eviction.
  */
 final class Event {
-    private static final int EVICTION = 1;
-    private static final int FOR_MEMORY = 1;
     private static final String[] OPERATIONS = {"get", "contains", "put", "getput", "putif", "remove", "removeif",
         "getremove", "replace", "replaceif", "getreplace", "clear", "load", "reload", "invoke"};
     private static final String[] REPLIES = {"ok", "false", "true", "-", "", "LoaderFailed", "WriterFailed",
@@ -73,8 +71,8 @@ final class Event {
     /** The event as lines of a script and its transcript: it is at a place of a generation of a stripe. */
     String lines(int stripe, int place) {
         String at = " at " + stripe + "." + place;
-        if (kind == EVICTION) {
-            return "evict " + key + (cause == FOR_MEMORY ? " memory" : " full") + at + "\n";
+        if (kind == Native.EVICTION) {
+            return "evict " + key + (cause == Native.FOR_MEMORY ? " memory" : " full") + at + "\n";
         }
         String prefix = call + " " + key;
         boolean isShared = sharedWith >= 0;

@@ -1,6 +1,7 @@
 package cadwrelch.jcache;
 
 import java.util.ArrayList;
+import java.util.Arrays;
 import java.util.Collection;
 import java.util.Iterator;
 import java.util.LinkedHashMap;
@@ -21,7 +22,7 @@ import javax.cache.processor.EntryProcessorResult;
  * A cache over stripes of the core: the calls of {@link Cache}. Each call of one key is a call of the core, in phases;
  * one of many keys is made of such. A call waits while another one has reserved its key, and for no other.
  */
-final class JcacheCache<K, V> implements Cache<K, V> {
+final class JcacheCache<K, V> implements Cache<K, V>, Invalidation {
     /**
      * So many keys of {@link #removeAll()} and {@link #clear} are taken out by one call of many keys, and up to those
      * of one stripe more.
@@ -36,6 +37,7 @@ final class JcacheCache<K, V> implements Cache<K, V> {
     private final BackgroundLoads<K, V> loads;
     private final boolean checksTypes;
     private volatile boolean isClosed;
+    private volatile boolean isSuspended;
 
     /**
      * A cache of a manager. Its configuration is its own.
@@ -100,6 +102,11 @@ final class JcacheCache<K, V> implements Cache<K, V> {
             stripe.begin(call, true);
             finish(call, stripe);
         } while (!call.isDone());
+        return told(call, stripe);
+    }
+
+    /** A call that is done, once listeners are told, and whoever has called is told of a failure. */
+    private Call told(Call call, Stripe stripe) {
         context.tellListeners(stripe);
         Faults.throwFailureOf(call);
         return call;
@@ -133,11 +140,17 @@ final class JcacheCache<K, V> implements Cache<K, V> {
         return call(Native.GET, key, null, null).answer;
     }
 
-    /** Loads an entry again, unless the cache is closed. */
-    @SuppressWarnings("unchecked")
+    /** Loads an entry again, unless the cache is closed, another call has reserved its key, or there is no room. */
     private void reload(Object key) {
-        if (!isClosed) {
-            call(Native.RELOAD, (K) context.copier.key(key), null, null);
+        if (isClosed) {
+            return;
+        }
+        Call call = new Call(Native.RELOAD, context.copier.lookup(context.copier.key(key)));
+        Stripe stripe = context.stripeOf(call.lookup.hash);
+        stripe.begin(call, false);
+        if (call.next != Native.REFUSED) {
+            finish(call, stripe);
+            told(call, stripe);
         }
     }
 
@@ -298,6 +311,59 @@ final class JcacheCache<K, V> implements Cache<K, V> {
             }
         }
         by.accept(keys);
+    }
+
+    // What others have changed in the store.
+
+    @Override
+    public void invalidate(Object key) {
+        checkKey(key);
+        KeyLookup sought = context.copier.lookup(key);
+        context.stripeOf(sought.hash).invalidate(sought);
+    }
+
+    @Override
+    public void invalidateAll() {
+        for (Stripe stripe : context.stripes()) {
+            stripe.ifOpen(Hiding::invalidateAll);
+        }
+    }
+
+    @Override
+    public void suspend() {
+        keep(false);
+    }
+
+    @Override
+    public void resume() {
+        keep(true);
+    }
+
+    private void keep(boolean keeps) {
+        synchronized (context) {
+            isSuspended = true;
+            for (Stripe stripe : context.stripes()) {
+                stripe.ifOpen(hiding -> hiding.invalidateAll(keeps));
+            }
+            isSuspended = !keeps;
+        }
+    }
+
+    @Override
+    public boolean isSuspended() {
+        return isSuspended;
+    }
+
+    @Override
+    public long expire() {
+        long expired = 0;
+        if (context.expiry != null) {
+            for (Stripe stripe : context.stripes()) {
+                expired += stripe.ifOpen(hiding -> stripe.expire());
+            }
+            context.tellListeners(Arrays.asList(context.stripes()));
+        }
+        return expired;
     }
 
     @Override

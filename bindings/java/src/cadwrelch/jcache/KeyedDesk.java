@@ -1,6 +1,7 @@
 package cadwrelch.jcache;
 
 import java.util.List;
+import java.util.function.Consumer;
 
 /**
  * A stripe of the core with the keys that its calls have reserved or joined: what is the same whether the core knows
@@ -32,7 +33,13 @@ abstract class KeyedDesk {
     abstract Object hit(KeyLookup sought, Node node);
 
     /** Whether the key of the node is cached. */
-    abstract boolean isCached(KeyLookup sought, Node node);
+    abstract boolean isCached(Node node);
+
+    /** The key of a node, to be looked up. */
+    abstract KeyLookup lookup(Node node);
+
+    /** Does something with a node of each key that is cached, reserved or joined. It may drop the node. */
+    abstract void forEachKey(Consumer<Node> action);
 
     /** The core's first phase, of a call in a session. */
     abstract int first(Call call, Node node, int session);
@@ -150,12 +157,9 @@ abstract class KeyedDesk {
         }
     }
 
-    /**
-     * Takes an entry out that has expired, as a step of its own; entries of bytes don't expire. False: it can't be done
-     * now.
-     */
+    /** Takes an entry out that has expired or is out of date, as a step of its own. False: it can't be done now. */
     boolean clear(Node node) {
-        Call call = new Call(Native.CLEAR, new KeyLookup(node.key, node.hash, null));
+        Call call = new Call(Native.CLEAR, lookup(node));
         if (Desk.next(firstWithRoom(call, node, Sessions.AT_ONCE)) != Native.DONE) {
             return false;
         }

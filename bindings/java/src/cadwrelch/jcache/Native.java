@@ -6,7 +6,8 @@ import java.nio.ByteBuffer;
  * The core's phases, one by one: what {@code cadwrelch.h} has, with keys and values as numbers, or as bytes in the
  * stripe's buffer. Each is called with the lock of its stripe held; so are the other functions of a stripe. A result of
  * a phase is an int: negative, it is a code of misuse; else its bits are {@link #NEXT}, the reply and the moves. What a
- * phase tells beside that is in the stripe's buffer.
+ * phase tells beside that is in the stripe's buffer. Of the constants here the compiler makes a header, by which
+ * {@code shim.c} compares them with those of C.
  */
 final class Native {
     /** What a call is to do next: the low bits of a result. */
@@ -34,10 +35,11 @@ final class Native {
      * Moves: the entry has the value that the call brought; it had one that it has no more; another entry was evicted;
      * its own was.
      */
-    static final int KEPT = 1 << 8;
-    static final int LEFT = 1 << 9;
-    static final int EVICTED = 1 << 10;
-    static final int OWN_EVICTED = 1 << 11 | 1 << 12;
+    static final int MOVES_SHIFT = 8;
+    static final int KEPT = 1 << MOVES_SHIFT;
+    static final int LEFT = 2 << MOVES_SHIFT;
+    static final int EVICTED = 4 << MOVES_SHIFT;
+    static final int OWN_EVICTED = 8 + 16 << MOVES_SHIFT;
 
     static final int GET = 0;
     static final int CONTAINS_KEY = 1;
@@ -73,6 +75,10 @@ final class Native {
 
     static final int OK = 0;
     static final int IN_USE = 5;
+
+    /** The kind of an event that isn't a step, and its cause if that isn't room. */
+    static final int EVICTION = 1;
+    static final int FOR_MEMORY = 1;
 
     /** Where the buffer has what a phase tells. */
     static final int NUMBER = 0;

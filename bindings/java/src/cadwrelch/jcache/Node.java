@@ -32,6 +32,8 @@ class Node {
     boolean expires;
     /** Whether the expiry policy is being asked for an update: the deadline is that of what was cached before. */
     boolean isBeingRenewed;
+    /** Whether what is known of its key is out of date, as {@link Hiding} says. */
+    boolean isHidden;
 
     /** A node of a key of which nothing is cached. */
     Node(Object key, int hash, long id) {
@@ -62,12 +64,17 @@ class Node {
         return version != 0;
     }
 
+    /** Whether something is cached that a hit may find. */
+    boolean isShown() {
+        return version != 0 && !isHidden;
+    }
+
     boolean isAbsent() {
         return stored == ABSENT;
     }
 
     /** Whether nobody needs the node. */
     boolean isUnused() {
-        return version == 0 && pins == 0;
+        return version == 0 && pins == 0 && !isHidden;
     }
 }

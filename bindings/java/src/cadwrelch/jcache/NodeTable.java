@@ -26,6 +26,7 @@ final class NodeTable {
     private short[] freeSlots = new short[SMALLEST];
     private int freeCount;
     private int slotCount;
+    private int hiddenCount;
     /** How many numbers were given: 2^50 are enough for 35 years of a million new keys a second. */
     private long given;
 
@@ -119,6 +120,22 @@ final class NodeTable {
         before.next = node.next;
     }
 
+    /** Hides a node, which is as if its key had no entry and no load. */
+    void hide(Node node) {
+        hiddenCount += node.isHidden ? 0 : 1;
+        node.isHidden = true;
+    }
+
+    /** Hides a node no longer. */
+    void show(Node node) {
+        hiddenCount -= node.isHidden ? 1 : 0;
+        node.isHidden = false;
+    }
+
+    int hiddenCount() {
+        return hiddenCount;
+    }
+
     private static int slotOf(long id) {
         return (int) (id & SLOTS_MAX - 1);
     }
@@ -141,7 +158,7 @@ final class NodeTable {
         return slotCount - freeCount;
     }
 
-    /** Does something with each node, which may not add or drop any. */
+    /** Does something with each node, which may drop that one, and add none. */
     void forEach(Consumer<Node> action) {
         for (Node node : slots) {
             if (node != null) {
@@ -150,11 +167,11 @@ final class NodeTable {
         }
     }
 
-    /** The keys that are cached, with those that are known to be absent, or without. */
+    /** The keys that are shown, with those that are known to be absent, or without. */
     List<Object> cachedKeys(boolean withAbsent) {
         List<Object> keys = new ArrayList<>(size());
         forEach(node -> {
-            if (node.isCached() && (withAbsent || !node.isAbsent())) {
+            if (node.isShown() && (withAbsent || !node.isAbsent())) {
                 keys.add(node.key);
             }
         });
@@ -168,5 +185,6 @@ final class NodeTable {
         freeSlots = new short[SMALLEST];
         freeCount = 0;
         slotCount = 0;
+        hiddenCount = 0;
     }
 }

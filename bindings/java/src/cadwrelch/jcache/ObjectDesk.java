@@ -1,6 +1,7 @@
 package cadwrelch.jcache;
 
 import java.util.List;
+import java.util.function.Consumer;
 
 /**
  * A stripe of the core whose keys and values are objects. The core sees a key as a number that is never given twice,
@@ -22,7 +23,7 @@ final class ObjectDesk extends KeyedDesk {
 
     @Override
     Object hit(KeyLookup sought, Node node) {
-        if (node == null || !node.isCached()) {
+        if (node == null || !node.isShown()) {
             return null;
         }
         long version = desk.hit(Sessions.AT_ONCE, node.id);
@@ -34,8 +35,18 @@ final class ObjectDesk extends KeyedDesk {
     }
 
     @Override
-    boolean isCached(KeyLookup sought, Node node) {
+    boolean isCached(Node node) {
         return node.isCached();
+    }
+
+    @Override
+    KeyLookup lookup(Node node) {
+        return new KeyLookup(node.key, node.hash, null);
+    }
+
+    @Override
+    void forEachKey(Consumer<Node> action) {
+        nodes().forEach(action);
     }
 
     @Override

@@ -2,6 +2,7 @@ package cadwrelch.jcache;
 
 import java.util.List;
 import java.util.concurrent.locks.ReentrantLock;
+import java.util.function.Supplier;
 import java.util.function.ToLongFunction;
 import javax.cache.event.EventType;
 import javax.cache.expiry.Duration;
@@ -16,6 +17,8 @@ final class Stripe {
     private final CacheContext<?, ?> context;
     private final Counts counts = new Counts();
     private final KeyedDesk desk;
+    private final NodeFinder finder;
+    private final Hiding hiding;
     private final Recorder recorder;
     private final EventQueue<?, ?> events;
     /** Those who wait for any commit, withdrawal or pick-up. */
@@ -28,6 +31,8 @@ final class Stripe {
         this.recorder = recorder;
         events = new EventQueue<>(context, lock);
         desk = context.openDesk(lock, settings, index, counts, recorder);
+        finder = new NodeFinder(this, desk, context);
+        hiding = new Hiding(desk);
     }
 
     String cacheName() {
@@ -49,9 +54,9 @@ final class Stripe {
         lock.lock();
         try {
             checkOpen();
-            node = sought.bytes == null ? find(sought) : null;
+            node = sought.bytes == null ? finder.find(sought) : null;
             if (context.expiry != null) {
-                access = node == null || !node.isCached() ? Expiry.Access.EXPIRED : context.expiry.access(node);
+                access = node == null || !node.isShown() ? Expiry.Access.EXPIRED : context.expiry.access(node);
                 if (access == Expiry.Access.EXPIRED) {
                     return null;
                 }
@@ -119,16 +124,17 @@ final class Stripe {
 
     /** False: it was refused, and nothing was done. */
     private boolean tryBegin(Call call) {
-        Node node = locate(call);
+        Node node = finder.locate(call);
         try {
             refuseOwnKey(call, node);
-            if (expire(call, node)) {
+            if (!hiding.isOvertaken(call, node) && expire(call, node)) {
                 desk.begin(call, node);
+                if (call.next == Native.DONE) {
+                    stepped(call);
+                    hiding.stepped(node);
+                }
             } else {
-                call.next = Native.REFUSED;
-            }
-            if (call.next == Native.DONE) {
-                stepped(call);
+                call.refuse();
             }
             room.note(call);
             return call.next != Native.REFUSED;
@@ -139,57 +145,9 @@ final class Stripe {
 
     private void refuseOwnKey(Call call, Node node) {
         boolean isOwn = node.owner != null && node.owner.thread == call.thread;
-        if (isOwn && !call.isAtOnce(desk.isCached(call.lookup, node), context.outside.readsThrough())) {
+        if (isOwn && !call.isAtOnce(!node.isHidden && desk.isCached(node), context.outside.readsThrough())) {
             throw new WouldWait("a loader, writer or processor calls the cache at the key that it was called for",
                     call);
-        }
-    }
-
-    /**
-     * The node of a call's key, which may be new. What of the user's has to be called for that is called with the lock
-     * free.
-     */
-    private Node locate(Call call) {
-        KeyLookup sought = call.lookup;
-        for (;;) {
-            checkOpen();
-            Node node = find(sought);
-            if (node == null && sought.kept() != null) {
-                checkOpen();
-                return desk.add(sought.kept(), sought.hash);
-            }
-            if (node != null && !call.hasToCompare(node)) {
-                checkOpen();
-                return node;
-            }
-            Object cached = node == null ? null : node.stored;
-            long version = node == null ? 0 : node.version;
-            lock.unlock();
-            try {
-                if (node == null) {
-                    context.copyKey(sought);
-                } else {
-                    call.compare(context.copier, cached, version);
-                }
-            } finally {
-                lock.lock();
-            }
-        }
-    }
-
-    /** The node of a key, or null. The lock may have been free meanwhile. */
-    private Node find(KeyLookup sought) {
-        for (;;) {
-            Node node = desk.nodes().find(sought);
-            if (node == null || sought.isEqual(node)) {
-                return node;
-            }
-            lock.unlock();
-            try {
-                sought.compare(node);
-            } finally {
-                lock.lock();
-            }
         }
     }
 
@@ -208,6 +166,7 @@ final class Stripe {
 
     /** Whatever happens, nobody waits for the call afterwards. */
     private void commit(Call call) {
+        hiding.committing(call.node);
         try {
             desk.commit(call);
             stepped(call);
@@ -232,6 +191,7 @@ final class Stripe {
         call.end();
         List<Call> abandoned = call.takeAbandoned();
         try {
+            hiding.released(call.node);
             for (int i = 0; i < abandoned.size(); i++) {
                 desk.pickUp(abandoned.get(i));
             }
@@ -295,6 +255,8 @@ final class Stripe {
         room.wake();
         if (isClosed) {
             desk.freeIfIdle();
+        } else {
+            hiding.left();
         }
     }
 
@@ -414,6 +376,17 @@ final class Stripe {
         return true;
     }
 
+    /** Takes out all entries that have expired, and whose keys nobody has reserved. How many, as listeners are told. */
+    long expire() {
+        long before = counts.expirations;
+        desk.nodes().forEach(node -> {
+            if (node.owner == null && context.expiry.hasExpired(node) && clearExpired(node, true)) {
+                desk.nodes().dropUnused(node);
+            }
+        });
+        return counts.expirations - before;
+    }
+
     /** The events that listeners have not been told. */
     EventQueue<?, ?> events() {
         return events;
@@ -421,7 +394,39 @@ final class Stripe {
 
     // The stripe as a whole.
 
-    private void checkOpen() {
+    /** {@link Invalidation#invalidate}. */
+    void invalidate(KeyLookup sought) {
+        locked(() -> {
+            Node node = finder.find(sought);
+            if (node == null && sought.bytes != null && !isClosed) {
+                node = desk.add(sought.kept(), sought.hash);
+            }
+            if (node != null && !isClosed) {
+                hiding.invalidate(node);
+            }
+            return null;
+        });
+        flushRecord();
+    }
+
+    /** Does something with what is hidden, or with the stripe, with the lock held, unless it is closed: then it's 0. */
+    long ifOpen(ToLongFunction<Hiding> action) {
+        long result = locked(() -> isClosed ? 0 : action.applyAsLong(hiding));
+        flushRecord();
+        return result;
+    }
+
+    private <T> T locked(Supplier<T> body) {
+        lock.lock();
+        try {
+            return body.get();
+        } finally {
+            lock.unlock();
+        }
+    }
+
+    /** With the lock held. */
+    void checkOpen() {
         if (isClosed) {
             throw new IllegalStateException("the cache " + cacheName() + " is closed");
         }
@@ -431,8 +436,7 @@ final class Stripe {
      * Later calls, and those that wait to begin, throw; calls under way end, and the last one frees the core's memory.
      */
     void close() {
-        lock.lock();
-        try {
+        locked(() -> {
             isClosed = true;
             room.wake();
             desk.nodes().forEach(node -> {
@@ -441,41 +445,30 @@ final class Stripe {
                 }
             });
             desk.freeIfIdle();
-        } finally {
-            lock.unlock();
-        }
+            return null;
+        });
         flushRecord();
     }
 
     /** The keys that are cached at the moment, with those that are known to be absent, or without. */
     List<Object> keys(boolean withAbsent) {
-        lock.lock();
-        try {
+        return locked(() -> {
             checkOpen();
             return desk.keys(withAbsent);
-        } finally {
-            lock.unlock();
-        }
+        });
     }
 
     /** Reads a count of the statistics. */
     long count(ToLongFunction<Counts> of) {
-        lock.lock();
-        try {
-            return of.applyAsLong(counts);
-        } finally {
-            lock.unlock();
-        }
+        return locked(() -> of.applyAsLong(counts));
     }
 
     /** Begins the statistics anew. */
     void clearCounts() {
-        lock.lock();
-        try {
+        locked(() -> {
             counts.clear();
-        } finally {
-            lock.unlock();
-        }
+            return null;
+        });
     }
 
     /**

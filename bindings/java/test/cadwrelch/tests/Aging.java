@@ -125,6 +125,23 @@ final class Aging {
     }
 
     @Test
+    static void aReloadWaitsForNobody() throws Exception {
+        Scene scene = refreshing().open();
+        scene.cache.get(1);
+        scene.seconds += 10;
+        scene.cache.get(1);
+        Store.Gate gate = scene.store.shut();
+        Work<Void> put = Background.start(() -> scene.cache.put(1, "put"));
+        gate.awaitCall();
+        scene.store.passBy();
+        equal("a reload was begun while its key is being written", 1, scene.reload());
+        equal("it is left out", 1, scene.store.loads.get());
+        gate.open();
+        put.result();
+        equal("and the put's value is there", "put", scene.cache.get(1));
+    }
+
+    @Test
     static void aReloadThatComesToNothingLeavesTheEntry() {
         Scene scene = refreshing().open();
         scene.cache.get(1);

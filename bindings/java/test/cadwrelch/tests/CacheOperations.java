@@ -36,41 +36,6 @@ final class CacheOperations {
     }
 
     @Test
-    static void getsAndPuts() {
-        Cache<String, String> cache = strings();
-        equal("get answers null for a key that isn't there", null, cache.get("a"));
-        cache.put("a", "1");
-        equal("get answers what was put", "1", cache.get("a"));
-        equal("getAndPut answers the old value", "1", cache.getAndPut("a", "2"));
-        equal("getAndPut puts the new one", "2", cache.get("a"));
-        equal("getAndPut of a new key answers null", null, cache.getAndPut("b", "3"));
-        holds("containsKey is true of a key that is there", cache.containsKey("b"));
-        holds("containsKey is false of one that isn't", !cache.containsKey("c"));
-    }
-
-    @Test
-    static void putsIfAbsent() {
-        Cache<String, String> cache = strings();
-        holds("putIfAbsent of a new key is true", cache.putIfAbsent("a", "1"));
-        holds("putIfAbsent of a key that is there is false", !cache.putIfAbsent("a", "2"));
-        equal("and leaves its value", "1", cache.get("a"));
-    }
-
-    @Test
-    static void replaces() {
-        Cache<String, String> cache = strings();
-        holds("replace(key, value) of a missing key is false", !cache.replace("a", "1"));
-        equal("and puts nothing", null, cache.get("a"));
-        cache.put("a", "1");
-        holds("replace(key, value) of a key that is there is true", cache.replace("a", "2"));
-        equal("and puts the value", "2", cache.get("a"));
-        equal("getAndReplace answers the old value", "2", cache.getAndReplace("a", "3"));
-        equal("getAndReplace puts the new one", "3", cache.get("a"));
-        equal("getAndReplace of a missing key answers null", null, cache.getAndReplace("z", "3"));
-        holds("and puts nothing", !cache.containsKey("z"));
-    }
-
-    @Test
     static void comparesByEquals() {
         Cache<String, String> cache = strings();
         cache.put("a", "1");
@@ -84,37 +49,6 @@ final class CacheOperations {
         holds("remove(key, old) compares by equals", cache.remove("a", new String("2")));
         holds("and removes the entry", !cache.containsKey("a"));
         holds("remove(key, old) of a missing key is false", !cache.remove("a", "2"));
-    }
-
-    @Test
-    static void removes() {
-        Cache<String, String> cache = strings();
-        cache.put("a", "1");
-        cache.put("b", "2");
-        holds("remove of a key that is there is true", cache.remove("a"));
-        holds("and removes it", !cache.containsKey("a"));
-        holds("remove of a missing key is false", !cache.remove("a"));
-        equal("getAndRemove answers the value", "2", cache.getAndRemove("b"));
-        equal("and removes it, so that it answers null then", null, cache.getAndRemove("b"));
-    }
-
-    @Test
-    static void callsOfManyKeys() {
-        Cache<String, String> cache = strings();
-        cache.putAll(Map.of("a", "1", "b", "2", "c", "3"));
-        equal("getAll answers the entries that are there", Map.of("a", "1", "c", "3"),
-                cache.getAll(Set.of("a", "c", "z")));
-        equal("getAll of no key answers no entry", Map.of(), cache.getAll(Set.of()));
-        cache.putAll(Map.of());
-        cache.putAll(Map.of("a", "4"));
-        equal("putAll replaces values", "4", cache.get("a"));
-        cache.removeAll(Set.of("a", "z"));
-        equal("removeAll(keys) removes those that are there", contents("b", "2", "c", "3"), contents(cache));
-        cache.removeAll();
-        equal("removeAll removes each entry", contents(), contents(cache));
-        cache.put("a", "1");
-        cache.clear();
-        equal("clear removes each entry", contents(), contents(cache));
     }
 
     /** The entries that are listed in turns, a key and a value. */
@@ -295,23 +229,6 @@ final class CacheOperations {
         Cache any = Caches.create(new MutableConfiguration<>());
         any.put(1, "v");
         equal("without configured types each type will do", "v", any.get(1));
-    }
-
-    @Test
-    static void evictsTheLeastRecentlyUsed() {
-        CacheManager manager = Caches.manager(1, 3);
-        Cache<Integer, String> cache = Caches.create(manager, new MutableConfiguration<>());
-        cache.put(1, "a");
-        cache.put(2, "b");
-        cache.put(3, "c");
-        cache.get(1);
-        cache.put(4, "d");
-        holds("a full stripe evicts the entry that was used longest ago",
-                cache.containsKey(1) && !cache.containsKey(2));
-        holds("containsKey is no use of an entry", cache.containsKey(3));
-        cache.put(5, "e");
-        equal("so that entry is evicted next", Set.of(1, 4, 5), keys(cache));
-        manager.close();
     }
 
     @Test

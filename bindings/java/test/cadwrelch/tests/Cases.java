@@ -2,6 +2,7 @@ package cadwrelch.tests;
 
 import cadwrelch.jcache.CadwrelchConfiguration;
 import cadwrelch.jcache.Inside;
+import cadwrelch.jcache.Invalidation;
 import cadwrelch.tests.Background.Work;
 import cadwrelch.tests.Check.Test;
 import java.io.IOException;
@@ -40,12 +41,9 @@ import javax.management.ObjectName;
 final class Cases {
     /** What can't be played: a word of a line or the name of a case, and why. */
     private static final Map<String, String> LEFT_OUT = Map.of(
-            "expire", "the standard has no such call",
             "the time to live counts beside the time to idle", "an ExpiryPolicy answers one time",
             "a new entry that is removed again is deleted", "the standard's reference asks for nothing",
-            "a processor removes a missing key", "here only an entry that was there counts as removed",
-            "a processor removes what it has loaded", "here only an entry that was there counts as removed",
-            "the failure of a load comes before that of the processor", "JCache wraps what a processor throws",
+            "the failure of a load comes before that of the processor", "the standard wraps what a processor throws",
             "a load_many whose first key is being written", "its thread is the cache's own, and can't be seen to wait");
 
     private Cases() {}
@@ -277,6 +275,7 @@ final class Cases {
                 case "remove_many": return done(() -> cache.removeAll(keys));
                 case "remove_all": return done(cache::removeAll);
                 case "clear": return done(cache::clear);
+                case "expire": return "" + cache.unwrap(Invalidation.class).expire();
                 case "close": return done(cache::close);
                 case "invoke": return cache.invoke(key, (entry, no) -> process(entry, words.subList(2, words.size())));
                 case "invoke_many": return invokeMany(words.subList(0, words.indexOf("do")), words);

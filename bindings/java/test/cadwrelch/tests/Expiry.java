@@ -288,6 +288,7 @@ final class Expiry {
         gate.awaitCall();
         policy.access = Duration.ZERO;
         equal("a get finds an entry whose key is reserved", "old", cache.get(2L));
+        equal("once it has expired it isn't there, and a look at it doesn't wait", false, cache.containsKey(2L));
         policy.access = null;
         Map<Long, String> entries = Map.of(1L, "a", 2L, "b", 3L, "c");
         Work<Void> put = Background.start(() -> cache.putAll(entries));

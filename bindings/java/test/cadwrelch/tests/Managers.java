@@ -357,4 +357,15 @@ final class Managers {
         PROVIDER.close();
         PROVIDER.close();
     }
+
+    /** The calls to which Spring Boot's spring.cache.jcache.provider and spring.cache.cache-names lead. */
+    @Test
+    static void asSpringBootCallsIt() {
+        CacheManager manager = Caching.getCachingProvider("cadwrelch.jcache.JcacheProvider")
+                .getCacheManager(null, Managers.class.getClassLoader(), new Properties());
+        Cache<Object, Object> cache = manager.createCache("of Boot", new MutableConfiguration<>());
+        cache.put("key", "value");
+        equal("its manager and its caches are there", "value", manager.getCache("of Boot").get("key"));
+        manager.destroyCache("of Boot");
+    }
 }

@@ -196,46 +196,4 @@ final class ManyKeys {
                 (entry, arguments) -> entry.getKey()).keySet()));
         cache.close();
     }
-
-    @Test
-    static void aCallOfManyKeysWaitsForAKeyThatIsReserved() throws Exception {
-        Store<Integer, Integer> store = new Store<>();
-        CacheManager manager = Caches.manager(1, 4096);
-        Cache<Integer, Integer> cache =
-                Caches.create(manager, Caches.over(store).setTypes(Integer.class, Integer.class));
-        Store.Gate gate = store.shut();
-        Work<Void> slow = Background.start(() -> cache.put(1, 10));
-        gate.awaitCall();
-        Map<Integer, Integer> entries = new LinkedHashMap<>();
-        entries.put(2, 20);
-        entries.put(1, 11);
-        entries.put(3, 30);
-        Work<Void> all = Background.start(() -> cache.putAll(entries));
-        store.open();
-        slow.result();
-        all.result();
-        equal("a putAll with a key that is being written ends after that", Map.of(1, 11, 2, 20, 3, 30),
-                cache.getAll(Set.of(1, 2, 3)));
-        equal("and so does the store", Map.of(1, 11, 2, 20, 3, 30), store.map);
-        manager.close();
-    }
-
-    @Test
-    static void getAllJoinsALoad() throws Exception {
-        Store<Integer, Integer> store = new Store<>();
-        store.map.putAll(Map.of(1, 10, 2, 20));
-        CacheManager manager = Caches.manager(1, 4096);
-        Cache<Integer, Integer> cache =
-                Caches.create(manager, Caches.over(store).setTypes(Integer.class, Integer.class));
-        Store.Gate gate = store.shut();
-        Work<Integer> get = Background.start(() -> cache.get(1));
-        gate.awaitCall();
-        Work<Map<Integer, Integer>> all = Background.start(() -> cache.getAll(Set.of(1)));
-        all.awaitSleep();
-        store.open();
-        equal("a getAll joins the load of a get", Map.of(1, 10), all.result());
-        equal("which answers the same", 10, get.result());
-        equal("there was one load", 1, store.loads.get() + store.loadAlls.get());
-        manager.close();
-    }
 }

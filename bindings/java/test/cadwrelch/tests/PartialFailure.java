@@ -1,7 +1,6 @@
 package cadwrelch.tests;
 
 import static cadwrelch.tests.Check.equal;
-import static cadwrelch.tests.Check.holds;
 import static cadwrelch.tests.Check.same;
 import static cadwrelch.tests.Check.thrown;
 
@@ -28,30 +27,6 @@ final class PartialFailure {
     private PartialFailure() {}
 
     @Test
-    static void putAllCachesWhatWasWritten() {
-        Store<Integer, String> store = new Store<>();
-        Cache<Integer, String> cache = Caches.through(store, Integer.class, String.class);
-        store.refused = Set.of(12, 14);
-        CacheWriterException failed =
-                thrown("putAll whose writer leaves keys is CacheWriterException", CacheWriterException.class,
-                () -> cache.putAll(Map.of(11, "a", 12, "b", 13, "c", 14, "d")));
-        equal("with what the writer has thrown as its cause", "in part", failed.getCause().getMessage());
-        equal("what was written is cached, and only that", Map.of(11, "a", 13, "c"), contents(cache));
-        equal("the store has the same", Map.of(11, "a", 13, "c"), store.map);
-    }
-
-    @Test
-    static void putAllLeavesTheOldValuesOfWhatFailed() {
-        Store<Integer, String> store = new Store<>();
-        Cache<Integer, String> cache = Caches.through(store, Integer.class, String.class);
-        cache.putAll(Map.of(1, "old", 2, "old"));
-        store.refused = Set.of(2);
-        thrown("putAll in part", CacheWriterException.class, () -> cache.putAll(Map.of(1, "new", 2, "new")));
-        equal("a key that failed keeps its value", Map.of(1, "new", 2, "old"), contents(cache));
-        equal("in the store, too", Map.of(1, "new", 2, "old"), store.map);
-    }
-
-    @Test
     static void removeAllRemovesWhatWasDeleted() {
         Store<Integer, String> store = new Store<>();
         Cache<Integer, String> cache = Caches.through(store, Integer.class, String.class);
@@ -69,34 +44,6 @@ final class PartialFailure {
         cache.removeAll();
         equal("until the writer takes it", Map.of(), contents(cache));
         equal("and the store", Map.of(), store.map);
-    }
-
-    @Test
-    static void aWriterThatLeavesKeysAndReturnsHasFailedAtThem() {
-        Store<Integer, String> store = new Store<>();
-        Cache<Integer, String> cache = Caches.create(Caches.over(store).setCacheWriterFactory(QuietWriter::new));
-        thrown("keys that a writer leaves have failed, though it returns normally", CacheWriterException.class,
-                () -> cache.putAll(Map.of(1, "a", 2, "b")));
-        equal("the others are cached", Map.of(2, "b"), contents(cache));
-    }
-
-    /** A writer that leaves the key 1, and says nothing of it. */
-    private static final class QuietWriter implements CacheWriter<Integer, String> {
-        @Override
-        public void write(Cache.Entry<? extends Integer, ? extends String> entry) {}
-
-        @Override
-        public void writeAll(Collection<Cache.Entry<? extends Integer, ? extends String>> entries) {
-            entries.removeIf(entry -> entry.getKey() != 1);
-        }
-
-        @Override
-        public void delete(Object key) {}
-
-        @Override
-        public void deleteAll(Collection<?> keys) {
-            keys.clear();
-        }
     }
 
     @Test
@@ -155,18 +102,6 @@ final class PartialFailure {
         equal("the writer wasn't asked", 0, store.calls() + store.batches());
         Background.start(() -> cache.putAll(Map.of(1, "x", 2, "y", 3, "z"))).result();
         equal("and each key is free", Map.of(1, "x", 2, "y", 3, "z"), cache.getAll(Set.of(1, 2, 3)));
-    }
-
-    @Test
-    static void getAllOfALoaderThatFailsCachesNothing() {
-        Store<Integer, String> store = new Store<>();
-        store.map.putAll(Map.of(1, "one", 2, "two"));
-        Cache<Integer, String> cache = Caches.through(store, Integer.class, String.class);
-        store.fault = new IllegalStateException("down");
-        thrown("getAll of a loader that fails throws", CacheException.class, () -> cache.getAll(Set.of(1, 2)));
-        store.fault = null;
-        holds("nothing of it is cached", !cache.containsKey(1) && !cache.containsKey(2));
-        equal("and the keys are free", Map.of(1, "one", 2, "two"), cache.getAll(Set.of(1, 2)));
     }
 
     @Test

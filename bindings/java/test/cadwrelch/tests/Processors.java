@@ -5,7 +5,6 @@ import static cadwrelch.tests.Check.holds;
 import static cadwrelch.tests.Check.same;
 import static cadwrelch.tests.Check.thrown;
 
-import java.util.Arrays;
 import java.util.HashMap;
 import java.util.List;
 import java.util.Map;
@@ -41,58 +40,6 @@ final class Processors {
     /** A processor of this shape, so that a test may name one in a line. */
     private static <T> T invoke(Cache<Integer, String> cache, int key, EntryProcessor<Integer, String, T> processor) {
         return cache.invoke(key, processor);
-    }
-
-    @Test
-    static void createsUpdatesAndRemoves() {
-        Cache<Integer, String> cache = plain();
-        equal("setValue creates an entry, and getValue then answers it", 1, cache.invoke(1, Processors::append, "x"));
-        equal("setValue updates an entry", 2, cache.invoke(1, Processors::append, "y"));
-        equal("what was set is cached", "xy", cache.get(1));
-        holds("after remove() the entry doesn't exist", !invoke(cache, 1, (entry, arguments) -> {
-            entry.remove();
-            return entry.exists();
-        }));
-        holds("and is removed", !cache.containsKey(1));
-        holds("remove() of a missing entry does nothing", !invoke(cache, 1, (entry, arguments) -> {
-            entry.remove();
-            return entry.exists();
-        }));
-    }
-
-    @Test
-    static void seesItsOwnChanges() {
-        Cache<Integer, String> cache = plain();
-        List<Object> seen = invoke(cache, 1, (entry, arguments) -> {
-            boolean before = entry.exists();
-            String none = entry.getValue();
-            entry.setValue("a");
-            String set = entry.getValue();
-            entry.remove();
-            return Arrays.asList(before, none, set, entry.exists(), entry.getValue());
-        });
-        equal("a processor sees what it has done", Arrays.asList(false, null, "a", false, null), seen);
-        holds("what it created and removed again isn't cached", !cache.containsKey(1));
-        equal("an entry that is removed and set again has the last value", "c", invoke(cache, 1, (entry, arguments) -> {
-            entry.setValue("b");
-            entry.remove();
-            entry.setValue("c");
-            return entry.getValue();
-        }));
-        equal("which is cached", "c", cache.get(1));
-    }
-
-    @Test
-    static void doesNothingIfItOnlyLooks() {
-        Cache<Integer, String> cache = plain();
-        equal("a processor without a mutation answers its result", "none",
-                invoke(cache, 1, (entry, arguments) -> "none"));
-        equal("which may be null", null, invoke(cache, 1, (entry, arguments) -> null));
-        holds("and creates nothing", !cache.containsKey(1));
-        cache.put(1, "a");
-        equal("getKey and getValue are the entry's", "1=a",
-                invoke(cache, 1, (entry, arguments) -> entry.getKey() + "=" + entry.getValue()));
-        equal("the entry stays", "a", cache.get(1));
     }
 
     @Test

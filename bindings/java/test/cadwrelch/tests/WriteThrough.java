@@ -30,110 +30,26 @@ final class WriteThrough {
         }
     }
 
+    /** The table of cases that all languages share has a delete here. */
     @Test
-    static void puts() {
+    static void aNewEntryThatAProcessorRemovesAgain() {
         Scene scene = new Scene();
-        scene.cache.put(1, "a");
-        scene.check("put writes", "a", 1, 0);
-        scene.cache.put(1, "b");
-        scene.check("and again", "b", 2, 0);
-        scene.cache.getAndPut(1, "c");
-        scene.check("getAndPut writes", "c", 3, 0);
-        scene.cache.putIfAbsent(1, "d");
-        scene.check("putIfAbsent of a key that is there doesn't", "c", 3, 0);
-        scene.cache.remove(1);
-        scene.cache.putIfAbsent(1, "d");
-        scene.check("putIfAbsent of a new key writes", "d", 4, 1);
-    }
-
-    @Test
-    static void replaces() {
-        Scene scene = new Scene();
-        scene.cache.replace(1, "a");
-        scene.check("replace of a missing key doesn't write", null, 0, 0);
-        scene.cache.getAndReplace(1, "a");
-        scene.check("nor does getAndReplace", null, 0, 0);
-        scene.cache.put(1, "a");
-        scene.cache.replace(1, "b");
-        scene.check("replace(key, value) writes", "b", 2, 0);
-        scene.cache.replace(1, "a", "c");
-        scene.check("replace(key, old, new) with another old value doesn't", "b", 2, 0);
-        scene.cache.replace(1, "b", "c");
-        scene.check("and writes if it is equal", "c", 3, 0);
-        scene.cache.getAndReplace(1, "d");
-        scene.check("getAndReplace writes", "d", 4, 0);
-    }
-
-    @Test
-    static void removes() {
-        Scene scene = new Scene();
-        scene.store.map.put(1, "stored");
-        scene.cache.remove(1);
-        scene.check("remove of a key that isn't cached deletes", null, 0, 1);
-        scene.store.map.put(1, "stored");
-        scene.cache.getAndRemove(1);
-        scene.check("and so does getAndRemove", null, 0, 2);
-        scene.cache.put(1, "a");
-        scene.cache.remove(1, "b");
-        scene.check("remove(key, old) with another old value doesn't", "a", 1, 2);
-        scene.cache.remove(1, "a");
-        scene.check("and deletes if it is equal", null, 1, 3);
-        scene.cache.remove(1, "a");
-        scene.check("but not of a missing key", null, 1, 3);
-        scene.cache.put(1, "b");
-        Iterator<Cache.Entry<Integer, String>> entries = scene.cache.iterator();
-        entries.next();
-        entries.remove();
-        scene.check("remove() of an iterator deletes", null, 2, 4);
-    }
-
-    @Test
-    static void processors() {
-        Scene scene = new Scene();
-        scene.cache.invoke(1, (entry, arguments) -> {
-            entry.setValue("a");
-            entry.setValue("b");
-            return null;
-        });
-        scene.check("a processor's last setValue is written, once", "b", 1, 0);
-        scene.cache.invoke(1, (entry, arguments) -> entry.getValue());
-        scene.check("one that only looks writes nothing", "b", 1, 0);
-        scene.cache.invoke(1, (entry, arguments) -> {
-            entry.setValue("c");
-            entry.remove();
-            return null;
-        });
-        scene.check("setValue and then remove of an entry that was there is one delete", null, 1, 1);
         scene.cache.invoke(1, (entry, arguments) -> {
             entry.setValue("x");
             entry.remove();
             return null;
         });
-        scene.check("of an entry that wasn't there it asks nobody", null, 1, 1);
-        scene.cache.invoke(1, (entry, arguments) -> {
-            entry.remove();
-            return null;
-        });
-        scene.check("a remove alone deletes, though nothing is cached", null, 1, 2);
+        scene.check("of an entry that wasn't there nobody is asked", null, 0, 0);
     }
 
     @Test
-    static void callsOfManyKeys() {
+    static void anIteratorDeletes() {
         Scene scene = new Scene();
-        scene.cache.putAll(Map.of(1, "a", 2, "b", 3, "c"));
-        equal("putAll writes", Map.of(1, "a", 2, "b", 3, "c"), scene.store.map);
-        equal("all by one writeAll", "1, 0", scene.store.writeAlls + ", " + scene.store.writes);
-        scene.store.map.put(9, "stored");
-        scene.cache.removeAll(Set.of(1, 9));
-        equal("removeAll(keys) deletes, also what isn't cached", Map.of(2, "b", 3, "c"), scene.store.map);
-        equal("all by one deleteAll", "1, 0", scene.store.deleteAlls + ", " + scene.store.deletes);
-        scene.store.map.put(9, "stored");
-        scene.cache.removeAll();
-        equal("removeAll() deletes what is cached", Map.of(9, "stored"), scene.store.map);
-        scene.cache.put(1, "a");
-        scene.cache.clear();
-        equal("clear asks nobody", "a", scene.store.map.get(1));
-        holds("and empties the cache", !scene.cache.containsKey(1));
+        scene.cache.put(1, "b");
+        Iterator<Cache.Entry<Integer, String>> entries = scene.cache.iterator();
+        entries.next();
+        entries.remove();
+        scene.check("remove() of an iterator deletes", null, 1, 1);
     }
 
     @Test
@@ -173,23 +89,6 @@ final class WriteThrough {
         same("with what it has thrown as its cause", scene.store.fault, failed.getCause());
         equal("the cache is as before", Map.of(1, "a"), scene.cache.getAll(Set.of(1)));
         equal("and the store", Map.of(1, "a"), scene.store.map);
-    }
-
-    @Test
-    static void aGetBetweenAWriteAndItsCommit() throws Exception {
-        Scene scene = new Scene();
-        scene.cache.put(1, "old");
-        Store.Gate gate = scene.store.shut();
-        Work<Void> first = Background.start(() -> scene.cache.put(1, "new"));
-        gate.awaitCall();
-        equal("while a writer is slow, a get of its key answers what is cached", "old", scene.cache.get(1));
-        Work<Void> second = Background.start(() -> scene.cache.put(1, "newer"));
-        second.awaitSleep();
-        scene.store.open();
-        first.result();
-        second.result();
-        equal("a second put of the key comes after the first", "newer", scene.cache.get(1));
-        equal("in the store, too", "newer", scene.store.map.get(1));
     }
 
     @Test

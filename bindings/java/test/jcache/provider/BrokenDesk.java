@@ -1,6 +1,7 @@
 package cadwrelch.jcache;
 
 import java.util.List;
+import java.util.function.Consumer;
 
 /** A stripe without a core, whose first phase throws. */
 final class BrokenDesk extends KeyedDesk {
@@ -22,9 +23,17 @@ final class BrokenDesk extends KeyedDesk {
     }
 
     @Override
-    boolean isCached(KeyLookup sought, Node node) {
+    boolean isCached(Node node) {
         return false;
     }
+
+    @Override
+    KeyLookup lookup(Node node) {
+        throw fault;
+    }
+
+    @Override
+    void forEachKey(Consumer<Node> action) {}
 
     @Override
     int last(Call call) {
