@@ -13,7 +13,7 @@ VALUE = b'a 16-byte value.'
 def main(kind, count):
     """Prints how many calls found their entry."""
     if kind == 'get':
-        cache = Cache(stripes=16, capacity=1024, history=256)
+        cache = Cache(stripes=16, capacity=16 * 1024, history=256)
         for key in KEYS:
             cache.put(key, VALUE)
         call = cache.get

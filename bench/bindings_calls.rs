@@ -76,7 +76,7 @@ fn stripe_of(key: &Key) -> usize {
 
 /// A cache of objects that has these keys.
 fn cache_of(keys: &[Key]) -> Cache<Key, Value> {
-    let cache = Cache::builder().stripes(STRIPES).capacity(KEYS).history(HISTORY).build();
+    let cache = Cache::builder().stripes(STRIPES).capacity(STRIPES * KEYS).history(HISTORY).build();
     let cache = cache.expect("the shape is within the limits");
     for key in keys {
         cache.put(*key, VALUE).expect("nothing is written through");

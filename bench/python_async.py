@@ -99,9 +99,9 @@ async def put_many(writer):
 
 
 async def main(rounds):
-    cache = cadwrelch.AsyncCache(loader=one, stripes=16, capacity=1024)
-    function = cadwrelch.cached(cadwrelch.AsyncCache(stripes=16, capacity=1024))(one)
-    plain, written = cadwrelch.AsyncCache(stripes=16, capacity=1024), cadwrelch.AsyncCache(writer=write, stripes=16, capacity=1024)
+    cache = cadwrelch.AsyncCache(loader=one, stripes=16, capacity=16 * 1024)
+    function = cadwrelch.cached(cadwrelch.AsyncCache(stripes=16, capacity=16 * 1024))(one)
+    plain, written = cadwrelch.AsyncCache(stripes=16, capacity=16 * 1024), cadwrelch.AsyncCache(writer=write, stripes=16, capacity=1024)
     for key in KEYS:
         await cache.get(key)
     calls = TURNS * len(KEYS)

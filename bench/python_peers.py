@@ -35,7 +35,7 @@ def one(key):
 
 
 def ours(**words):
-    return cadwrelch.Cache(stripes=16, capacity=1024, **words)
+    return cadwrelch.Cache(stripes=16, capacity=16 * 1024, **words)
 
 
 def gets():
@@ -141,7 +141,7 @@ print(round((rss() - before) / count))
 
 def memory():
     """Bytes an entry, key and value not counted, each in a process of its own."""
-    kinds = {'dict': '{}', 'Cache': 'cadwrelch.Cache(maxsize=200_000)', 'Cache, ttl': 'cadwrelch.Cache(maxsize=200_000, ttl=1000)'}
+    kinds = {'dict': '{}', 'Cache': 'cadwrelch.Cache(capacity=200_000)', 'Cache, ttl': 'cadwrelch.Cache(capacity=200_000, ttl=1000)'}
     if cachetools:
         kinds.update({'cachetools.LRUCache': '__import__("cachetools").LRUCache(200_000)', 'cachetools.TTLCache': '__import__("cachetools").TTLCache(200_000, 1000)'})
     print('\n| memory of an entry | bytes |\n|---|---|')

@@ -20,7 +20,7 @@ class Mismatch(Exception):
 class Row:
     """A line of the transcript, or the beginning of a call, in the order in which it happened."""
     kind: str                # `call`, `runs`, or what the line of the transcript says
-    text: str                # its words; several lines of one `audit` are separated by line feeds
+    text: str                # its words; several lines of one `audit` are separated by line feeds, with what is being written among them
     line: int                # the line of the script that it belongs to
     session: str = ''        # whose call it is; nobody's, of what is no call's
     call: int = -1
@@ -46,12 +46,17 @@ class Call:
     def __init__(self, session, keys):
         self.session = session
         self.states = dict.fromkeys(keys, '')
+        self.changed = set()  # the keys at which its writer has changed the store
 
     def keys(self, *words):
         return [key for key, state in self.states.items() if state.partition(' ')[0] in words]
 
     def started(self):
         return self.keys(*ASKS, 'process', 'answered')
+
+    def uncommitted(self):
+        """The keys at which the store has a change that the cache hasn't yet."""
+        return [key for key in self.started() if key in self.changed]
 
 
 class Reader:
@@ -176,6 +181,7 @@ class Reader:
                 self.store.pop(key, None)
             if said[1] != 'left':
                 self.changed(row)
+                call.changed.add(key)
             call.states[key] = 'answered'
         if words[0] != 'apply':
             self.fails(number)
@@ -210,8 +216,9 @@ class Reader:
         self.add('reopened', f'{self.takes("reopened.*")[0]}\n{shape(words)}')
 
     def on_audit(self, _words):
-        lines = [self.takes(pattern)[0] for pattern in ('cache.*', 'store.*', 'coherent|differs.*', 'history .*')]
-        self.add('audit', '\n'.join(lines))
+        lines = [self.takes(pattern)[0] for pattern in ('cache.*', 'store.*', 'coherent|differs.*')]
+        lines += [f'{key} is being written by call {number}' for number, call in self.calls.items() for key in call.uncommitted()]
+        self.add('audit', '\n'.join(lines + [self.takes('history .*')[0]]))
 
     def on_untold(self, _words):
         self.add('untold', self.takes('untold.*')[0])

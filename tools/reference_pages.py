@@ -1,6 +1,7 @@
-"""The pages of the reference: docs/reference/NAME.md of each public crate, an index, and the definitions that contracts cite.
+"""The pages of the reference: NAME.md of each crate, an index, and the definitions that contracts cite.
 
-`reference_pages()` makes them all, and `write_reference()` writes them.
+`reference_pages()` makes those of docs/reference, which has the crates of a service's author and no definitions, and `whole_reference()` those of
+all crates. `write_reference()` writes the former, `write_apart()` the latter into a folder.
 """
 import os
 import re
@@ -8,14 +9,13 @@ import re
 from items import Crate
 from sources import ALL, LISTED, SPECS, TOP, about, bare, cell, home_of
 
-# Why a crate has a page: docs/EMBEDDING.md has its reader list it, jc_client passes types of it on, or it is of use by itself.
+# Why a crate has a page in docs/reference: docs/EMBEDDING.md has its reader list it, or jc_client passes on of it what an author of a service names.
 LISTED_BY_GUIDE = ["jc_types", "jc_plain", "jc_store", "jc_sqlite", "jc_client", "jc_bulk", "jc_invoke", "jc_loadall"]
-PASSED_ON = ["jc_model", "jc_outside", "jc_mutentry", "jc_stripe", "jc_cache"]
-BY_THEMSELVES = ["jc_text", "jc_script", "jc_explore", "jc_litmus", "jc_pool"]
-PUBLIC = LISTED_BY_GUIDE + PASSED_ON + BY_THEMSELVES
+PASSED_ON = ["jc_outside", "jc_mutentry", "jc_cache"]
+FOR_SERVICES = LISTED_BY_GUIDE + PASSED_ON
 
 # Which public modules are on the page, beside what a crate's root passes on: the others are for the crates above.
-MODULES = {"jc_text": ["fault", "lines"], "jc_script": ["run"], "jc_litmus": ["run"], "jc_sqlite": ["code", "table"], "jc_cache": ["laws"]}
+MODULES = {"jc_text": ["fault", "lines"], "jc_script": ["run"], "jc_litmus": ["run"], "jc_record": ["run"], "jc_sqlite": ["code", "table"], "jc_cache": ["laws"]}
 
 # The macros and attributes of the toolchain that the guide's programs and the crates use.
 MACROS = [
@@ -56,11 +56,12 @@ def slug(text, taken):
 
 
 class Library:
-    """All crates, and where each item has its page."""
+    """All crates, which of them have a page, and where each item has its place."""
 
-    def __init__(self):
+    def __init__(self, with_page):
         self.crates = {name: Crate(name) for name in ALL}
-        self.shown = {name: self.own_items(name) for name in ALL if name in PUBLIC}
+        self.with_page = with_page
+        self.shown = {name: self.own_items(name) for name in ALL if name in with_page}
         self.passed_on = {name: self.passed(name) for name in self.shown}
         self.adopted = {name: [] for name in self.shown}
         self.places = {}   # id of an item, or (file of specs/, name): (page, anchor)
@@ -118,7 +119,7 @@ class Library:
             item = todo.pop(0)
             if id(item) in self.home:
                 continue
-            owner = item.crate if item.crate in PUBLIC else name
+            owner = item.crate if item.crate in self.with_page else name
             self.home[id(item)] = owner
             (self.adopted[owner] if item.crate != owner else self.shown[owner]).append(item)
             todo += self.named_by(item)
@@ -264,7 +265,7 @@ def put_contract(page, title, text, cited):
         home = home_of(file, name)
         if home in SPECS and name in SPECS[home].definitions:
             page.cited.append((home, name))
-            link = page.link("`%s`" % name, (home, name))
+            link = definition_link(page, home, name)
             links += [link] if link not in links else []
     if links:
         page.put("Definitions: " + ", ".join(links) + ".", "")
@@ -503,9 +504,9 @@ def put_definition(page, file, name):
 
 
 def definition_link(page, file, name):
-    """A definition as a link to its text: on a page, if a contract of the reference cites it, and else its file."""
+    """A definition as a link to its text: on a page, if it has a place on one, and else its file."""
     link = page.link("`%s`" % name, (file, name))
-    return link if link.startswith("[") else "[`%s`](../../../crates/%s)" % (name, file)
+    return link if link.startswith("[") else "[`%s`](%scrates/%s)" % (name, "../" * page.path.count("/"), file)
 
 
 # The index.
@@ -514,20 +515,13 @@ def index_page(library, with_definitions):
     """The page with which a reader begins."""
     page = Page(library, FOLDER + "README.md")
     page.heading(1, "Reference")
-    page.put("One page for each crate that a program of yours may need, made by `tools/reference` of the sources. An item has its signature, and what "
-             "its author says of it: what it is for, its limits, its errors, its conditions, what it may wait for. Behind *contract* are "
+    page.put("One page for each crate that a service of yours may list or name, made by `tools/reference` of the sources. An item has its signature, "
+             "and what its author says of it: what it is for, its limits, its errors, its conditions, what it may wait for. Behind *contract* are "
              "its clauses, word for word, which are proved; [PROOFS](../PROOFS.md) says how to read them. Begin with "
              "[EMBEDDING](../EMBEDDING.md).", "")
     put_rings(page)
-    page.put("", "A crate has a page",
-             "",
-             "- if [EMBEDDING](../EMBEDDING.md#which-crates-to-list) has you list it: %s;" % named(LISTED_BY_GUIDE),
-             "- if `jc_client` or `jc_cache` passes types of it on: %s. The desk of `jc_stripe` is also what the library of [BINDINGS](../BINDINGS.md) is "
-             "made of;" % named(PASSED_ON),
-             "- if it is of use by itself: %s, for scripts, for programs of threads, for jobs of workers." % named(BY_THEMSELVES),
-             "",
-             "No other crate has: a program has no use for the tables of a stripe, its lock, gates, phases and rounds, nor for worlds. If a "
-             "signature names a type of them all the same, it is on the page of the first crate that does. What `jc_c` exports is in its "
+    page.put("", "If a signature names a type of a crate without a page, it is on the page of the first crate that does. `tools/reference --all FOLDER` "
+             "makes the pages of all crates, with the definitions that their contracts cite. What `jc_c` exports is in its "
              "[header](../../bindings/core/include/cadwrelch.h). All crates are in [crates](../matrix/crates.md).", "")
     page.heading(2, "All items")
     put_names(page)
@@ -537,9 +531,10 @@ def index_page(library, with_definitions):
     page.put(*["| `%s` | %s |" % (cell(form), text) for form, text in MACROS])
     page.put("", "Signatures name these types and traits:", "", "| Name | From | What it is |", "|---|---|---|")
     page.put(*["| %s | %s | %s |" % row for row in TOOLCHAIN])
-    page.heading(2, "Definitions")
-    page.put("What the names in contracts mean, crate by crate: " + ", ".join(
-        "[%s](definitions/%s.md)" % (crate, crate) for crate in with_definitions) + ".")
+    if with_definitions:
+        page.heading(2, "Definitions")
+        page.put("What the names in contracts mean, crate by crate: " + ", ".join(
+            "[%s](definitions/%s.md)" % (crate, crate) for crate in with_definitions) + ".")
     return page
 
 
@@ -558,16 +553,11 @@ def put_names(page):
         page.put("**%s** %s" % (letter, ", ".join(links)), "")
 
 
-def named(crates):
-    """These crates, each a link to its page."""
-    return ", ".join("[`%s`](%s.md)" % (crate, crate) for crate in crates)
-
-
 def put_rings(page):
-    """The public crates, ring by ring."""
+    """The crates that have a page, ring by ring."""
     ring_before = None
     for ring, crate, _uses in LISTED:
-        if crate not in PUBLIC:
+        if crate not in page.library.with_page:
             continue
         if ring != ring_before:
             ring_before = ring
@@ -576,24 +566,35 @@ def put_rings(page):
         page.put("| [`%s`](%s.md) | %s |" % (crate, crate, cell(about(crate))))
 
 
-def made_once(library):
+def made_once(library, with_definitions):
     """All pages, by the anchors that are known so far."""
     pages = [crate_page(library, crate) for crate in library.shown]
-    wanted = {at for page in pages for at in page.cited}
-    with_definitions = [crate for crate in ALL if any(file.startswith(crate + "/") for file, _name in wanted)]
-    for crate in with_definitions:
+    wanted = {at for page in pages for at in page.cited} if with_definitions else set()
+    crates = [crate for crate in ALL if any(file.startswith(crate + "/") for file, _name in wanted)]
+    for crate in crates:
         pages.append(definitions_page(library, crate, {at for at in wanted if at[0].startswith(crate + "/")}))
-    pages.append(index_page(library, with_definitions))
+    pages.append(index_page(library, crates))
     return pages
 
 
+def pages_of(library, with_definitions):
+    """All pages of these crates, {path: text}."""
+    made_once(library, with_definitions)  # finds the anchors; the second time each link knows its own
+    return {page.path: page.text() for page in made_once(library, with_definitions)}
+
+
 def reference_pages():
-    """All pages of the reference, {path: text}, and each item of them that has no comment, as `FILE:LINE: NAME`."""
-    library = Library()
-    made_once(library)  # finds the anchors; the second time each link knows its own
-    pages = {page.path: page.text() for page in made_once(library)}
+    """The pages of docs/reference, {path: text}, and each item of them that has no comment, as `FILE:LINE: NAME`."""
+    library = Library(FOR_SERVICES)
+    pages = pages_of(library, False)
     items = [part for name in library.shown for item in library.shown[name] + library.adopted[name] for part in all_parts(item)]
     return pages, ["crates/%s:%d: %s" % (part.source.file, part.line, part.name) for part in items if not part.doc]
+
+
+def whole_reference():
+    """The pages of all crates that others use, with their definitions, {path: text}."""
+    used = {name for _ring, _crate, uses in LISTED for name in uses}
+    return pages_of(Library([name for name in ALL if name in used]), True)
 
 
 def stray_pages(pages):
@@ -610,3 +611,18 @@ def write_reference(pages):
             file.write(text)
     for path in stray_pages(pages):
         os.remove(os.path.join(TOP, path))
+
+
+def write_apart(pages, folder):
+    """Writes pages into a folder, from which their links lead to the sources."""
+    to_top = os.path.relpath(TOP, os.path.abspath(folder))
+    for path, text in pages.items():
+        below = path[len(FOLDER):]
+        up = "../" * below.count("/") + to_top + "/"
+        text = text.replace("](" + "../" * path.count("/"), "](" + up)
+        if "/" not in below:
+            text = re.sub(r"\]\(\.\./(?=[A-Z]|matrix/)", "](%sdocs/" % up, text)
+        at = os.path.join(folder, below)
+        os.makedirs(os.path.dirname(at), exist_ok=True)
+        with open(at, "w", encoding="utf-8") as file:
+            file.write(text)

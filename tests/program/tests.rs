@@ -10,6 +10,7 @@ use jc_shell::Save;
 use jc_store::{Increment, SharedStore, Store};
 use jc_text::Noted;
 use std::alloc::{AllocError, Global};
+use std::cell::Cell;
 use std::io;
 use std::process::Abort;
 
@@ -44,7 +45,7 @@ fn words(rt: &impl Abort, alloc: Global, text: &str) -> Vec<String> {
 struct Folder(Vec<u8>);
 
 impl Save for Folder {
-    ghost saved = { ? };
+    ghost calls = { ? };
 
     fn save(&mut self, name: &[u8], script: &[u8]) -> Result<(), &'static str> {
         if name == b"full".as_slice() {
@@ -183,11 +184,79 @@ fn ends_the_line_of_the_last_prompt(rt: HostRuntime) {
     );
 }
 
+/// A person who types a text only once the answer before it is shown, as far as the number of bytes on the screen tells.
+#[derive(Drop)]
+struct Typist<'a> {
+    /// Answers, each with the text that is typed after it.
+    turns: &'a [(&'a str, &'a str)],
+    due: usize,
+    shown: &'a Cell<usize>,
+}
+
+impl io::Read for Typist<'_> {
+    fn read(&mut self, buf: &mut [u8]) -> io::Result<usize> {
+        let Some(((answer, text), others)) = self.turns.split_first() else {
+            return Ok(0);
+        };
+        self.due += answer.len();
+        if self.shown.get() != self.due {
+            return Err(io::Error::from(io::ErrorKind::TimedOut));
+        }
+        self.turns = others;
+        buf[..text.len()].copy_from_slice(text.as_bytes());
+        Ok(text.len())
+    }
+}
+
+/// A screen that counts the bytes that are shown.
+#[derive(Drop)]
+struct Screen<'a>(&'a Cell<usize>);
+
+impl io::Write for Screen<'_> {
+    fn write(&mut self, buf: &[u8]) -> io::Result<usize> {
+        self.0.set(self.0.get() + buf.len());
+        Ok(buf.len())
+    }
+
+    fn flush(&mut self) -> io::Result<()> {
+        Ok(())
+    }
+}
+
+#[test]
+fn answers_each_line_before_it_reads_more(rt: HostRuntime) {
+    let alloc = rt.alloc();
+    let mut console = unwatched(alloc);
+    let count = |plan: &Plan| -> Result<Report, AllocError> { Err(AllocError) };
+    let shown = Cell::new(0);
+    // Two lines come at once, and one in two parts.
+    let turns = [
+        ("", "open 1 2 100\n"),
+        ("open\n", "begin 1 s1 put a 1\nbegin 2 s1 get a\n"),
+        ("1 a is ok at 0.0\n2 a is 1 at 0.1\n", "begin 3"),
+        ("", " s1 get b\n"),
+    ];
+    let typist = Typist {
+        turns: &turns,
+        due: 0,
+        shown: &shown,
+    };
+    let status = exec(
+        alloc,
+        count,
+        Ok(words(&rt, alloc, "jcache shell")),
+        &mut Noted::new(typist),
+        &mut Noted::new(Screen(&shown)),
+        &mut console,
+    );
+    assert_eq!(&rt; status, 0);
+}
+
 /// A program of threads with one outcome and two states, and the beginning of the answer.
 const PROGRAM: &str = "open 1 2 100\nthread\nget a\n";
 
 const ANSWER: &str =
-    "outcome 1\n1.1 -\ncache\nstore\ncoherent\n| open 1 2 100\n| begin 1 s1 get a\n| audit\nall outcomes: 1 of 2 states\n";
+    "outcome 1\n1.1 get a: -\ncache\nstore\ncoherent\n| open 1 2 100\n| begin 1 s1 get a\n| audit\nall outcomes: 1 of 2 states\n";
 
 /// Explores this program with one more expectation.
 fn expects(rt: &impl Abort, alloc: Global, expectation: &str, status: u8, verdict: &str) {
@@ -227,6 +296,8 @@ struct Told {
 }
 
 impl Watch for Told {
+    ghost told = { ? };
+
     fn on_states(&mut self, followed: u64, known: u64, found: u64) {
         self.numbers = (followed, known, found);
         self.times = self.times.saturating_add(1);

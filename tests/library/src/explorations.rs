@@ -309,6 +309,8 @@ struct Told {
 }
 
 impl Watch for Told {
+    ghost told = { ? };
+
     fn on_states(&mut self, followed: u64, known: u64, _found: u64) {
         self.is_in_order &= followed == self.states && followed < known && self.ends == 0;
         self.states = self.states.saturating_add(1);

@@ -18,6 +18,7 @@ mod doubles;
 mod explorations;
 mod faults;
 mod plain;
+mod records;
 mod scripts;
 mod units;
 mod worlds;
