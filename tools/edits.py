@@ -67,9 +67,10 @@ def edits_of(crate):
     return [Edit(crate, path) for path in files_of(crate, "must-fail", ".edit")]
 
 
-def kit():
-    """The line that says which toolchain proves."""
-    return read(os.path.join(os.path.dirname(os.path.dirname(os.path.realpath(shutil.which("rt")))), "KIT-ID")).strip()
+def logic():
+    """The logic in which the toolchain proves: releases of the toolchain that have one logic have the same rules and the same library."""
+    line = read(os.path.join(os.path.dirname(os.path.dirname(os.path.realpath(shutil.which("rt")))), "KIT-ID")).strip()
+    return line.partition(" logic ")[2] or line
 
 
 def uncommented(text, mark):
@@ -103,11 +104,11 @@ def sum_of(parts):
 
 
 class Sums:
-    """Of each edit the sum of what its refusal stands on: the edit, its crate, the statements of the crates below, and the toolchain."""
+    """Of each edit the sum of what its refusal stands on: the edit, its crate, the statements of the crates below, and the toolchain's logic."""
 
     def __init__(self, below):
         """below: of each crate those below it."""
-        self.below, self.kit = below, kit()
+        self.below, self.logic = below, logic()
         self.seen = {}
 
     def once(self, kind, crate):
@@ -117,7 +118,7 @@ class Sums:
 
     def of(self, edit):
         below = [(it, self.once(statements, it)) for it in ALL if it in self.below[edit.crate]]
-        return sum_of([self.kit, edit.text, self.once(whole, edit.crate), below])[:24]
+        return sum_of([self.logic, edit.text, self.once(whole, edit.crate), below])[:24]
 
 
 def refused_before():
