@@ -7,9 +7,10 @@
 AsyncCache is the same for coroutines; cached keeps the results of functions. cadwrelch.core is the interface of the library itself: one
 stripe.
 """
+from ._async_partners import AsyncEntry
 from ._none import NONE
 from ._version import __version__
-from .aio import AsyncCache, AsyncEntry
+from .aio import AsyncCache
 from .cache import Cache, Entry
 from .errors import BulkError, CacheError, ClosedError, DeadlockError, ForkedError, LoaderError, NotWritten, WriterError
 from .memo import cached, hashkey

@@ -11,31 +11,15 @@ A cancelled call:
 import asyncio
 import inspect
 import math
-import threading
 import types
 
-from . import _core, refresh, rounds, waiting
-from .cache import Entry, Processing
-from .errors import CacheError, is_interrupt, loader_failed, writer_failed
-from .shape import HISTORY_DEFAULT, check_value, many, method, settings
-
-
-class _Loader:
-    """A coroutine function, or an object with such methods load(key) and, if it likes, load_many(keys)."""
-
-    def __init__(self, loader):
-        self.load = method(loader, 'load', 'loader')
-        self.load_many = many(loader, 'load_many')
-
-
-class _Writer:
-    """A coroutine function (key, value), with None to delete, or an object with such methods write, delete, and, if it likes, of many."""
-
-    def __init__(self, writer):
-        self.write = method(writer, 'write', 'writer')
-        self.delete = writer.delete if hasattr(writer, 'write') else lambda key: writer(key, None)
-        self.write_many = many(writer, 'write_many')
-        self.delete_many = many(writer, 'delete_many')
+from . import _awaiting, _core, refresh, rounds, waiting
+from ._async_partners import AsyncEntry, Loader, Writer
+from ._awaited_rounds import Calls
+from ._awaiting import attempt
+from .cache import Processing
+from .errors import is_interrupt, loader_failed, writer_failed
+from .shape import HISTORY_DEFAULT, check_value, settings
 
 
 _CANCELLED = asyncio.CancelledError('the load was cancelled')
@@ -44,26 +28,6 @@ _CANCELLED = asyncio.CancelledError('the load was cancelled')
 
 async def _nothing(*_):
     return None
-
-
-async def _attempt(function, *arguments):
-    """What a coroutine function returns, and what it raises: see rounds."""
-    try:
-        return await function(*arguments), None
-    except BaseException as error:
-        return None, error
-
-
-async def _answer(item, function, *arguments):
-    item.answer, item.error = await _attempt(function, *arguments)
-
-
-async def _each(coroutines):
-    """Awaits them at once."""
-    if len(coroutines) == 1:
-        await coroutines[0]
-    else:
-        await asyncio.gather(*coroutines)
 
 
 async def _processed(processor, entry, arguments):
@@ -93,132 +57,6 @@ def _shared(flight):
     return flight.value, None if is_interrupt(flight.error) else flight.error
 
 
-class AsyncEntry(Entry):
-    """An entry while its processor runs. `await entry.load()` asks the loader, as `entry.value` of a Cache does."""
-
-    @property
-    def value(self):
-        """The value, or None. The loader isn't asked."""
-        self._check()
-        self._is_used = True
-        return self._value
-
-    @value.setter
-    def value(self, value):
-        Entry.value.fset(self, value)
-
-    @value.deleter
-    def value(self):
-        self.remove()
-
-    async def load(self):
-        """The value, or None. With read-through the loader is asked if there is none and the processor has changed nothing: once, and a
-        LoaderError of it is raised at each further load, too (JCache: getValue)."""
-        self._check()
-        self._is_used = True
-        if self._may_ask():
-            self._note_load(*await _attempt(self._cache._loader.load, self.key))
-        return self._read()
-
-
-class _Calls(rounds.Round):
-    """A call of many keys, whose task waits."""
-
-    def __init__(self, cache, work):
-        super().__init__(cache._stripes, cache._life, work, cache.name)
-        self._cache = cache
-
-    async def run(self):
-        """All rounds: what was found."""
-        while self.items:
-            with waiting.in_round(self):
-                blocked = await self._round()
-            if blocked is not None:
-                await self._wait(blocked)
-        return self.result()
-
-    async def _round(self):
-        """One round. If it could reserve and join nothing: what it waits for."""
-        reserved, joined, blocked = self.begin()
-        if not reserved and not joined:
-            return blocked
-        try:
-            if reserved and reserved[0].call.next == _core.ASK_LOAD:
-                await self._load(reserved)
-            elif reserved:
-                await self._cache._to_its_end(self._write(reserved))
-            for item in joined:
-                await self._pick_up(item)
-        finally:
-            self.forget(joined)
-        return None
-
-    async def _wait(self, blocked):
-        try:
-            await self._cache._until_free(blocked)
-        except CacheError as error:
-            self.stop(self.items, error)
-
-    async def _load(self, reserved):
-        try:
-            with waiting.holding(*[item.call.flight for item in reserved]):
-                _, error = await _attempt(self._ask_loader, reserved)
-                if error is not None:
-                    self.loaded(reserved, None, error)
-                    del error
-                self.commit_loads(reserved)
-        finally:
-            self.forget(reserved)
-        self.raise_interrupt()
-
-    async def _ask_loader(self, reserved):
-        """Asks the loader. One of one key is asked for all at once."""
-        loader = self._cache._loader
-        if loader.load_many is None:
-            await _each([_answer(item, loader.load, item.key) for item in reserved])
-        else:
-            keys = [item.key for item in reserved]
-            self.loaded(reserved, rounds.values_of(await loader.load_many(keys), keys), None)
-
-    async def _write(self, reserved):
-        try:
-            with waiting.holding(*[item.call.flight for item in reserved]):
-                _, error = await _attempt(self._ask_writer, reserved)
-                if error is not None:
-                    self.written(reserved, error)
-                    del error
-                self.commit_writes(reserved)
-        finally:
-            self.forget(reserved)
-        self.raise_interrupt()
-
-    async def _ask_writer(self, reserved):
-        """Asks the writer. One of one key is asked for all at once."""
-        writer = self._cache._writer
-        is_write = reserved[0].call.next == _core.ASK_WRITE
-        if is_write and writer.write_many is not None:
-            await writer.write_many({item.key: item.value for item in reserved})
-        elif not is_write and writer.delete_many is not None:
-            await writer.delete_many([item.key for item in reserved])
-        else:
-            await _each([_answer(item, self._cache._ask_writer, item.key, item.value) for item in reserved])
-            for item in reserved:
-                item.answer = rounds.outcome_of(item.error)
-            return
-        self.written(reserved, None)
-
-    async def _pick_up(self, item):
-        joined, item.error = await _attempt(self._cache._join, item.call)
-        if joined is not None:
-            reply, item.error = joined
-            del joined
-            self.picked_up(item, reply)
-        else:
-            # It is abandoned.
-            self.end(item, None, item.error)
-            self.raise_interrupt()
-
-
 class AsyncCache:
     """A cache before a store that a loader reads and a writer changes, for coroutines: see Cache, whose words it takes.
 
@@ -238,8 +76,8 @@ class AsyncCache:
                          write_through=write_through)
         if refresh_after is not None:
             words['reload'] = refresh.InTasks(self)
-        self._loader = _Loader(_nothing if loader is None else loader)
-        self._writer = _Writer(_nothing if writer is None else writer)
+        self._loader = Loader(_nothing if loader is None else loader)
+        self._writer = Writer(_nothing if writer is None else writer)
         self._ttl_of = ttl if callable(ttl) else None
         self._stripes = _core.Stripes(**words)
         self._writes = words['writes']
@@ -342,7 +180,7 @@ class AsyncCache:
         The loader is awaited for all that are missing: once, if it has load_many. It waits as get does. Keys whose load failed are the
         `failed` of a BulkError, whose `found` has the others. If it is cancelled, so are its loads.
         """
-        return await _Calls(self, [(_core.GET, key, None) for key in keys]).run()
+        return await Calls(self, [(_core.GET, key, None) for key in keys]).run()
 
     async def put_many(self, entries):
         """Writes and caches the values of a mapping (JCache: putAll). It isn't atomic: each key is a put of its own.
@@ -354,23 +192,23 @@ class AsyncCache:
         for key, value in entries.items():
             check_value(value)
             work.append((_core.PUT, key, value))
-        await _Calls(self, work).run()
+        await Calls(self, work).run()
 
     async def remove_many(self, keys):
         """Deletes these keys from store and cache (JCache: removeAll). The writer is awaited once, if it has delete_many. It waits and fails
         as put_many does."""
-        await _Calls(self, [(_core.REMOVE, key, None) for key in keys]).run()
+        await Calls(self, [(_core.REMOVE, key, None) for key in keys]).run()
 
     async def load_many(self, keys, replace=False):
         """Loads these keys: those that aren't cached, or, with replace, all (JCache: loadAll). The writer isn't asked. A key for which the
         loader finds nothing is as it was. It waits and fails as get_many does."""
         op = _core.RELOAD if replace else _core.LOAD
-        await _Calls(self, [(op, key, None) for key in keys]).run()
+        await Calls(self, [(op, key, None) for key in keys]).run()
 
     async def clear(self):
         """Uncaches all keys that are cached now (JCache: clear). The store keeps them, and the writer isn't asked. It waits for calls that
         have one of the keys."""
-        await _Calls(self, [(_core.CLEAR_KEY, key, None) for key in self._stripes._all_keys()]).run()
+        await Calls(self, [(_core.CLEAR_KEY, key, None) for key in self._stripes._all_keys()]).run()
 
     # Phases.
 
@@ -468,7 +306,7 @@ class AsyncCache:
         """Asks for a value, and commits it: the reply, or why it has failed. An interrupt is raised."""
         try:
             with waiting.holding(call.flight):
-                value, error = await _attempt(function, *arguments)
+                value, error = await attempt(function, *arguments)
                 ttl = None
                 if value is not None:
                     ttl, error = rounds.attempt(self._life, call.key, value)
@@ -485,7 +323,7 @@ class AsyncCache:
         try:
             with waiting.noted(call):
                 while not call.flight.is_over:
-                    await _sleep(call.flight)
+                    await _awaiting.sleep(call.flight)
         except BaseException:
             call.abandon()
             raise
@@ -498,7 +336,7 @@ class AsyncCache:
         try:
             with waiting.holding(call.flight):
                 value = call.value if call.next == _core.ASK_WRITE else None
-                _, error = await _attempt(self._ask_writer, call.key, value)
+                _, error = await attempt(self._ask_writer, call.key, value)
             reply = call.commit_write(rounds.outcome_of(error))
             if error is not None:
                 _raise_from(writer_failed, call, error)
@@ -512,11 +350,11 @@ class AsyncCache:
             entry = AsyncEntry(self, call.key, call.cached, call.may_load)
             run = Processing()
             with waiting.holding(call.flight):
-                run.result, run.failure = await _attempt(_processed, processor, entry, arguments)
+                run.result, run.failure = await attempt(_processed, processor, entry, arguments)
                 if run.failure is None and entry._error is None:
                     run.ttl, run.failure = rounds.attempt(self._life, call.key, entry._value)
                 if run.failure is None and entry._error is None and self._writes and entry._effect != _core.KEEP:
-                    _, run.failure = await _attempt(self._ask_writer, call.key, entry._value)
+                    _, run.failure = await attempt(self._ask_writer, call.key, entry._value)
                     run.write = rounds.outcome_of(run.failure)
             return run.end(call, entry)
         finally:
@@ -525,7 +363,7 @@ class AsyncCache:
     async def _to_its_end(self, writing):
         """Awaits what isn't cancelled with its caller."""
         task = asyncio.ensure_future(writing)
-        self._tasks[task] = _End()
+        self._tasks[task] = _awaiting.End()
         task.add_done_callback(self._forget)
         try:
             return await asyncio.shield(task)
@@ -548,10 +386,10 @@ class AsyncCache:
         self._end_the_dead()
         if blocked.flight is not None:
             with waiting.noted(blocked):
-                await _sleep(blocked)
+                await _awaiting.sleep(blocked)
         else:
             waiting.check_outside(blocked)
-            await _sleep(blocked)
+            await _awaiting.sleep(blocked)
 
     # The cache as a whole.
 
@@ -629,7 +467,7 @@ class AsyncCache:
         self.close()
         self._end_the_dead()
         while self._tasks and not self._stripes._is_foreign:
-            await _sleep(next(iter(self._tasks.values())))
+            await _awaiting.sleep(next(iter(self._tasks.values())))
 
     async def __aenter__(self):
         return self
@@ -639,41 +477,3 @@ class AsyncCache:
 
     def _agrees(self):
         return self._stripes._agrees()
-
-
-class _End:
-    """The end of a task, for waiters of any loop."""
-
-    def __init__(self):
-        self._is_over = False
-        self._waiters = []
-
-    def add_waiter(self, waiter):
-        """Has this called when the task has ended. False: it has."""
-        self._waiters.append(waiter)
-        return not self._is_over
-
-    def set(self):
-        self._is_over = True
-        for waiter in self._waiters:
-            waiter()
-
-
-def _wake(future):
-    if not future.done():
-        future.set_result(None)
-
-
-async def _sleep(waits_at):
-    loop = asyncio.get_running_loop()
-    future = loop.create_future()
-    thread = threading.get_ident()
-
-    def wake():
-        if threading.get_ident() == thread:
-            _wake(future)
-        elif not loop.is_closed():
-            loop.call_soon_threadsafe(_wake, future)
-
-    if waits_at.add_waiter(wake):
-        await future

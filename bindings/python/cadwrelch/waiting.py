@@ -107,7 +107,8 @@ def _reaches(flight, held):
     return False
 
 
-def _sleep(waits_at):
+def sleep(waits_at):
+    """Waits until this wakes its waiters."""
     lock = threading.Lock()
     lock.acquire()
     if waits_at.add_waiter(lock.release):
@@ -119,7 +120,7 @@ def until_over(call):
     try:
         with noted(call):
             while not call.flight.is_over:
-                _sleep(call.flight)
+                sleep(call.flight)
     except BaseException:
         call.abandon()
         raise
@@ -129,7 +130,7 @@ def until_free(blocked):
     """Waits until what was refused may be tried again."""
     if blocked.flight is not None:
         with noted(blocked):
-            _sleep(blocked)
+            sleep(blocked)
     else:
         check_outside(blocked)
-        _sleep(blocked)
+        sleep(blocked)

@@ -2,7 +2,7 @@
 import threading
 from unittest import mock
 
-from cadwrelch import aio, waiting
+from cadwrelch import _awaiting, waiting
 
 
 class Broken(Exception):
@@ -43,8 +43,8 @@ class Waits:
 
     def __init__(self):
         self._sleeps = threading.Semaphore(0)
-        self._patches = [mock.patch.object(waiting, '_sleep', self._noted(waiting._sleep)),
-                         mock.patch.object(aio, '_sleep', self._noted(aio._sleep))]
+        self._patches = [mock.patch.object(waiting, 'sleep', self._noted(waiting.sleep)),
+                         mock.patch.object(_awaiting, 'sleep', self._noted(_awaiting.sleep))]
 
     def _noted(self, sleep):
         def noted(waits_at):

@@ -124,8 +124,8 @@ class Player:
             raise Broken('writer')
 
     def play(self, steps):
-        sleep = self.sleeps_in._sleep
-        with mock.patch.object(self.sleeps_in, '_sleep', lambda waits_at: self.worker().come('waits') or sleep(waits_at)):
+        sleep = self.sleeps_in.sleep
+        with mock.patch.object(self.sleeps_in, 'sleep', lambda waits_at: self.worker().come('waits') or sleep(waits_at)):
             for number, words, reply, asks in steps:
                 is_look, is_begun = hasattr(self, 'see_' + words[0]), words[1:2] in (['begins'], ['waits'])
                 found, worker = self.step(*words)

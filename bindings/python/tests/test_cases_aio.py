@@ -4,7 +4,7 @@ import inspect
 import types
 
 import cadwrelch
-from cadwrelch import aio
+from cadwrelch import _awaiting
 
 from . import test_cases
 
@@ -23,7 +23,7 @@ async def result_of(call):
 class AsyncPlayer(test_cases.Player):
     """Plays one case."""
 
-    sleeps_in = aio
+    sleeps_in = _awaiting
 
     def make_cache(self, **words):
         methods = ('load', 'load_many', 'write', 'write_many', 'delete', 'delete_many')
