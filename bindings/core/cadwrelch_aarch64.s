@@ -30494,8 +30494,8 @@ jc_begin:
 	.section .rodata.jc_stamp,"a",@progbits
 	.globl jc_stamp
 	.type jc_stamp,@object
-	.size jc_stamp,94
+	.size jc_stamp,79
 jc_stamp:
-	.string "cadwrelch 0.2.0, proved in rattle-kit-13f logic dac8208d650f15bf, of sources ff7a7c151dacf356"
+	.string "cadwrelch 0.2.0, proved in logic dac8208d650f15bf, of sources ff7a7c151dacf356"
 
 	.section .note.GNU-stack,"",@progbits
