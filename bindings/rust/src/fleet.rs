@@ -114,7 +114,7 @@ where
     loop {
         left = left.saturating_sub(1);
         match cache.invoke(key.clone(), &mut processor) {
-            Err(crate::Error::Writer(error)) if error.is_conflict() && left > 0 => {
+            Err(crate::Error::Writer(error, _)) if error.is_conflict() && left > 0 => {
                 cache.invalidate(key);
             }
             ended => return ended,

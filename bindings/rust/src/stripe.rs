@@ -1,5 +1,6 @@
 //! One stripe: a desk and its table under a mutex, the last phases of calls, and who waits. First phases are in `first`. Of the user's,
 //! only whether keys are equal is asked while the mutex is held.
+use crate::at::Name;
 use crate::core::{self, Shape, Statistics, Ticket};
 use crate::lives::{Asking, Lives, Nanos, Renewal};
 use crate::op::Reply;
@@ -30,6 +31,7 @@ pub(crate) struct Stripe<K, V, E> {
     pub has_write_through: bool,
     listener: Option<Listener<K, V>>,
     pub lives: Arc<Lives<K, V>>,
+    pub name: Name<K>,
 }
 
 // A listener is called with nothing half done, and all else is under a mutex.
@@ -46,6 +48,7 @@ impl<K, V, E> Stripe<K, V, E> {
         shape: &Shape,
         lives: Arc<Lives<K, V>>,
         listener: Option<Listener<K, V>>,
+        name: Name<K>,
     ) -> Result<Self, core::Code> {
         Ok(Stripe {
             side: Mutex::new(Side::open(shape, lives.remembers())?),
@@ -54,6 +57,7 @@ impl<K, V, E> Stripe<K, V, E> {
             has_write_through: shape.write_through,
             listener,
             lives,
+            name,
         })
     }
 

@@ -136,7 +136,7 @@ fn a_processor_sees_no_expired_entry() {
     let inside = it.cache.invoke(a(), |_| {
         assert_eq!(it.cache.get("a").unwrap(), text("1"));
         it.clock.go(10);
-        Ok(matches!(it.cache.get("a"), Err(Error::WouldDeadlock)))
+        Ok(matches!(it.cache.get("a"), Err(Error::WouldDeadlock(_))))
     });
     assert!(
         inside.unwrap(),

@@ -150,7 +150,7 @@ fn a_close_wakes_who_waits_to_begin() {
         let waits = threads.spawn(|| cache.put("a".into(), 2u32));
         wait_until_waiting(cache, 1);
         cache.close();
-        assert!(matches!(waits.join().unwrap(), Err(Error::Closed)));
+        assert!(matches!(waits.join().unwrap(), Err(Error::Closed(_))));
         gate.answers.as_ref().unwrap().send(Ok(7)).unwrap();
         assert_eq!(slow.join().unwrap().unwrap().as_deref(), Some(&7));
     });
@@ -205,7 +205,7 @@ fn nested() -> Arc<Cache<String, String, Nested>> {
 fn a_loader_that_waits_for_itself_is_told() {
     let cache = nested();
     match cache.get("own") {
-        Err(Error::Loader(error)) => assert_eq!(*error, "WouldDeadlock"),
+        Err(Error::Loader(error, _)) => assert_eq!(*error, "WouldDeadlock"),
         other => panic!("{other:?}"),
     }
     assert!(cache.agrees());
