@@ -140,6 +140,12 @@ pub enum OpenError {
     Unreachable(Fault),
 }
 
+impl From<Fault> for OpenError {
+    fn from(error: Fault) -> OpenError {
+        OpenError::Unreachable(error)
+    }
+}
+
 /// Where a fleet hears of changes: a connection to an engine. The fleet's thread calls it, but for the first [`open`](Self::open).
 pub trait Announcements<K>: Send {
     /// Connects and subscribes, within about this time. Of each change that is committed after it has returned,
