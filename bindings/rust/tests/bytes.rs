@@ -124,7 +124,7 @@ impl Loader<[u8], Vec<u8>> for Own {
             .expect("the cache is there");
         let joined = cache.get(key).map_err(|error| format!("{error:?}"));
         let put = cache.put(key, b"1").map_err(|error| format!("{error:?}"));
-        assert_eq!(put, Err("WouldDeadlock".to_string()));
+        assert_eq!(put, Err("WouldDeadlock(At)".to_string()));
         joined
     }
 }
@@ -140,7 +140,7 @@ fn a_loader_that_waits_for_itself_is_told() {
     cache.loader().0.set(Arc::downgrade(&cache)).unwrap();
     for _ in 0..100 {
         assert!(
-            matches!(cache.get(b"a"), Err(Error::Loader(error, _)) if *error == "WouldDeadlock")
+            matches!(cache.get(b"a"), Err(Error::Loader(error, _)) if *error == "WouldDeadlock(At)")
         );
     }
     assert!(cache.entries().unwrap().is_empty());

@@ -312,7 +312,7 @@ fn a_policy_that_would_wait_for_room_is_told() {
         panic!("it loads")
     };
     last.ask().commit(Ok(Some(new("1")))).unwrap();
-    assert_eq!(*policy.answers.lock().unwrap(), ["Err(WouldDeadlock)"]);
+    assert_eq!(*policy.answers.lock().unwrap(), ["Err(WouldDeadlock(At))"]);
     drop(tickets);
     assert!(cache.agrees());
 }
