@@ -1,5 +1,5 @@
 //! Fleets before a PostgreSQL, which the test starts in a temporary folder with a Unix socket. If there is none, it says so.
-use cadwrelch::fleet::{Fault, Fleet, FleetBuilder, FleetState};
+use cadwrelch::fleet::{Fleet, FleetState};
 use cadwrelch::{Cache, NoWriter};
 use cadwrelch_fleet_postgres::{PostgresAnnouncements, tokio_postgres};
 use std::io::{self, Read, Write};
@@ -8,6 +8,7 @@ use std::os::unix::net::{UnixListener, UnixStream};
 use std::path::{Path, PathBuf};
 use std::process::{Command, Stdio};
 use std::sync::Arc;
+use std::sync::atomic::{AtomicBool, Ordering::SeqCst};
 use std::sync::mpsc::{Receiver, channel};
 use std::time::Duration;
 use std::{env, fs};
@@ -144,24 +145,31 @@ fn runtime() -> Runtime {
 }
 
 fn try_sql(config: &Config, query: &str) -> Result<Vec<String>, tokio_postgres::Error> {
-    let (config, query) = (config.clone(), query.to_string());
-    let ask = async move {
-        let (client, connection) = config.connect(NoTls).await?;
-        let driven = tokio::spawn(connection);
-        let answered = client.simple_query(&query).await;
-        drop(client);
-        let _ = driven.await;
-        answered
-    };
+    try_all(config, &[query])
+}
+
+/// The same of several, each of which is a transaction, by one connection.
+fn try_all(config: &Config, queries: &[&str]) -> Result<Vec<String>, tokio_postgres::Error> {
     let row = |message| match message {
         SimpleQueryMessage::Row(row) => row.get(0).map(str::to_string),
         _ => None,
     };
-    Ok(runtime()
-        .block_on(ask)?
-        .into_iter()
-        .filter_map(row)
-        .collect())
+    let config = config.clone();
+    runtime().block_on(async move {
+        let (client, connection) = config.connect(NoTls).await?;
+        tokio::spawn(connection);
+        let mut rows = Vec::new();
+        for query in queries {
+            rows.extend(
+                client
+                    .simple_query(query)
+                    .await?
+                    .into_iter()
+                    .filter_map(row),
+            );
+        }
+        Ok(rows)
+    })
 }
 
 type Load = Box<dyn Fn(&String) -> Result<Option<String>, String> + Send + Sync>;
@@ -195,21 +203,20 @@ fn make_table(engine: &Engine, name: &str, key: &str) {
     engine.sql(&engine.announcements(name).triggers());
 }
 
-/// A fleet whose times are short, and the states that it has told.
+/// A fleet, and the states that it has told.
 fn spawned(
     cache: &Arc<Texts>,
     engine: &Engine,
     table: &str,
-) -> (Result<Fleet, Fault>, Receiver<FleetState>) {
+    patience: Duration,
+) -> (Fleet, Receiver<FleetState>) {
     let (tell, told) = channel();
-    let builder: FleetBuilder<_, _, _> = Fleet::builder(cache.clone(), engine.announcements(table));
-    let builder = builder.beat(SHORT).patience(100 * SHORT).retry(SHORT);
-    (
-        builder
-            .on_state(move |state| tell.send(state).unwrap_or(()))
-            .spawn(),
-        told,
-    )
+    let builder = Fleet::builder(cache.clone(), engine.announcements(table))
+        .beat(SHORT)
+        .patience(patience)
+        .retry(SHORT)
+        .on_state(move |state| tell.send(state).unwrap_or(()));
+    (builder.spawn().unwrap(), told)
 }
 
 fn what_anybody_changes_is_forgotten(engine: &Engine) {
@@ -217,7 +224,7 @@ fn what_anybody_changes_is_forgotten(engine: &Engine) {
     let caches = [(); 2].map(|()| cache_of(engine, "pages"));
     let fleets = caches
         .each_ref()
-        .map(|it| spawned(it, engine, "pages").0.unwrap());
+        .map(|it| spawned(it, engine, "pages", LONG).0);
     let changes = [
         (
             "insert into pages values ('a', '1'), ('b', '1')",
@@ -336,8 +343,7 @@ fn a_connection_that_ends_is_made_anew(engine: &Engine) {
     make_table(engine, "ended", "text");
     engine.sql("insert into ended values ('a', '1')");
     let cache = cache_of(engine, "ended");
-    let (fleet, told) = spawned(&cache, engine, "ended");
-    let fleet = fleet.unwrap();
+    let (fleet, told) = spawned(&cache, engine, "ended", LONG);
     assert_eq!(get(&cache, "a").as_deref(), Some("1"));
     engine.sql(
         "alter table ended disable trigger cadwrelch_update; update ended set value = '2';
@@ -365,8 +371,7 @@ fn a_silent_connection_is_lost(engine: &Engine) {
     make_table(engine, "silent", "text");
     engine.sql("insert into silent values ('a', '1')");
     let cache = cache_of(engine, "silent");
-    let (fleet, told) = spawned(&cache, engine, "silent");
-    let fleet = fleet.unwrap();
+    let (fleet, told) = spawned(&cache, engine, "silent", 50 * SHORT);
     assert_eq!(get(&cache, "a").as_deref(), Some("1"));
     let pids =
         engine.sql("select pid from pg_stat_activity where application_name = 'cadwrelch-fleet'");
@@ -382,7 +387,47 @@ fn a_silent_connection_is_lost(engine: &Engine) {
         [FleetState::Live, FleetState::Suspended, FleetState::Live]
     );
     assert_eq!(get(&cache, "a").as_deref(), Some("2"));
-    assert_eq!(fleet.stats().lost, 1);
+    assert!(fleet.stats().lost > 0);
+}
+
+/// Values that count their changes, made by a plain client while others read: nobody sees one go back, and at rest all have the last
+/// ones, but for the control, a cache without a fleet.
+fn at_rest_all_have_what_the_table_has(engine: &Engine) {
+    make_table(engine, "race", "text");
+    engine.sql("insert into race values ('a', '0'), ('b', '0')");
+    let caches = [(); 3].map(|()| cache_of(engine, "race"));
+    let [first, second, control] = caches.each_ref();
+    let fleets = [first, second].map(|it| spawned(it, engine, "race", LONG).0);
+    let count = |cache: &Texts, key| get(cache, key).unwrap().parse::<u32>().unwrap();
+    assert_eq!((count(control, "a"), count(control, "b")), (0, 0));
+    let is_over = AtomicBool::new(false);
+    std::thread::scope(|threads| {
+        for cache in [first, first, second, second] {
+            threads.spawn(|| {
+                let mut seen = [0; 2];
+                while !is_over.load(SeqCst) {
+                    for (seen, key) in seen.iter_mut().zip(["a", "b"]) {
+                        let count = count(cache, key);
+                        assert!(*seen <= count, "{key}: {count} after {seen}");
+                        *seen = count;
+                    }
+                }
+            });
+        }
+        let change = ["a", "b"]
+            .map(|key| format!("update race set value = value::int + 1 where key = '{key}'"));
+        let changes: Vec<&str> = (0..400).map(|at| change[at % 2].as_str()).collect();
+        let changed = try_all(&engine.config(), &changes);
+        is_over.store(true, SeqCst);
+        changed.unwrap();
+    });
+    for (cache, fleet) in [first, second].into_iter().zip(&fleets) {
+        assert!(fleet.catch_up(LONG));
+        assert_eq!((count(cache, "a"), count(cache, "b")), (200, 200));
+        assert_eq!((fleet.stats().told, fleet.stats().lost), (400, 0));
+        assert!(cache.agrees());
+    }
+    assert_eq!((count(control, "a"), count(control, "b")), (0, 0));
 }
 
 /// Whoever makes a fleet, uses its cache, and drops both, may be in a runtime of his own.
@@ -473,6 +518,7 @@ fn fleets_before_an_engine() {
     what_has_to_be_is_looked_for(&engine);
     a_connection_that_ends_is_made_anew(&engine);
     a_silent_connection_is_lost(&engine);
+    at_rest_all_have_what_the_table_has(&engine);
     it_is_used_within_a_runtime(&engine);
     a_pooler_of_transactions_is_noticed(&engine);
     a_standby_is_noticed(&engine);
