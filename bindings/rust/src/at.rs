@@ -27,21 +27,21 @@ impl At {
     }
 }
 
-/// The end of a text: nothing, or the key and the cache.
+/// `key "home", cache pages`; nothing, if the cache has no name.
 impl fmt::Display for At {
     fn fmt(&self, f: &mut fmt::Formatter<'_>) -> fmt::Result {
-        match self.0.as_deref() {
-            None => Ok(()),
-            Some(Place { cache, key: None }) => write!(f, " (cache {cache})"),
-            #[rustfmt::skip]
-            Some(Place { cache, key: Some(key) }) => write!(f, " (key {key}, cache {cache})"),
+        if let Some(key) = self.key() {
+            write!(f, "key {key}, ")?;
         }
+        self.cache()
+            .map_or(Ok(()), |cache| write!(f, "cache {cache}"))
     }
 }
 
 impl Debug for At {
     fn fmt(&self, f: &mut fmt::Formatter<'_>) -> fmt::Result {
-        write!(f, "At{self}")
+        f.write_str("At")?;
+        self.0.as_ref().map_or(Ok(()), |_| write!(f, "({self})"))
     }
 }
 

@@ -49,16 +49,21 @@ impl<L, W> Error<L, W> {
 
 impl<L: fmt::Display, W: fmt::Display> fmt::Display for Error<L, W> {
     fn fmt(&self, f: &mut fmt::Formatter<'_>) -> fmt::Result {
-        match self {
-            Error::Loader(error, at) => write!(f, "the loader failed{at}: {error}"),
-            Error::LoaderPanicked(at) => write!(f, "the loader panicked{at}"),
-            Error::Writer(error, at) => write!(f, "the writer failed{at}: {error}"),
-            Error::Processor(error, at) => write!(f, "the processor failed{at}: {error}"),
-            Error::WouldDeadlock(at) => write!(f, "the call would wait for its own thread{at}"),
-            Error::Limits(at) => write!(f, "a key has 1 to 32 bytes, a value 0 to 256{at}"),
-            Error::HistoryFull(at) => write!(f, "the history is full{at}"),
-            Error::Closed(at) => write!(f, "the cache is closed{at}"),
+        let (what, why): (_, Option<&dyn fmt::Display>) = match self {
+            Error::Loader(error, _) => ("the loader failed", Some(error)),
+            Error::LoaderPanicked(_) => ("the loader panicked", None),
+            Error::Writer(error, _) => ("the writer failed", Some(error)),
+            Error::Processor(error, _) => ("the processor failed", Some(error)),
+            Error::WouldDeadlock(_) => ("the call would wait for its own thread", None),
+            Error::Limits(_) => ("a key has 1 to 32 bytes, a value 0 to 256", None),
+            Error::HistoryFull(_) => ("the history is full", None),
+            Error::Closed(_) => ("the cache is closed", None),
+        };
+        f.write_str(what)?;
+        if self.at().cache().is_some() {
+            write!(f, " ({})", self.at())?;
         }
+        why.map_or(Ok(()), |error| write!(f, ": {error}"))
     }
 }
 

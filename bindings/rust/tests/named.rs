@@ -39,9 +39,10 @@ fn each_call_of_a_key_names_it_and_the_cache() {
     let error = cache.get("a").unwrap_err();
     assert_eq!(error.to_string(), LOADER);
     assert_eq!(error.source().unwrap().to_string(), "no load");
-    let at = error.at().clone();
+    let at = error.at();
+    assert_eq!(at.to_string(), "key \"a\", cache pages");
     assert_eq!((at.key(), at.cache()), (Some("\"a\""), Some("pages")));
-    assert!(format!("{error:?}").ends_with("At (key \"a\", cache pages))"));
+    assert!(format!("{error:?}").ends_with("At(key \"a\", cache pages))"));
     assert_eq!(
         text(cache.get_or_load_with("a", |_| Err(common::Broken("no load")))),
         LOADER

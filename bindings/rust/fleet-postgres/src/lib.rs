@@ -8,7 +8,7 @@
 //!
 //! # fn main() -> Result<(), Box<dyn std::error::Error + Send + Sync>> {
 //! let cache = Arc::new(Cache::<u32, String>::builder().build()?); // with .store(store), whose table this is
-//! let config = "host=/run/postgresql dbname=shop".parse()?;
+//! let config = "host=/run/postgresql user=shop dbname=shop".parse()?;
 //! let changes = PostgresAnnouncements::new(config, NoTls, "pages", |key| key.parse().ok());
 //! println!("{}", changes.triggers()); // to be executed once, by who owns the table
 //! let fleet = Fleet::spawn(cache.clone(), changes)?;
@@ -46,7 +46,7 @@ const CONNECTING_MIN: Duration = Duration::from_secs(2);
 /// key is loaded once more after each.
 ///
 /// It listens on a connection of its own to the primary, which must not go through a pooler of transactions, with a runtime of `tokio`
-/// on the fleet's thread; in `pg_stat_activity` it is `cadwrelch-fleet`. Whoever makes it, drops it, or uses the cache may be in another runtime, or in none.
+/// on the fleet's thread; in `pg_stat_activity` it is `cadwrelch-fleet`. Whoever makes the fleet, drops it, or uses the cache may be in another runtime, or in none.
 pub struct PostgresAnnouncements<K, T: MakeTlsConnect<Socket>> {
     config: Config,
     tls: T,
