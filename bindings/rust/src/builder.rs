@@ -236,8 +236,8 @@ impl<K, V, L: Loader<K, V>, W> Builder<K, V, L, W> {
 
     /// Who is told of each reload that fails, in the background, where no call has its error: of its key, and why
     /// ([`Error::Loader`](crate::Error::Loader), [`Error::LoaderPanicked`](crate::Error::LoaderPanicked)). It is called on the thread
-    /// that has reloaded, with no lock held, and the key is free. A reload that finds nothing hasn't failed, nor has one that was left
-    /// out. The loader is given before. Without it nobody is told.
+    /// that has reloaded, with no lock held, and the key is free; if it panics, so does the job. A reload that finds nothing hasn't
+    /// failed, nor has one that was left out. The loader is given before. Without it nobody is told.
     ///
     /// ```
     /// use cadwrelch::Cache;
@@ -275,8 +275,8 @@ impl<K, V, L: Loader<K, V>, W> Builder<K, V, L, W> {
     }
 
     /// Who is told of each entry that a full stripe evicts, after that, with no lock held, by the call that brought another one. An
-    /// entry that is removed, replaced or forgotten, or has expired, isn't evicted. It may call the cache as a loader may. If it panics that goes on, and the call has
-    /// taken effect.
+    /// entry that is removed, replaced or forgotten, or has expired, isn't evicted. It may call the cache as a loader may. If it panics
+    /// that goes on, and the call has taken effect.
     pub fn eviction_listener(
         mut self,
         listener: impl Fn(&Arc<K>, &Arc<V>) + Send + Sync + 'static,

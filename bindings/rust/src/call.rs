@@ -15,8 +15,9 @@
 //! know what the store has then, forgets the key: [`Cache::invalidate`](crate::Cache::invalidate).
 //!
 //! Who has a ticket or an asked call should await nothing but its store: whoever waits for the key waits for that, and since any
-//! thread may end such a call, a thread that holds it itself isn't told that it would wait for ever. Entries [expire](crate::Expiry) here as in whole calls: a first phase that meets an expired entry uncaches it, or is [`Begun::Busy`] if the
-//! key is reserved (a [`ContainsKey`](crate::Op::ContainsKey) is answered); a commit asks the policy.
+//! thread may end such a call, a thread that holds it itself isn't told that it would wait for ever. Entries [expire](crate::Expiry)
+//! here as in whole calls: a first phase that meets an expired entry uncaches it, or is [`Begun::Busy`] if the key is reserved (a
+//! [`ContainsKey`](crate::Op::ContainsKey) is answered); a commit asks the policy.
 use crate::Error;
 use crate::at::At;
 use crate::core::{self, Written};

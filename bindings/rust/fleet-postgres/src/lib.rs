@@ -29,7 +29,7 @@ use tokio::runtime::{Builder, Runtime};
 use tokio::sync::Notify;
 use tokio::time::{sleep, timeout};
 pub use tokio_postgres;
-use tokio_postgres::error::{Error, SqlState};
+use tokio_postgres::error::Error;
 use tokio_postgres::tls::{MakeTlsConnect, TlsStream};
 use tokio_postgres::{AsyncMessage, Client, Config, Connection, Notification, Socket};
 use tokio_postgres::{SimpleQueryMessage, SimpleQueryRow};
@@ -46,7 +46,8 @@ const CONNECTING_MIN: Duration = Duration::from_secs(2);
 /// key is loaded once more after each.
 ///
 /// It listens on a connection of its own to the primary, which must not go through a pooler of transactions, with a runtime of `tokio`
-/// on the fleet's thread; in `pg_stat_activity` it is `cadwrelch-fleet`. Whoever makes the fleet, drops it, or uses the cache may be in another runtime, or in none.
+/// on the fleet's thread; in `pg_stat_activity` it is `cadwrelch-fleet`. Whoever makes the fleet, drops it, or uses the cache may be in
+/// another runtime, or in none.
 pub struct PostgresAnnouncements<K, T: MakeTlsConnect<Socket>> {
     config: Config,
     tls: T,
@@ -107,8 +108,8 @@ impl<K, T: MakeTlsConnect<Socket>> PostgresAnnouncements<K, T> {
     }
 
     fn quoted_table(&self) -> String {
-        let parts: Vec<String> = self.table.split('.').map(quoted).collect();
-        parts.join(".")
+        let parts = self.table.split('.').map(quoted);
+        parts.collect::<Vec<_>>().join(".")
     }
 }
 
@@ -120,7 +121,7 @@ fn literal(text: &str) -> String {
     format!("'{}'", text.replace('\'', "''"))
 }
 
-fn wrong<T>(text: String) -> Result<T, OpenError> {
+fn wrong<T>(text: impl Into<Fault>) -> Result<T, OpenError> {
     Err(OpenError::Setup(text.into()))
 }
 
@@ -157,42 +158,33 @@ impl<K, T: MakeTlsConnect<Socket> + Clone> PostgresAnnouncements<K, T> {
                 where attrelid = it and attname = {} and attnum > 0 and not attisdropped),
             (select count(*) = 4 from pg_trigger where tgrelid = it and tgenabled = 'A' and tgname
                 in ('cadwrelch_insert', 'cadwrelch_update', 'cadwrelch_delete', 'cadwrelch_truncate')),
-            octet_length({}) <= {CHANNEL_MAX} from to_regclass({}) it",
+            has_any_column_privilege(it, 'select'), octet_length({}) <= {CHANNEL_MAX}
+            from to_regclass({}) it",
             literal(key),
             literal(&channel),
             literal(&self.quoted_table())
         );
         let asked = line.ask(&query).await?;
         let row = asked.ok_or_else(|| Fault::from("a query has no answer"))?;
-        match (0..row.len()).find(|at| row.get(*at) != Some("t")) {
-            None => Ok(()),
-            Some(0) => wrong("the database is a standby, which announces nothing".to_string()),
-            Some(1) => wrong(format!(
-                "there is no table {name}; elsewhere it is SCHEMA.TABLE"
-            )),
-            Some(2) => wrong(format!("the table {name} has no column {key} for its keys")),
-            Some(3) => wrong(format!(
-                "the table {name} doesn't announce its changes: triggers() has what it lacks"
-            )),
-            Some(_) => wrong(format!("{channel} is too long a name of a channel")),
-        }
+        wrong(match (0..row.len()).find(|at| row.get(*at) != Some("t")) {
+            None => return Ok(()),
+            Some(0) => "the database is a standby, which announces nothing".to_string(),
+            Some(1) => format!("there is no table {name}: its schema goes before it, with a dot"),
+            Some(2) => format!("the table {name} has no column {key} for its keys"),
+            Some(3) => format!("the table {name} announces nothing: triggers() has what it lacks"),
+            Some(4) => format!("the user may not read the table {name}: grant select on it"),
+            Some(_) => format!("{channel} is too long a name of a channel"),
+        })
     }
 
     /// Whether a key that is there can be read.
     async fn check_key(&self, line: &mut Line<T::Stream>) -> Result<(), OpenError> {
         let (key, table) = (quoted(&self.key_column), self.quoted_table());
         let query = format!("select {key}::text from {table} limit 1");
-        let asked = line.ask(&query).await;
-        let code = |error: &Fault| error.downcast_ref().and_then(Error::code).cloned();
-        let row = asked.map_err(|error| match code(&error) {
-            Some(SqlState::INSUFFICIENT_PRIVILEGE) => OpenError::Setup(error),
-            _ => OpenError::Unreachable(error),
-        })?;
+        let row = line.ask(&query).await?;
         let text = row.as_ref().and_then(|row| row.get(0));
         match text.filter(|text| (self.parse)(text).is_none()) {
-            Some(text) => wrong(format!(
-                "{text:?} is a key of the table {table}, and parse makes none of it"
-            )),
+            Some(text) => wrong(format!("of {text:?}, a key of {table}, parse makes none")),
             None => Ok(()),
         }
     }
@@ -209,9 +201,8 @@ impl<K, T: MakeTlsConnect<Socket> + Clone> PostgresAnnouncements<K, T> {
             Ok(line)
         };
         let pooled = "nothing comes to the connection that listens: go round the pooler before it";
-        timeout(limit, told)
-            .await
-            .unwrap_or_else(|_| wrong(pooled.to_string()))
+        let told = timeout(limit, told).await;
+        told.unwrap_or_else(|_| wrong(pooled))
     }
 }
 
@@ -282,9 +273,8 @@ impl<S: TlsStream + Unpin> Line<S> {
     /// Takes all that has come.
     fn hear(&mut self, context: &mut Context<'_>) -> Result<(), Fault> {
         while let Poll::Ready(message) = self.connection.poll_message(context) {
-            if let AsyncMessage::Notification(told) =
-                message.ok_or("the connection has ended")??
-            {
+            let message = message.ok_or("the connection has ended")??;
+            if let AsyncMessage::Notification(told) = message {
                 self.heard.push(told);
             }
         }
