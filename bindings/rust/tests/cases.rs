@@ -230,8 +230,8 @@ shown! {
 
 fn said(error: &Failed) -> String {
     match error {
-        Error::Loader(_, _) => "loader failed".to_string(),
-        Error::Writer(_, _) => "writer failed".to_string(),
+        Error::Loader(..) => "loader failed".to_string(),
+        Error::Writer(..) => "writer failed".to_string(),
         Error::Processor(error, _) => error.to_string(),
         Error::Closed(_) => "closed".to_string(),
         other => format!("{other:?}"),

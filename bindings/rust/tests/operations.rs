@@ -163,7 +163,7 @@ mod processors {
             entry.set(own("2"));
             Ok(())
         });
-        assert!(matches!(failed, Err(Error::Loader(_, _))));
+        assert!(matches!(failed, Err(Error::Loader(..))));
         assert_eq!(store.loads.load(SeqCst), 1);
         assert!(!cache.contains_key("a").unwrap());
         *store.loading.lock().unwrap() = Mode::Panics;

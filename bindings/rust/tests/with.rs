@@ -50,7 +50,7 @@ fn a_loader_of_a_call_is_asked_if_the_key_is_missing() {
         let failed = cache.get_or_load_with(&3, |_| Err(Broken("no load")));
         assert!(matches!(failed, Err(Error::Loader(error, _)) if *error == Broken("no load")));
         let failed = now(cache.get_with(3, ready(Err(Broken("no load")))));
-        assert!(matches!(failed, Err(Error::Loader(_, _))));
+        assert!(matches!(failed, Err(Error::Loader(..))));
         let panics = AssertUnwindSafe(|| cache.get_or_load_with(&3, |_| panic!("no load")));
         assert!(catch_unwind(panics).is_err());
         assert_eq!(cache.len().unwrap(), 2);
