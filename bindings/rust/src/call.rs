@@ -305,16 +305,15 @@ pub struct Join<'c, K, V, L, W> {
 pub type Joined<V, L, W> = Result<Option<Reply<V>>, Error<L, W>>;
 
 impl<K, V, L, W> Join<'_, K, V, L, W> {
-    fn at(&self) -> At {
-        self.stripe.name.at(Some(&self.out.key))
-    }
-
     /// It was picked up.
     fn end(&mut self, picked: Option<Result<Reply<V>, Failure<L>>>) -> Joined<V, L, W> {
         self.join = None;
         match picked {
             Some(Err(Failure::Cancelled)) => Ok(None),
-            picked => picked.transpose().map_err(|failure| failure.at(self.at())),
+            picked => {
+                let at = || self.stripe.name.at(Some(&self.out.key));
+                picked.transpose().map_err(|failure| failure.at(at()))
+            }
         }
     }
 
@@ -330,7 +329,7 @@ impl<K, V, L, W> Join<'_, K, V, L, W> {
         let join = self.join.expect("it was not picked up");
         match self.stripe.wait_and_pick_up(&self.out, join) {
             Ok(picked) => self.end(picked),
-            Err(stop) => Err(stop.at(self.at())),
+            Err(stop) => Err(self.stripe.stopped(stop, &self.out.key)),
         }
     }
 }
@@ -373,7 +372,7 @@ impl<K, V, L> Busy<'_, K, V, L> {
     /// [`Error::WouldDeadlock`]: this thread would wait for itself.
     pub fn wait<W>(self) -> Result<(), Error<L, W>> {
         let waited = self.stripe.wait(&self.blocked);
-        waited.map_err(|stop| stop.at(self.stripe.name.at(Some(&self.key))))
+        waited.map_err(|stop| self.stripe.stopped(stop, &self.key))
     }
 }
 
@@ -407,6 +406,6 @@ pub(crate) fn begin<'c, K: Eq, V, L, W>(
 ) -> Result<Begun<'c, K, V, L, W>, Error<L, W>> {
     match stripe.begin(call) {
         Ok(first) => Ok(begun(stripe, call.key, first)),
-        Err(stop) => Err(stop.at(stripe.name.at(Some(call.key)))),
+        Err(stop) => Err(stripe.stopped(stop, call.key)),
     }
 }

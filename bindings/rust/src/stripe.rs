@@ -2,6 +2,7 @@
 //! only whether keys are equal is asked while the mutex is held.
 use crate::at::Name;
 use crate::core::{self, Shape, Statistics, Ticket};
+use crate::error::Error;
 use crate::lives::{Asking, Lives, Nanos, Renewal};
 use crate::op::Reply;
 use crate::outside::in_call;
@@ -74,6 +75,13 @@ impl<K, V, E> Stripe<K, V, E> {
         if let (Some(listener), Some(value)) = (&self.listener, &entry.value) {
             in_call(|| listener(key, value));
         }
+    }
+
+    /// The error of a call of this key that has stopped there.
+    #[cold]
+    #[inline(never)]
+    pub(crate) fn stopped<W>(&self, stop: Stop, key: &K) -> Error<E, W> {
+        stop.at(self.name.at(Some(key)))
     }
 
     fn reservation(&self, flight: &Flight<V, E>) -> waiting::Reservation {
