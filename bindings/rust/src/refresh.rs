@@ -66,7 +66,8 @@ where
 /// Why a reload has failed, and with which panic.
 type Failed<E> = (Error<E, Infallible>, Option<Box<dyn Any + Send>>);
 
-/// Loads a key again. If it is reserved, or its stripe has no room, nothing is done; nor if the loader fails or finds nothing.
+/// Loads a key again, and says how that has failed. If the key is reserved, or its stripe has no room, nothing is done; nor if the loader
+/// finds nothing.
 fn reload<K: Eq, V, L: Loader<K, V>>(
     stripe: &Stripe<K, V, L::Error>,
     loader: &L,
