@@ -340,10 +340,12 @@ where
                     *is_written = false;
                 }
             }
-            progress.error.get_or_insert(Error::Writer(error));
+            progress
+                .error
+                .get_or_insert(Error::Writer(error, self.at()));
         }
         let calls = keys.into_iter().zip(asked).zip(is_written);
-        end_all(calls, |((key, asked), is_written)| {
+        end_all(calls, |((key, mut asked), is_written)| {
             match asked.end(is_written) {
                 Some(reply) => progress.replies.push((key, reply)),
                 None => progress.failed.push(key),

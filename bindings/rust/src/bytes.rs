@@ -1,6 +1,7 @@
 //! A cache of short byte strings, which the core keeps itself.
 mod stripe;
 
+use crate::at::{Name, shown};
 use crate::core::{self, Statistics};
 use crate::op::Reply;
 use crate::outside::{Loader, NoLoader, NoWriter, Shared, Writer, in_call};
@@ -44,6 +45,7 @@ pub type BytesError<L, W> =
 #[derive(Clone, Debug)]
 #[must_use]
 pub struct BytesBuilder<L = NoLoader, W = NoWriter> {
+    name: Option<Arc<str>>,
     sizes: Sizes,
     read_through: bool,
     write_through: bool,
@@ -55,6 +57,7 @@ impl BytesCache {
     /// Begins to build a cache: 65,536 entries in 16 stripes, no loader, no writer.
     pub fn builder() -> BytesBuilder {
         BytesBuilder {
+            name: None,
             sizes: Sizes::default(),
             read_through: false,
             write_through: false,
@@ -65,6 +68,12 @@ impl BytesCache {
 }
 
 impl<L, W> BytesBuilder<L, W> {
+    /// What errors call this cache: with a name they say of which cache they are and of which key.
+    pub fn name(mut self, name: impl Into<Arc<str>>) -> Self {
+        self.name = Some(name.into());
+        self
+    }
+
     /// How many entries the whole cache has room for: at least 1, and 1 to 4,096 for each stripe; without it 65,536.
     pub fn capacity(mut self, entries: usize) -> Self {
         self.sizes.capacity = Some(entries);
@@ -86,6 +95,7 @@ impl<L, W> BytesBuilder<L, W> {
     /// What reads the store; with it a `get` of a missing key asks it.
     pub fn loader<N: Loader<[u8], Vec<u8>>>(self, loader: N) -> BytesBuilder<N, W> {
         BytesBuilder {
+            name: self.name,
             sizes: self.sizes,
             read_through: true,
             write_through: self.write_through,
@@ -97,6 +107,7 @@ impl<L, W> BytesBuilder<L, W> {
     /// What changes the store; with it a mutation is written first.
     pub fn writer<N: Writer<[u8], [u8]>>(self, writer: N) -> BytesBuilder<L, N> {
         BytesBuilder {
+            name: self.name,
             sizes: self.sizes,
             read_through: self.read_through,
             write_through: true,
@@ -126,9 +137,11 @@ impl<L, W> BytesBuilder<L, W> {
         let shapes = self
             .sizes
             .shapes(core::STRIPES_MAX, self.read_through, self.write_through)?;
+        let show = |key: &[u8]| shown(&format_args!("b\"{}\"", key.escape_ascii()));
+        let name = self.name.map_or(Name::NONE, |name| Name::new(name, show));
         let stripes: Result<_, core::Code> = shapes
             .enumerate()
-            .map(|(number, shape)| Stripe::open(&shape, number))
+            .map(|(number, shape)| Stripe::open(&shape, number, name.clone()))
             .collect();
         Ok(BytesCache {
             stripes: stripes?,
@@ -148,10 +161,10 @@ where
     /// # Errors
     /// [`Error::Loader`], [`Error::LoaderPanicked`], [`Error::Limits`], [`Error::WouldDeadlock`], [`Error::Closed`]: nothing is cached.
     pub fn get(&self, key: &[u8]) -> Result<Option<Vec<u8>>, BytesError<L, W>> {
-        if let Some(value) = self.stripe(key).hit(key)? {
-            return Ok(Some(value));
+        match self.stripe(key).hit(key) {
+            Some(value) => Ok(Some(value)),
+            None => self.value(core::Op::Get, key),
         }
-        self.value(core::Op::Get, key)
     }
 
     /// Whether a key is cached. The loader isn't asked.
@@ -302,7 +315,7 @@ where
     pub fn entries(&self) -> Result<Vec<(Vec<u8>, Vec<u8>)>, BytesError<L, W>> {
         let mut entries = Vec::new();
         for stripe in &self.stripes {
-            entries.append(&mut stripe.entries()?);
+            entries.append(&mut stripe.entries().map_err(|it| stripe.stopped(it, None))?);
         }
         Ok(entries)
     }
@@ -325,7 +338,8 @@ where
     pub fn stats(&self) -> Result<Statistics, BytesError<L, W>> {
         let mut sum = Statistics::default();
         for stripe in &self.stripes {
-            let counts = stripe.open_side()?.desk.statistics();
+            let side = stripe.open_side().map_err(|it| stripe.stopped(it, None));
+            let counts = side?.desk.statistics();
             sum = sum + counts.expect("the desk is open");
         }
         Ok(sum)
@@ -365,8 +379,9 @@ where
     /// A whole call: phases, and whom they ask between.
     fn call(&self, op: core::Op<'_>, key: &[u8]) -> Result<Reply<Vec<u8>>, BytesError<L, W>> {
         let stripe = self.stripe(key);
+        let stopped = |stop| stripe.stopped(stop, Some(key));
         loop {
-            match stripe.begin(op, key)? {
+            match stripe.begin(op, key).map_err(stopped)? {
                 First::Done(reply) => return Ok(reply),
                 First::Load(asked) => {
                     let loaded = in_call(|| self.loader.load(key));
@@ -379,16 +394,17 @@ where
                     });
                     return match (asked.commit_write(written.is_ok()), written) {
                         (Some(reply), _) => Ok(reply),
-                        (None, Err(error)) => Err(Error::Writer(error)),
+                        (None, Err(error)) => Err(Error::Writer(error, stripe.name.at(Some(key)))),
                         (None, Ok(())) => unreachable!("the writer has written"),
                     };
                 }
                 First::Joined(join, flight) => {
-                    if let Some(reply) = stripe.wait_and_pick_up(join, &flight, key)? {
-                        return Ok(reply);
+                    let picked = stripe.wait_and_pick_up(join, &flight, key);
+                    if let Some(reply) = picked.map_err(stopped)? {
+                        return reply.map_err(|it| it.at(stripe.name.at(Some(key))));
                     }
                 }
-                First::Busy(blocked) => stripe.wait(&blocked)?,
+                First::Busy(blocked) => stripe.wait(&blocked).map_err(stopped)?,
             }
         }
     }

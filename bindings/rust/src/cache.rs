@@ -1,5 +1,6 @@
 //! The cache.
 use crate::Error;
+use crate::at::At;
 use crate::builder::Builder;
 use crate::call::{self, Begun, Change};
 use crate::core::Statistics;
@@ -7,7 +8,7 @@ use crate::hashing::Hashing;
 use crate::lives::Lives;
 use crate::op::{Expected, Op, Reply};
 use crate::outside::{Loader, NoLoader, NoWriter, Writer, in_call};
-use crate::step::{Call, Owner};
+use crate::step::{Call, Owner, Stop};
 use crate::stripe::{Stripe, of_hash};
 use std::borrow::Borrow;
 use std::fmt;
@@ -86,7 +87,7 @@ where
         Q: Eq + Hash + ToOwned<Owned = K> + ?Sized,
     {
         let hash = self.hashing.hash_one(key);
-        match self.hit(hash, |held| held.borrow() == key)? {
+        match self.hit(hash, |held| held.borrow() == key) {
             Some(found) => Ok(found),
             None => value_of(self.call_at(Arc::new(key.to_owned()), hash, &Op::Get, None)),
         }
@@ -296,12 +297,8 @@ where
 
     /// What a `get` finds that needs no other phase.
     #[inline]
-    pub(crate) fn hit(
-        &self,
-        hash: u64,
-        is_key: impl Fn(&K) -> bool,
-    ) -> Result<Option<Option<Arc<V>>>, CacheError<K, V, L, W>> {
-        Ok(self.stripe(hash).hit(hash, is_key)?)
+    pub(crate) fn hit(&self, hash: u64, is_key: impl Fn(&K) -> bool) -> Option<Option<Arc<V>>> {
+        self.stripe(hash).hit(hash, is_key)
     }
 
     pub(crate) fn reads_through(&self) -> bool {
@@ -360,6 +357,15 @@ where
         &self.lives
     }
 
+    /// Where a call has failed that is of no single key.
+    pub(crate) fn at(&self) -> At {
+        self.stripes[0].name.at(None)
+    }
+
+    fn stopped(&self, stop: Stop) -> CacheError<K, V, L, W> {
+        stop.at(self.at())
+    }
+
     /// The loader.
     pub fn loader(&self) -> &L {
         &self.loader
@@ -377,7 +383,7 @@ where
     pub fn stats(&self) -> Result<Statistics, CacheError<K, V, L, W>> {
         let mut sum = Statistics::default();
         for stripe in self.stripes.iter() {
-            sum = sum + stripe.statistics()?;
+            sum = sum + stripe.statistics().map_err(|it| self.stopped(it))?;
         }
         Ok(sum)
     }
@@ -398,7 +404,8 @@ where
         let now = self.lives.now();
         let mut keys = Vec::new();
         for stripe in self.stripes.iter() {
-            keys.append(&mut stripe.keys(now, with_absent)?);
+            let listed = stripe.keys(now, with_absent);
+            keys.append(&mut listed.map_err(|it| self.stopped(it))?);
         }
         Ok(keys)
     }
@@ -411,7 +418,7 @@ where
         let now = self.lives.now();
         let mut sum = 0;
         for stripe in self.stripes.iter() {
-            sum += stripe.len(now)?;
+            sum += stripe.len(now).map_err(|it| self.stopped(it))?;
         }
         Ok(sum)
     }

@@ -15,14 +15,16 @@
 //! know what the store has then, forgets the key: [`Cache::invalidate`](crate::Cache::invalidate).
 //!
 //! Who has a ticket or an asked call should await nothing but its store: whoever waits for the key waits for that, and since any
-//! thread may end such a call, a thread that holds it itself isn't told that it would wait for ever. Entries [expire](crate::Expiry) here as in whole calls: a first phase that meets an expired entry uncaches it, or is [`Begun::Busy`] if the
-//! key is reserved (a [`ContainsKey`](crate::Op::ContainsKey) is answered); a commit asks the policy.
+//! thread may end such a call, a thread that holds it itself isn't told that it would wait for ever. Entries [expire](crate::Expiry)
+//! here as in whole calls: a first phase that meets an expired entry uncaches it, or is [`Begun::Busy`] if the key is reserved (a
+//! [`ContainsKey`](crate::Op::ContainsKey) is answered); a commit asks the policy.
 use crate::Error;
+use crate::at::At;
 use crate::core::{self, Written};
 use crate::op::Reply;
 pub use crate::processing::Processing;
 use crate::processing::{Process, Reserved};
-use crate::step::{Answer, Blocked, Call, FAILED, Fault, First, Loaded, Out, Stop};
+use crate::step::{Answer, Blocked, Call, FAILED, Fault, First, Loaded, Out};
 use crate::stripe::Stripe;
 use crate::table::Failure;
 use crate::waiting::Seat;
@@ -91,6 +93,11 @@ impl<'c, K, V, L> Held<'c, K, V, L> {
         self.is_over = true;
         self.stripe.commit(&self.out, answer)
     }
+
+    /// Where the call has failed.
+    pub(crate) fn at(&self) -> At {
+        self.stripe.name.at(Some(&self.out.key))
+    }
 }
 
 impl<K, V, L> Drop for Held<'_, K, V, L> {
@@ -123,6 +130,7 @@ fn failed_write<V, L>(_process: &mut Process<V, L>) -> Answer<V, L> {
 #[inline]
 fn begun<'c, K, V, L, W>(
     stripe: &'c Stripe<K, V, L>,
+    key: &Arc<K>,
     first: First<K, V, L>,
 ) -> Begun<'c, K, V, L, W> {
     let writer = PhantomData;
@@ -151,6 +159,7 @@ fn begun<'c, K, V, L, W>(
         }),
         First::Busy(blocked) => Begun::Busy(Busy {
             stripe,
+            key: key.clone(),
             blocked,
             seat: None,
         }),
@@ -202,22 +211,16 @@ impl<K, V, L, W> AskedLoad<'_, K, V, L, W> {
         self.commit_shared(Err(Failure::Error(error)))
     }
 
+    /// Ends the call of a loader that has panicked.
+    pub(crate) fn commit_panicked(self) -> Result<Reply<V>, Error<L, W>> {
+        self.commit_shared(Err(Failure::Panicked))
+    }
+
     fn commit_shared(mut self, loaded: Loaded<V, L>) -> Result<Reply<V>, Error<L, W>> {
         let failure = loaded.as_ref().err().cloned();
         match self.held.commit(&Answer::Load(loaded)) {
             Ok(reply) => Ok(reply),
-            Err(_) => Err(failure.expect("the loader failed").into()),
-        }
-    }
-}
-
-impl<L, W> From<Failure<L>> for Error<L, W> {
-    fn from(failure: Failure<L>) -> Self {
-        match failure {
-            Failure::Error(error) => Error::Loader(error),
-            // Who has joined a cancelled load is told to begin anew, and nobody else is told.
-            Failure::Panicked | Failure::Cancelled => Error::LoaderPanicked,
-            Failure::Limits => Error::Limits,
+            Err(_) => Err(failure.expect("the loader failed").at(self.held.at())),
         }
     }
 }
@@ -262,16 +265,16 @@ impl<K, V, L, W> AskedWrite<'_, K, V, L, W> {
     ///
     /// # Errors
     /// [`Error::Writer`]: it failed, and the entry is as it was.
-    pub fn commit(self, written: Result<(), W>) -> Result<Reply<V>, Error<L, W>> {
+    pub fn commit(mut self, written: Result<(), W>) -> Result<Reply<V>, Error<L, W>> {
         match (self.end(written.is_ok()), written) {
             (Some(reply), _) => Ok(reply),
-            (None, Err(error)) => Err(Error::Writer(error)),
+            (None, Err(error)) => Err(Error::Writer(error, self.held.at())),
             (None, Ok(())) => unreachable!("the writer has written"),
         }
     }
 
     /// The same; None: it failed.
-    pub(crate) fn end(mut self, is_written: bool) -> Option<Reply<V>> {
+    pub(crate) fn end(&mut self, is_written: bool) -> Option<Reply<V>> {
         self.held.commit(&Answer::Write(written(is_written))).ok()
     }
 }
@@ -301,14 +304,19 @@ pub struct Join<'c, K, V, L, W> {
 /// What a joiner is told: the reply, or none if it is to begin anew, since the load was withdrawn or cancelled.
 pub type Joined<V, L, W> = Result<Option<Reply<V>>, Error<L, W>>;
 
-fn joined<V, L, W>(picked: Option<Result<Reply<V>, Failure<L>>>) -> Joined<V, L, W> {
-    match picked {
-        Some(Err(Failure::Cancelled)) => Ok(None),
-        picked => Ok(picked.transpose()?),
-    }
-}
-
 impl<K, V, L, W> Join<'_, K, V, L, W> {
+    /// It was picked up.
+    fn end(&mut self, picked: Option<Result<Reply<V>, Failure<L>>>) -> Joined<V, L, W> {
+        self.join = None;
+        match picked {
+            Some(Err(Failure::Cancelled)) => Ok(None),
+            picked => {
+                let at = || self.stripe.name.at(Some(&self.out.key));
+                picked.transpose().map_err(|failure| failure.at(at()))
+            }
+        }
+    }
+
     /// Sleeps until the load is over. None: it was withdrawn or cancelled; begin anew.
     ///
     /// # Errors
@@ -319,9 +327,10 @@ impl<K, V, L, W> Join<'_, K, V, L, W> {
     /// If it was awaited to its end.
     pub fn wait(mut self) -> Joined<V, L, W> {
         let join = self.join.expect("it was not picked up");
-        let picked = self.stripe.wait_and_pick_up(&self.out, join)?;
-        self.join = None;
-        joined(picked)
+        match self.stripe.wait_and_pick_up(&self.out, join) {
+            Ok(picked) => self.end(picked),
+            Err(stop) => Err(self.stripe.stopped(stop, &self.out.key)),
+        }
     }
 }
 
@@ -334,10 +343,7 @@ impl<K, V, L, W> Future for Join<'_, K, V, L, W> {
         let it = &mut *self;
         match it.stripe.pick_up(&it.out, join, &mut it.seat, waker) {
             None => Poll::Pending,
-            Some(picked) => {
-                it.join = None;
-                Poll::Ready(joined(picked))
-            }
+            Some(picked) => Poll::Ready(it.end(picked)),
         }
     }
 }
@@ -354,6 +360,7 @@ impl<K, V, L, W> Drop for Join<'_, K, V, L, W> {
 #[must_use]
 pub struct Busy<'c, K, V, L> {
     stripe: &'c Stripe<K, V, L>,
+    key: Arc<K>,
     blocked: Blocked<V, L>,
     seat: Seat,
 }
@@ -364,7 +371,8 @@ impl<K, V, L> Busy<'_, K, V, L> {
     /// # Errors
     /// [`Error::WouldDeadlock`]: this thread would wait for itself.
     pub fn wait<W>(self) -> Result<(), Error<L, W>> {
-        self.stripe.wait(&self.blocked).map_err(Stop::into)
+        let waited = self.stripe.wait(&self.blocked);
+        waited.map_err(|stop| self.stripe.stopped(stop, &self.key))
     }
 }
 
@@ -396,5 +404,8 @@ pub(crate) fn begin<'c, K: Eq, V, L, W>(
     stripe: &'c Stripe<K, V, L>,
     call: &Call<'_, K, V>,
 ) -> Result<Begun<'c, K, V, L, W>, Error<L, W>> {
-    Ok(begun(stripe, stripe.begin(call)?))
+    match stripe.begin(call) {
+        Ok(first) => Ok(begun(stripe, call.key, first)),
+        Err(stop) => Err(stripe.stopped(stop, call.key)),
+    }
 }

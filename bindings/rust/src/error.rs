@@ -1,62 +1,78 @@
 //! What may go wrong.
+use crate::at::{At, shown};
 use crate::core;
 use std::error::Error as StdError;
 use std::fmt;
 use std::sync::Arc;
 
-/// Why a call has no answer: `L` is the loader's error, `W` the writer's.
+/// Why a call has no answer: `L` is the loader's error, `W` the writer's; and where, if the cache has a [name](crate::Builder::name).
 ///
 /// After any of these the entry is as it was before the call, with what it had left to live.
 #[derive(Debug)]
 #[non_exhaustive]
 pub enum Error<L, W> {
     /// The loader failed. All calls that have joined this load share its error.
-    Loader(Arc<L>),
-    /// The loader panicked: in another call, whose load this one had joined; or in a processor that has caught it and gone on.
-    LoaderPanicked,
+    Loader(Arc<L>, At),
+    /// The loader panicked: in another call, whose load this one had joined; in one in the background; or in a processor that has caught
+    /// it and gone on.
+    LoaderPanicked(At),
     /// The writer failed.
-    Writer(W),
+    Writer(W, At),
     /// The processor of an `invoke` failed, with an error of its own.
-    Processor(Box<dyn StdError + Send + Sync>),
+    Processor(Box<dyn StdError + Send + Sync>, At),
     /// The call would wait for its own thread: it was made inside a loader, a writer, a processor or a policy, at a key that this thread
     /// has reserved, at one whose call waits for this thread, or in a stripe that has no room for a call more.
-    WouldDeadlock,
+    WouldDeadlock(At),
     /// Of a [`BytesCache`](crate::BytesCache): a key has 1 to 32 bytes, and a value 0 to 256, also one that a loader finds.
-    Limits,
+    Limits(At),
     /// The cache has counted 2^64 calls.
-    HistoryFull,
+    HistoryFull(At),
     /// The cache is closed.
-    Closed,
+    Closed(At),
 }
 
 impl<L, W> Error<L, W> {
-    /// The error of a processor.
+    /// The error of a processor. Its call says where it has failed.
     pub fn processor(error: impl Into<Box<dyn StdError + Send + Sync>>) -> Self {
-        Error::Processor(error.into())
+        Error::Processor(error.into(), At::default())
+    }
+
+    /// Where the call has failed.
+    pub fn at(&self) -> &At {
+        match self {
+            Error::Loader(_, at) | Error::Writer(_, at) | Error::Processor(_, at) => at,
+            Error::LoaderPanicked(at) | Error::WouldDeadlock(at) | Error::Limits(at) => at,
+            Error::HistoryFull(at) | Error::Closed(at) => at,
+        }
     }
 }
 
 impl<L: fmt::Display, W: fmt::Display> fmt::Display for Error<L, W> {
     fn fmt(&self, f: &mut fmt::Formatter<'_>) -> fmt::Result {
-        match self {
-            Error::Loader(error) => write!(f, "the loader failed: {error}"),
-            Error::LoaderPanicked => f.write_str("the loader panicked"),
-            Error::Writer(error) => write!(f, "the writer failed: {error}"),
-            Error::Processor(error) => write!(f, "the processor failed: {error}"),
-            Error::WouldDeadlock => f.write_str("the call would wait for its own thread"),
-            Error::Limits => f.write_str("a key has 1 to 32 bytes, a value 0 to 256"),
-            Error::HistoryFull => f.write_str("the history is full"),
-            Error::Closed => f.write_str("the cache is closed"),
+        let (what, why): (_, Option<&dyn fmt::Display>) = match self {
+            Error::Loader(error, _) => ("the loader failed", Some(error)),
+            Error::LoaderPanicked(_) => ("the loader panicked", None),
+            Error::Writer(error, _) => ("the writer failed", Some(error)),
+            Error::Processor(error, _) => ("the processor failed", Some(error)),
+            Error::WouldDeadlock(_) => ("the call would wait for its own thread", None),
+            Error::Limits(_) => ("a key has 1 to 32 bytes, a value 0 to 256", None),
+            Error::HistoryFull(_) => ("the history is full", None),
+            Error::Closed(_) => ("the cache is closed", None),
+        };
+        f.write_str(what)?;
+        if self.at().cache().is_some() {
+            write!(f, " ({})", self.at())?;
         }
+        why.map_or(Ok(()), |error| write!(f, ": {error}"))
     }
 }
 
 impl<L: StdError + 'static, W: StdError + 'static> StdError for Error<L, W> {
     fn source(&self) -> Option<&(dyn StdError + 'static)> {
         match self {
-            Error::Loader(error) => Some(&**error),
-            Error::Writer(error) => Some(error),
-            Error::Processor(error) => Some(&**error),
+            Error::Loader(error, _) => Some(&**error),
+            Error::Writer(error, _) => Some(error),
+            Error::Processor(error, _) => Some(&**error),
             _ => None,
         }
     }
@@ -73,29 +89,26 @@ pub struct BulkError<K, V, L, W> {
     pub found: Vec<(K, Arc<V>)>,
 }
 
-/// How many failed keys a text names, and how long each may be.
+/// How many failed keys a text names.
 const NAMED: usize = 3;
-const NAME_MAX: usize = 40;
-
-/// A key's `Debug`, cut.
-fn name(key: &impl fmt::Debug) -> String {
-    let text = format!("{key:?}");
-    match text.char_indices().nth(NAME_MAX) {
-        Some((end, _)) => format!("{}..", &text[..end]),
-        None => text,
-    }
-}
 
 impl<K: fmt::Debug, V, L: fmt::Display, W: fmt::Display> fmt::Display for BulkError<K, V, L, W> {
     fn fmt(&self, f: &mut fmt::Formatter<'_>) -> fmt::Result {
-        let mut names: Vec<String> = self.failed.iter().take(NAMED).map(name).collect();
+        let mut names: Vec<String> = self.failed.iter().take(NAMED).map(shown).collect();
         if self.failed.len() > NAMED {
             names.push(format!("and {} more", self.failed.len() - NAMED));
         }
-        match names.is_empty() {
-            true => write!(f, "{} (at no key)", self.error),
-            false => write!(f, "{} (at {})", self.error, names.join(", ")),
+        match names.len() {
+            0 => {}
+            1 => write!(f, "a key failed ({}): ", names[0])?,
+            _ => write!(
+                f,
+                "{} keys failed ({}): ",
+                self.failed.len(),
+                names.join(", ")
+            )?,
         }
+        write!(f, "{}", self.error)
     }
 }
 

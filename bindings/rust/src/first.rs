@@ -86,31 +86,23 @@ impl<K, V, E> Stripe<K, V, E> {
         }
     }
 
-    /// A `get` that finds its entry: the value, or that there is none. None: nothing was done.
+    /// A `get` that finds its entry: the value, or that there is none. None: nothing was done, as if the cache is closed.
     #[inline]
-    pub(crate) fn hit(
-        &self,
-        hash: u64,
-        is_key: impl Fn(&K) -> bool,
-    ) -> Result<Option<Option<Arc<V>>>, Stop> {
+    pub(crate) fn hit(&self, hash: u64, is_key: impl Fn(&K) -> bool) -> Option<Option<Arc<V>>> {
         if self.lives.is_on() {
             return self.hit_alive(hash, is_key);
         }
-        let (mut guard, slot) = self.find(hash, is_key)?;
-        Ok(slot.and_then(|slot| guard.hit(slot, 0)))
+        let (mut guard, slot) = self.find(hash, is_key).ok()?;
+        guard.hit(slot?, 0)
     }
 
     /// The same, if entries may expire.
     #[inline(never)]
-    fn hit_alive(
-        &self,
-        hash: u64,
-        is_key: impl Fn(&K) -> bool,
-    ) -> Result<Option<Option<Arc<V>>>, Stop> {
+    fn hit_alive(&self, hash: u64, is_key: impl Fn(&K) -> bool) -> Option<Option<Arc<V>>> {
         let mut known = Known::nothing();
         let mut now = self.lives.now();
         loop {
-            let (mut guard, slot) = self.find(hash, &is_key)?;
+            let (mut guard, slot) = self.find(hash, &is_key).ok()?;
             let side = &mut *guard;
             match self.look(side, slot, &Op::Get, None, &mut known, now) {
                 Look::Ask(version, asking) => {
@@ -127,9 +119,9 @@ impl<K, V, E> Stripe<K, V, E> {
                     let old = self.lives.claim(side.table.slot(slot), now);
                     drop(guard);
                     self.lives.reload(old, hash);
-                    return Ok(hit);
+                    return hit;
                 }
-                _ => return Ok(None),
+                _ => return None,
             }
         }
     }

@@ -114,7 +114,7 @@ where
     loop {
         left = left.saturating_sub(1);
         match cache.invoke(key.clone(), &mut processor) {
-            Err(crate::Error::Writer(error)) if error.is_conflict() && left > 0 => {
+            Err(crate::Error::Writer(error, _)) if error.is_conflict() && left > 0 => {
                 cache.invalidate(key);
             }
             ended => return ended,
@@ -138,6 +138,12 @@ pub enum OpenError {
     Setup(Fault),
     /// The engine can't be reached.
     Unreachable(Fault),
+}
+
+impl From<Fault> for OpenError {
+    fn from(error: Fault) -> OpenError {
+        OpenError::Unreachable(error)
+    }
 }
 
 /// Where a fleet hears of changes: a connection to an engine. The fleet's thread calls it, but for the first [`open`](Self::open).

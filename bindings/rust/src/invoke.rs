@@ -101,7 +101,7 @@ where
         let mut processing = entry.into_processing();
         let value = match result {
             Ok(value) => value,
-            Err(error) => return Err(processing.end_failed().unwrap_or(error)),
+            Err(error) => return Err(processing.end_failed(error)),
         };
         if processing.change().is_some() {
             processing.start_write();

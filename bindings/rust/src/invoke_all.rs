@@ -134,8 +134,8 @@ where
                     value,
                 }),
                 Err(error) => {
-                    let failure = entry.into_processing().end_failed();
-                    replies[item.at] = Some(Err(Arc::new(failure.unwrap_or(error))));
+                    let error = entry.into_processing().end_failed(error);
+                    replies[item.at] = Some(Err(Arc::new(error)));
                 }
             }
         }
@@ -209,7 +209,7 @@ where
         let mut failures = Vec::new();
         let mut note = |asked: Result<(), Unwritten<W::Error>>, places: &[usize]| {
             if let Err(unwritten) = asked {
-                let error = Arc::new(crate::Error::Writer(unwritten.error));
+                let error = Arc::new(crate::Error::Writer(unwritten.error, self.at()));
                 let failed = unwritten
                     .places
                     .iter()

@@ -11,6 +11,7 @@
 //! - [`core`] is the library's own interface: one stripe.
 #![deny(missing_docs, missing_debug_implementations)]
 
+mod at;
 mod builder;
 mod bulk;
 mod bytes;
@@ -40,6 +41,7 @@ mod waiting;
 mod with;
 
 pub use crate::core::Statistics;
+pub use at::At;
 pub use builder::Builder;
 pub use bytes::{BytesBuilder, BytesCache, BytesError};
 pub use cache::{Cache, CacheBegun, CacheError};

@@ -1,5 +1,6 @@
 //! A call whose processor runs.
 use crate::Error;
+use crate::at::At;
 use crate::call::{Change, Held, written};
 use crate::core::Written;
 use crate::step::{Answer, Effect, Fault, Loaded};
@@ -178,7 +179,7 @@ impl<'c, K, V, L, W> Processing<'c, K, V, L, W> {
         let process = &self.held.process;
         process.has_read.store(true, Relaxed);
         match process.load_failure() {
-            Some(failure) => Err(failure.into()),
+            Some(failure) => Err(failure.at(self.held.at())),
             None => Ok(process.entry.as_ref()),
         }
     }
@@ -239,9 +240,9 @@ impl<'c, K, V, L, W> Processing<'c, K, V, L, W> {
         let answer = self.held.process.answer(told);
         match self.held.commit(&answer) {
             Ok(_) => Ok(()),
-            Err(Fault::Loader) => Err(failure.expect("the loader failed").into()),
+            Err(Fault::Loader) => Err(failure.expect("the loader failed").at(self.held.at())),
             Err(_) => match write {
-                Some(Err(error)) => Err(Error::Writer(error)),
+                Some(Err(error)) => Err(Error::Writer(error, self.held.at())),
                 _ => unreachable!("the writer failed"),
             },
         }
@@ -254,22 +255,26 @@ impl<'c, K, V, L, W> Processing<'c, K, V, L, W> {
         let answer = self.held.process.answer(is_written.map(written));
         match self.held.commit(&answer) {
             Ok(_) => Ok(()),
-            Err(_) => Err(failure.map(Failure::into)),
+            Err(_) => Err(failure.map(|it| it.at(self.held.at()))),
         }
     }
 
     /// Ends the call with a failure of the processor: nothing of it counts. It returns that error, or that of a load, which comes
     /// before it.
     pub fn fail(self, error: impl Into<Box<dyn std::error::Error + Send + Sync>>) -> Error<L, W> {
-        self.end_failed().unwrap_or_else(|| Error::processor(error))
+        self.end_failed(Error::processor(error))
     }
 
-    /// The same. It returns the failure of a load, which comes before the processor's.
-    pub(crate) fn end_failed(mut self) -> Option<Error<L, W>> {
+    /// The same, with what the processor returned.
+    pub(crate) fn end_failed(mut self, error: Error<L, W>) -> Error<L, W> {
         let failure = self.held.process.load_failure();
         self.held.process.effect = Effect::Failed;
         let answer = self.held.process.answer(None);
         let _ = self.held.commit(&answer);
-        failure.map(Failure::into)
+        match (failure, error) {
+            (Some(failure), _) => failure.at(self.held.at()),
+            (None, Error::Processor(error, At(None))) => Error::Processor(error, self.held.at()),
+            (None, error) => error,
+        }
     }
 }

@@ -1,13 +1,15 @@
 //! Entries that are loaded again in the background, when they are old.
 use crate::call::{self, Begun};
+use crate::error::Error;
 use crate::op::Op;
 use crate::outside::{Loader, in_call};
 use crate::step::{Call, Owner};
 use crate::stripe::{Stripe, of_hash};
+use std::any::Any;
 use std::collections::VecDeque;
 use std::convert::Infallible;
 use std::hash::Hash;
-use std::panic::{AssertUnwindSafe, catch_unwind};
+use std::panic::{AssertUnwindSafe, catch_unwind, resume_unwind};
 use std::sync::{Arc, Condvar, Mutex, MutexGuard};
 use std::thread;
 use std::time::Duration;
@@ -20,15 +22,23 @@ pub(crate) type Executor = Arc<dyn Fn(Job) + Send + Sync>;
 /// Has the key of this hash loaded again.
 pub(crate) type Reload<K> = Box<dyn Fn(Arc<K>, u64) + Send + Sync>;
 
+/// Who is told of a reload that has failed.
+pub(crate) type OnRefreshError<K, E> = Arc<dyn Fn(&Arc<K>, &Error<E, Infallible>) + Send + Sync>;
+
 /// Makes what reloads, for the stripes of a cache and its loader.
-pub(crate) type Reloading<K, V, L> =
-    fn(&Arc<[Stripe<K, V, <L as Loader<K, V>>::Error>]>, &Arc<L>, Executor) -> Reload<K>;
+pub(crate) type Reloading<K, V, L> = fn(
+    &Arc<[Stripe<K, V, <L as Loader<K, V>>::Error>]>,
+    &Arc<L>,
+    Executor,
+    Option<OnRefreshError<K, <L as Loader<K, V>>::Error>>,
+) -> Reload<K>;
 
 /// What reloads by this executor. It keeps no cache, so a job of one that is gone does nothing.
 pub(crate) fn reloading<K, V, L>(
     stripes: &Arc<[Stripe<K, V, L::Error>]>,
     loader: &Arc<L>,
     executor: Executor,
+    tell: Option<OnRefreshError<K, L::Error>>,
 ) -> Reload<K>
 where
     K: Eq + Hash + Send + Sync + 'static,
@@ -38,22 +48,32 @@ where
 {
     let (stripes, loader) = (Arc::downgrade(stripes), Arc::downgrade(loader));
     Box::new(move |key, hash| {
-        let (stripes, loader) = (stripes.clone(), loader.clone());
+        let (stripes, loader, tell) = (stripes.clone(), loader.clone(), tell.clone());
         executor(Box::new(move || {
             if let (Some(stripes), Some(loader)) = (stripes.upgrade(), loader.upgrade()) {
-                reload(of_hash(&stripes, hash), &*loader, &key, hash);
+                let failed = reload(of_hash(&stripes, hash), &*loader, &key, hash);
+                if let (Some((error, _)), Some(tell)) = (&failed, tell) {
+                    tell(&key, error);
+                }
+                if let Some((_, Some(panic))) = failed {
+                    resume_unwind(panic);
+                }
             }
         }));
     })
 }
 
-/// Loads a key again. If it is reserved, or its stripe has no room, nothing is done; nor if the loader fails or finds nothing.
+/// Why a reload has failed, and with which panic.
+type Failed<E> = (Error<E, Infallible>, Option<Box<dyn Any + Send>>);
+
+/// Loads a key again, and says how that has failed. If the key is reserved, or its stripe has no room, nothing is done; nor if the loader
+/// finds nothing.
 fn reload<K: Eq, V, L: Loader<K, V>>(
     stripe: &Stripe<K, V, L::Error>,
     loader: &L,
     key: &Arc<K>,
     hash: u64,
-) {
+) -> Option<Failed<L::Error>> {
     let call = Call {
         key,
         hash,
@@ -61,11 +81,16 @@ fn reload<K: Eq, V, L: Loader<K, V>>(
         life: None,
         owner: Owner::ThisThread,
     };
-    if let Ok(Begun::Load(ticket)) = call::begin::<_, _, _, Infallible>(stripe, &call) {
-        let asked = ticket.ask();
-        let loaded = in_call(|| loader.load(asked.key()));
-        let _ = asked.commit(loaded);
-    }
+    let Ok(Begun::Load(ticket)) = call::begin::<_, _, _, Infallible>(stripe, &call) else {
+        return None;
+    };
+    let asked = ticket.ask();
+    let loaded = catch_unwind(AssertUnwindSafe(|| in_call(|| loader.load(asked.key()))));
+    let (ended, panic) = match loaded {
+        Ok(loaded) => (asked.commit(loaded), None),
+        Err(panic) => (asked.commit_panicked(), Some(panic)),
+    };
+    ended.err().map(|error| (error, panic))
 }
 
 const THREADS: usize = 4;

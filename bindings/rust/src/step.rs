@@ -1,5 +1,7 @@
 //! What goes into the phases of a call at a stripe, and what comes of them.
+use crate::at::At;
 use crate::core::{self, Written};
+use crate::error::Error;
 use crate::lives::Question;
 use crate::op::{Op, Reply};
 use crate::table::{Failure, Flight, Found, Table, Versioned};
@@ -27,13 +29,14 @@ pub(crate) enum Stop {
     Limits,
 }
 
-impl<L, W> From<Stop> for crate::Error<L, W> {
-    fn from(stop: Stop) -> Self {
-        match stop {
-            Stop::Closed => crate::Error::Closed,
-            Stop::HistoryFull => crate::Error::HistoryFull,
-            Stop::WouldDeadlock => crate::Error::WouldDeadlock,
-            Stop::Limits => crate::Error::Limits,
+impl Stop {
+    /// The error of a call that has stopped there.
+    pub(crate) fn at<L, W>(self, at: At) -> Error<L, W> {
+        match self {
+            Stop::Closed => Error::Closed(at),
+            Stop::HistoryFull => Error::HistoryFull(at),
+            Stop::WouldDeadlock => Error::WouldDeadlock(at),
+            Stop::Limits => Error::Limits(at),
         }
     }
 }

@@ -1,6 +1,8 @@
 //! One stripe: a desk and its table under a mutex, the last phases of calls, and who waits. First phases are in `first`. Of the user's,
 //! only whether keys are equal is asked while the mutex is held.
+use crate::at::Name;
 use crate::core::{self, Shape, Statistics, Ticket};
+use crate::error::Error;
 use crate::lives::{Asking, Lives, Nanos, Renewal};
 use crate::op::Reply;
 use crate::outside::in_call;
@@ -30,6 +32,7 @@ pub(crate) struct Stripe<K, V, E> {
     pub has_write_through: bool,
     listener: Option<Listener<K, V>>,
     pub lives: Arc<Lives<K, V>>,
+    pub name: Name<K>,
 }
 
 // A listener is called with nothing half done, and all else is under a mutex.
@@ -46,6 +49,7 @@ impl<K, V, E> Stripe<K, V, E> {
         shape: &Shape,
         lives: Arc<Lives<K, V>>,
         listener: Option<Listener<K, V>>,
+        name: Name<K>,
     ) -> Result<Self, core::Code> {
         Ok(Stripe {
             side: Mutex::new(Side::open(shape, lives.remembers())?),
@@ -54,6 +58,7 @@ impl<K, V, E> Stripe<K, V, E> {
             has_write_through: shape.write_through,
             listener,
             lives,
+            name,
         })
     }
 
@@ -70,6 +75,13 @@ impl<K, V, E> Stripe<K, V, E> {
         if let (Some(listener), Some(value)) = (&self.listener, &entry.value) {
             in_call(|| listener(key, value));
         }
+    }
+
+    /// The error of a call of this key that has stopped there.
+    #[cold]
+    #[inline(never)]
+    pub(crate) fn stopped<W>(&self, stop: Stop, key: &K) -> Error<E, W> {
+        stop.at(self.name.at(Some(key)))
     }
 
     fn reservation(&self, flight: &Flight<V, E>) -> waiting::Reservation {

@@ -3,7 +3,9 @@
 //! The core knows a key by eight bytes, its slot and how often the slot was given, and a value by eight bytes, its version. Neither is
 //! given twice. A key has a slot while it is cached, reserved or joined. Which value comes and goes is what the core's moves say, and
 //! nothing else. What is dropped is dropped by the caller, with no lock held.
+use crate::at::At;
 use crate::core::{Join, Moves, Reply as Told};
+use crate::error::Error;
 use crate::lives::{Life, Nanos, Renewal};
 use crate::waiting::Waiters;
 use std::collections::HashMap;
@@ -87,6 +89,18 @@ impl<E> Clone for Failure<E> {
             Failure::Panicked => Failure::Panicked,
             Failure::Cancelled => Failure::Cancelled,
             Failure::Limits => Failure::Limits,
+        }
+    }
+}
+
+impl<E> Failure<E> {
+    /// The error of a call whose load has failed so.
+    pub(crate) fn at<W>(self, at: At) -> Error<E, W> {
+        match self {
+            Failure::Error(error) => Error::Loader(error, at),
+            // Who has joined a cancelled load is told to begin anew, and nobody else is told.
+            Failure::Panicked | Failure::Cancelled => Error::LoaderPanicked(at),
+            Failure::Limits => Error::Limits(at),
         }
     }
 }

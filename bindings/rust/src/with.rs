@@ -57,7 +57,7 @@ where
         Q: Eq + Hash + ToOwned<Owned = K> + ?Sized,
     {
         let hash = self.hash_of(key);
-        if let Some(found) = self.hit(hash, |held| held.borrow() == key)? {
+        if let Some(found) = self.hit(hash, |held| held.borrow() == key) {
             return Ok(found);
         }
         let key = Arc::new(key.to_owned());
@@ -93,7 +93,7 @@ where
         future: impl Future<Output = Result<Option<V>, L::Error>>,
     ) -> Result<Option<Arc<V>>, CacheError<K, V, L, W>> {
         let hash = self.hash_of(&key);
-        if let Some(found) = self.hit(hash, |held| *held == key)? {
+        if let Some(found) = self.hit(hash, |held| *held == key) {
             return Ok(found);
         }
         let key = Arc::new(key);

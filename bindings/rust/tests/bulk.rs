@@ -100,7 +100,7 @@ fn a_round_asks_once_and_fails_in_part() {
         .build()
         .unwrap();
     let failed = cache.put_all((0..10).map(|i| (i, i * 10))).unwrap_err();
-    assert!(matches!(failed.error, Error::Writer(Broken("odd"))));
+    assert!(matches!(failed.error, Error::Writer(Broken("odd"), _)));
     assert!(failed.failed.iter().all(|key| **key % 2 == 1) && failed.failed.len() == 5);
     assert_eq!(outside.0.calls.load(SeqCst), 1);
     outside.0.held.lock().unwrap().insert(1, 11);
@@ -121,7 +121,7 @@ fn a_call_that_is_stopped_says_what_failed_first() {
         // This thread has reserved b: its own call would wait for it.
         let entries = ["a", "b"].map(|key| (key.to_string(), "1".to_string()));
         let failed = cache.put_all(entries).unwrap_err();
-        assert!(matches!(failed.error, Error::Writer(Broken("no write"))));
+        assert!(matches!(failed.error, Error::Writer(Broken("no write"), _)));
         assert_eq!(failed.failed.len(), 2);
         Ok(())
     });
@@ -150,7 +150,7 @@ fn a_bad_key_spoils_no_other() {
     };
     let cache = Cache::<u32, u32>::builder().loader(load).build().unwrap();
     let failed = cache.get_all([1, 2, 3, 4]).unwrap_err();
-    assert!(matches!(&failed.error, Error::Loader(error) if **error == Broken("no load")));
+    assert!(matches!(&failed.error, Error::Loader(error, _) if **error == Broken("no load")));
     assert_eq!(failed.failed, [Arc::new(2)]);
     assert_eq!(
         failed.found,
@@ -173,11 +173,15 @@ fn an_error_names_its_keys() {
         let keys = keys.iter().map(|key| key.to_string());
         cache.get_all(keys).unwrap_err().to_string()
     };
-    assert_eq!(text(&["a"]), "the loader failed: no load (at \"a\")");
+    assert_eq!(
+        text(&["a"]),
+        "a key failed (\"a\"): the loader failed: no load"
+    );
     let long = "k".repeat(100);
-    let named = format!("the loader failed: no load (at \"{}..)", &long[..39]);
-    assert_eq!(text(&[&long]), named);
-    assert!(text(&["a", "b", "c", "d", "e"]).ends_with(", and 2 more)"));
+    let named = format!("a key failed (\"{}..): the", &long[..79]);
+    assert!(text(&[&long]).starts_with(&named));
+    let five = text(&["a", "b", "c", "d", "e"]);
+    assert!(five.starts_with("5 keys failed (\"a\", \"b\", \"c\", and 2 more): the"));
 }
 
 #[test]
@@ -202,7 +206,7 @@ fn a_processor_of_many_keys_that_panics_leaves_all_as_it_was() {
     let replies = cache.invoke_all(keys(&["a", "a"]), |_entry| Ok(()));
     assert_eq!(replies.len(), 2);
     for (_, reply) in replies {
-        assert!(matches!(reply, Err(error) if matches!(*error, Error::Closed)));
+        assert!(matches!(reply, Err(error) if matches!(*error, Error::Closed(_))));
     }
 }
 

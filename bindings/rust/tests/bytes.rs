@@ -82,10 +82,10 @@ fn each_operation() {
 fn limits_of_keys_and_values() {
     let held = Held::default();
     let cache = cache_of(&held);
-    assert!(matches!(cache.get(b""), Err(Error::Limits)));
-    assert!(matches!(cache.get(&[1; 33]), Err(Error::Limits)));
-    assert!(matches!(cache.put(b"a", &[1; 257]), Err(Error::Limits)));
-    assert!(matches!(cache.get(b"long"), Err(Error::Limits)));
+    assert!(matches!(cache.get(b""), Err(Error::Limits(_))));
+    assert!(matches!(cache.get(&[1; 33]), Err(Error::Limits(_))));
+    assert!(matches!(cache.put(b"a", &[1; 257]), Err(Error::Limits(_))));
+    assert!(matches!(cache.get(b"long"), Err(Error::Limits(_))));
     assert!(cache.get(&[1; 32]).is_ok());
     assert!(BytesCache::builder().stripes(0).build().is_err());
     assert!(BytesCache::builder().stripes(65).build().is_err());
@@ -96,18 +96,18 @@ fn failures_and_panics() {
     let held = Held::default();
     let cache = cache_of(&held);
     for _ in 0..2 {
-        assert!(matches!(cache.get(b"bad"), Err(Error::Loader(error)) if *error == "no load"));
+        assert!(matches!(cache.get(b"bad"), Err(Error::Loader(error, _)) if *error == "no load"));
         assert!(matches!(
             cache.put(b"bad", b"1"),
-            Err(Error::Writer("no write"))
+            Err(Error::Writer("no write", _))
         ));
         assert!(catch_unwind(AssertUnwindSafe(|| cache.get(b"worse"))).is_err());
         assert!(catch_unwind(AssertUnwindSafe(|| cache.put(b"worse", b"1"))).is_err());
     }
     assert!(cache.entries().unwrap().is_empty());
     cache.close();
-    assert!(matches!(cache.get(b"a"), Err(Error::Closed)));
-    assert!(matches!(cache.stats(), Err(Error::Closed)));
+    assert!(matches!(cache.get(b"a"), Err(Error::Closed(_))));
+    assert!(matches!(cache.stats(), Err(Error::Closed(_))));
 }
 
 /// A loader that asks the cache for the very key that it is asked for.
@@ -124,7 +124,7 @@ impl Loader<[u8], Vec<u8>> for Own {
             .expect("the cache is there");
         let joined = cache.get(key).map_err(|error| format!("{error:?}"));
         let put = cache.put(key, b"1").map_err(|error| format!("{error:?}"));
-        assert_eq!(put, Err("WouldDeadlock".to_string()));
+        assert_eq!(put, Err("WouldDeadlock(At)".to_string()));
         joined
     }
 }
@@ -139,7 +139,9 @@ fn a_loader_that_waits_for_itself_is_told() {
     );
     cache.loader().0.set(Arc::downgrade(&cache)).unwrap();
     for _ in 0..100 {
-        assert!(matches!(cache.get(b"a"), Err(Error::Loader(error)) if *error == "WouldDeadlock"));
+        assert!(
+            matches!(cache.get(b"a"), Err(Error::Loader(error, _)) if *error == "WouldDeadlock(At)")
+        );
     }
     assert!(cache.entries().unwrap().is_empty());
 }
@@ -167,7 +169,7 @@ fn joined_calls_make_one_load() {
         gate.wait();
         for call in others.into_iter().chain([first]) {
             let reply = call.join().unwrap();
-            assert!(matches!(reply, Err(Error::Loader(length)) if *length == 3));
+            assert!(matches!(reply, Err(Error::Loader(length, _)) if *length == 3));
         }
     });
     assert_eq!(loads.load(SeqCst), 1);

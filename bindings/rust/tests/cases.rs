@@ -222,7 +222,7 @@ shown! {
         let mut failed: Vec<_> = stopped.failed.iter().map(|key| key.to_string()).collect();
         failed.sort();
         match stopped.error {
-            Error::Closed => "closed".to_string(),
+            Error::Closed(_) => "closed".to_string(),
             error => format!("{} at {}", error.shown(), or(&failed, "no key")),
         }
     };
@@ -230,10 +230,10 @@ shown! {
 
 fn said(error: &Failed) -> String {
     match error {
-        Error::Loader(_) => "loader failed".to_string(),
-        Error::Writer(_) => "writer failed".to_string(),
-        Error::Processor(error) => error.to_string(),
-        Error::Closed => "closed".to_string(),
+        Error::Loader(..) => "loader failed".to_string(),
+        Error::Writer(..) => "writer failed".to_string(),
+        Error::Processor(error, _) => error.to_string(),
+        Error::Closed(_) => "closed".to_string(),
         other => format!("{other:?}"),
     }
 }

@@ -136,7 +136,7 @@ fn a_processor_sees_no_expired_entry() {
     let inside = it.cache.invoke(a(), |_| {
         assert_eq!(it.cache.get("a").unwrap(), text("1"));
         it.clock.go(10);
-        Ok(matches!(it.cache.get("a"), Err(Error::WouldDeadlock)))
+        Ok(matches!(it.cache.get("a"), Err(Error::WouldDeadlock(_))))
     });
     assert!(
         inside.unwrap(),
@@ -312,7 +312,7 @@ fn a_policy_that_would_wait_for_room_is_told() {
         panic!("it loads")
     };
     last.ask().commit(Ok(Some(new("1")))).unwrap();
-    assert_eq!(*policy.answers.lock().unwrap(), ["Err(WouldDeadlock)"]);
+    assert_eq!(*policy.answers.lock().unwrap(), ["Err(WouldDeadlock(At))"]);
     drop(tickets);
     assert!(cache.agrees());
 }

@@ -471,7 +471,7 @@ fn an_invoke_that_meets_a_conflict_is_made_again() {
         entry.set(201);
         Ok(())
     });
-    assert!(matches!(made, Err(Error::Writer(Other))));
+    assert!(matches!(made, Err(Error::Writer(Other, _))));
 }
 
 /// Announcements that are never woken, of a cache of bytes.

@@ -322,7 +322,7 @@ fn a_call_inside_the_load_that_was_overtaken_is_told() {
             inner.lock().unwrap().clone().unwrap();
         cache.invalidate(key);
         let told = cache.get(key);
-        assert!(matches!(told, Err(Error::WouldDeadlock)), "{told:?}");
+        assert!(matches!(told, Err(Error::WouldDeadlock(_))), "{told:?}");
         Ok(Some(1))
     };
     let load: Box<dyn Fn(&u32) -> Result<Option<u32>, String> + Send + Sync> = Box::new(load);
@@ -401,5 +401,5 @@ fn a_closed_cache_has_nothing_to_forget() {
     cache.invalidate_all();
     cache.suspend();
     cache.resume();
-    assert!(matches!(cache.get("a"), Err(Error::Closed)));
+    assert!(matches!(cache.get("a"), Err(Error::Closed(_))));
 }

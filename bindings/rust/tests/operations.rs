@@ -114,17 +114,17 @@ fn a_closed_cache_refuses_all_calls() {
     let (_store, cache) = cache_of(2, 8);
     cache.put(own("a"), own("1")).unwrap();
     cache.close();
-    assert!(matches!(cache.get("a"), Err(Error::Closed)));
-    assert!(matches!(cache.contains_key("a"), Err(Error::Closed)));
+    assert!(matches!(cache.get("a"), Err(Error::Closed(_))));
+    assert!(matches!(cache.contains_key("a"), Err(Error::Closed(_))));
     assert!(
         mutations(&cache)
             .iter()
-            .all(|it| matches!(it, Err(Error::Closed)))
+            .all(|it| matches!(it, Err(Error::Closed(_))))
     );
-    assert!(matches!(cache.stats(), Err(Error::Closed)));
-    assert!(matches!(cache.keys(), Err(Error::Closed)));
-    assert!(matches!(cache.clear(), Err(Error::Closed)));
-    assert!(matches!(cache.get_all([own("a")]), Err(it) if matches!(it.error, Error::Closed)));
+    assert!(matches!(cache.stats(), Err(Error::Closed(_))));
+    assert!(matches!(cache.keys(), Err(Error::Closed(_))));
+    assert!(matches!(cache.clear(), Err(Error::Closed(_))));
+    assert!(matches!(cache.get_all([own("a")]), Err(it) if matches!(it.error, Error::Closed(_))));
     cache.close();
     assert!(cache.agrees());
 }
@@ -140,7 +140,7 @@ mod processors {
             entry.set(own("2"));
             Err::<(), _>(Error::processor("no"))
         });
-        assert!(matches!(failed, Err(Error::Processor(error)) if error.to_string() == "no"));
+        assert!(matches!(failed, Err(Error::Processor(error, _)) if error.to_string() == "no"));
         let panicked = AssertUnwindSafe(|| {
             cache.invoke::<()>(own("a"), |entry| {
                 entry.set(own("2"));
@@ -163,7 +163,7 @@ mod processors {
             entry.set(own("2"));
             Ok(())
         });
-        assert!(matches!(failed, Err(Error::Loader(_))));
+        assert!(matches!(failed, Err(Error::Loader(..))));
         assert_eq!(store.loads.load(SeqCst), 1);
         assert!(!cache.contains_key("a").unwrap());
         *store.loading.lock().unwrap() = Mode::Panics;

@@ -58,7 +58,7 @@ fn joiners_of_a_load_that_a_panic_drops_fail() {
         panic!("the store is gone")
     });
     assert!(catch_unwind(panics).is_err());
-    assert!(matches!(join.wait(), Err(Error::LoaderPanicked)));
+    assert!(matches!(join.wait(), Err(Error::LoaderPanicked(_))));
     assert!(cache.agrees());
 }
 
@@ -124,13 +124,13 @@ fn a_processor_that_goes_on_after_its_loaders_panic_has_failed() {
     *store.loading.lock().unwrap() = common::Mode::Panics;
     let reply = cache.invoke("a".to_string(), |entry| {
         assert!(catch_unwind(AssertUnwindSafe(|| entry.value())).is_err());
-        assert!(matches!(entry.value(), Err(Error::LoaderPanicked)));
+        assert!(matches!(entry.value(), Err(Error::LoaderPanicked(_))));
         entry.set("1".to_string());
         entry.remove();
         entry.set_for("2".to_string(), std::time::Duration::MAX);
         Ok(())
     });
-    assert!(matches!(reply, Err(Error::LoaderPanicked)));
+    assert!(matches!(reply, Err(Error::LoaderPanicked(_))));
     let Begun::Process(ticket) = begin(&cache, &Op::Invoke) else {
         panic!("it processes")
     };
@@ -141,7 +141,7 @@ fn a_processor_that_goes_on_after_its_loaders_panic_has_failed() {
     assert_eq!(processing.change(), None);
     assert!(matches!(
         processing.commit(None),
-        Err(Error::LoaderPanicked)
+        Err(Error::LoaderPanicked(_))
     ));
     assert_eq!(
         (store.loads.load(SeqCst), store.writes.load(SeqCst)),

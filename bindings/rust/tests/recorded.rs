@@ -203,9 +203,9 @@ fn shown(value: Option<&String>) -> &str {
 /// The words of a failure.
 fn failure(error: &Failed) -> String {
     match error {
-        Error::Loader(broken) => format!("LoaderFailed {}", broken.0),
-        Error::Writer(broken) => format!("WriterFailed {}", broken.0),
-        Error::Processor(error) => format!(
+        Error::Loader(broken, _) => format!("LoaderFailed {}", broken.0),
+        Error::Writer(broken, _) => format!("WriterFailed {}", broken.0),
+        Error::Processor(error, _) => format!(
             "ProcessorFailed {}",
             error.downcast_ref::<Broken>().unwrap().0
         ),
@@ -289,7 +289,7 @@ fn step(entry: &mut Entry<'_, String, String, Shared<Store>, Shared<Store>>, new
     match below(7) {
         0..=2 => match entry.value() {
             Ok(value) => format!(" get={}", shown(value.as_deref())),
-            Err(Error::Loader(broken)) => format!(" getfails={}", broken.0),
+            Err(Error::Loader(broken, _)) => format!(" getfails={}", broken.0),
             Err(other) => panic!("{other}"),
         },
         3 => format!(" exists={}", entry.exists()),

@@ -36,7 +36,7 @@ fn call_the_cache(from: &'static str) {
     ];
     for result in results {
         // The thread may have a call out, and the stripe no room.
-        assert!(matches!(result, Ok(()) | Err(Error::WouldDeadlock)));
+        assert!(matches!(result, Ok(()) | Err(Error::WouldDeadlock(_))));
     }
     IS_INSIDE.set(false);
 }

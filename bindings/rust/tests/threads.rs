@@ -106,7 +106,9 @@ fn joined_calls_make_one_load() {
 fn joined_calls_share_the_failure() {
     let replies = joined(|answers| answers.as_ref().unwrap().send(Err(Broken("no"))).unwrap());
     assert!(
-        replies.iter().all(|it| it == "Err(Loader(Broken(\"no\")))"),
+        replies
+            .iter()
+            .all(|it| it == "Err(Loader(Broken(\"no\"), At))"),
         "{replies:?}"
     );
 }
@@ -116,7 +118,9 @@ fn joined_calls_fail_if_the_loader_panics() {
     let replies = joined(|answers| drop(answers.take()));
     assert_eq!(replies[0], "panic");
     assert!(
-        replies[1..].iter().all(|it| it == "Err(LoaderPanicked)"),
+        replies[1..]
+            .iter()
+            .all(|it| it == "Err(LoaderPanicked(At))"),
         "{replies:?}"
     );
 }
@@ -150,7 +154,7 @@ fn a_close_wakes_who_waits_to_begin() {
         let waits = threads.spawn(|| cache.put("a".into(), 2u32));
         wait_until_waiting(cache, 1);
         cache.close();
-        assert!(matches!(waits.join().unwrap(), Err(Error::Closed)));
+        assert!(matches!(waits.join().unwrap(), Err(Error::Closed(_))));
         gate.answers.as_ref().unwrap().send(Ok(7)).unwrap();
         assert_eq!(slow.join().unwrap().unwrap().as_deref(), Some(&7));
     });
@@ -205,7 +209,7 @@ fn nested() -> Arc<Cache<String, String, Nested>> {
 fn a_loader_that_waits_for_itself_is_told() {
     let cache = nested();
     match cache.get("own") {
-        Err(Error::Loader(error)) => assert_eq!(*error, "WouldDeadlock"),
+        Err(Error::Loader(error, _)) => assert_eq!(*error, "WouldDeadlock(At)"),
         other => panic!("{other:?}"),
     }
     assert!(cache.agrees());
@@ -222,7 +226,7 @@ fn loaders_that_wait_for_each_other_are_told() {
         calls.map(|call| call.join().unwrap())
     });
     assert!(
-        replies.iter().any(|it| it.contains("WouldDeadlock")),
+        replies.iter().any(|it| it.contains("WouldDeadlock(At)")),
         "{replies:?}"
     );
     assert!(cache.agrees());

@@ -48,9 +48,9 @@ fn a_loader_of_a_call_is_asked_if_the_key_is_missing() {
         assert_eq!(cache.get_or_load_with(&3, |_| Ok(None)).unwrap(), None);
         assert_eq!(now(cache.get_with(3, ready(Ok(None)))).unwrap(), None);
         let failed = cache.get_or_load_with(&3, |_| Err(Broken("no load")));
-        assert!(matches!(failed, Err(Error::Loader(error)) if *error == Broken("no load")));
+        assert!(matches!(failed, Err(Error::Loader(error, _)) if *error == Broken("no load")));
         let failed = now(cache.get_with(3, ready(Err(Broken("no load")))));
-        assert!(matches!(failed, Err(Error::Loader(_))));
+        assert!(matches!(failed, Err(Error::Loader(..))));
         let panics = AssertUnwindSafe(|| cache.get_or_load_with(&3, |_| panic!("no load")));
         assert!(catch_unwind(panics).is_err());
         assert_eq!(cache.len().unwrap(), 2);
@@ -125,7 +125,7 @@ fn a_loader_of_a_call_that_would_wait_for_itself_is_told() {
     let cache = numbers();
     let value = cache.get_or_load_with(&1, |key| {
         let inner = cache.get_or_load_with(key, |_| Ok(Some(1)));
-        assert!(matches!(inner, Err(Error::WouldDeadlock)));
+        assert!(matches!(inner, Err(Error::WouldDeadlock(_))));
         Ok(Some(2))
     });
     assert_eq!(value.unwrap().as_deref(), Some(&2));

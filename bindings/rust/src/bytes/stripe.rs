@@ -1,5 +1,6 @@
 //! One stripe of a cache of bytes: a desk under a mutex, and who has a call out.
 use crate::Error;
+use crate::at::Name;
 use crate::core::{self, Asked, Desk, Done, Loaded, PickedUp, Refusal, Shape, Ticket, Written};
 use crate::op::Reply;
 use crate::outside::is_in_call;
@@ -28,6 +29,7 @@ pub(super) struct Side<E> {
 pub(super) struct Stripe<E> {
     side: Mutex<Side<E>>,
     room: Waiters,
+    pub name: Name<[u8]>,
 }
 
 /// What a first phase asks for.
@@ -69,7 +71,7 @@ impl<E> Asking<'_, E> {
         let reply = self.end_load(&found);
         match found {
             Ok(_) => Ok(reply.expect("the loader has answered")),
-            Err(failure) => Err(failure.into()),
+            Err(failure) => Err(failure.at(self.stripe.name.at(Some(&self.key)))),
         }
     }
 
@@ -140,7 +142,7 @@ fn owned(reply: &core::Reply<'_>) -> Option<Reply<Vec<u8>>> {
 }
 
 impl<E> Stripe<E> {
-    pub(super) fn open(shape: &Shape, number: usize) -> Result<Self, core::Code> {
+    pub(super) fn open(shape: &Shape, number: usize, name: Name<[u8]>) -> Result<Self, core::Code> {
         Ok(Stripe {
             side: Mutex::new(Side {
                 desk: Desk::open(shape, number, &[])?,
@@ -153,7 +155,13 @@ impl<E> Stripe<E> {
                 changes: 0,
             }),
             room: Waiters::default(),
+            name,
         })
+    }
+
+    /// The error of a call that has stopped there.
+    pub(super) fn stopped<W>(&self, stop: Stop, key: Option<&[u8]>) -> Error<E, W> {
+        stop.at(self.name.at(key))
     }
 
     fn lock(&self) -> MutexGuard<'_, Side<E>> {
@@ -173,14 +181,14 @@ impl<E> Stripe<E> {
         (std::ptr::from_ref(self).addr(), flight.number)
     }
 
-    pub(super) fn hit(&self, key: &[u8]) -> Result<Option<Vec<u8>>, Stop> {
-        let mut side = self.open_side()?;
+    /// A `get` that finds its entry. None: nothing was done.
+    pub(super) fn hit(&self, key: &[u8]) -> Option<Vec<u8>> {
+        let mut side = self.open_side().ok()?;
         if side.is_hidden(key) {
-            return Ok(None);
+            return None;
         }
         let session = side.sessions.next();
-        let hit = side.desk.hit(session, key).map_err(|_| Stop::Limits)?;
-        Ok(hit.map(<[u8]>::to_vec))
+        side.desk.hit(session, key).ok()?.map(<[u8]>::to_vec)
     }
 
     pub(super) fn begin(&self, op: core::Op<'_>, key: &[u8]) -> Result<First<'_, E>, Stop> {
@@ -265,17 +273,17 @@ impl<E> Stripe<E> {
     }
 
     /// Sleeps until a load that was joined is over. None: it was withdrawn.
-    pub(super) fn wait_and_pick_up<W>(
+    pub(super) fn wait_and_pick_up(
         &self,
         join: core::Join,
         flight: &Flight<(), E>,
         key: &[u8],
-    ) -> Result<Option<Reply<Vec<u8>>>, Error<E, W>> {
+    ) -> Result<Option<Result<Reply<Vec<u8>>, Failure<E>>>, Stop> {
         let mut side = self.lock();
         if !flight.is_over.load(Relaxed) {
             if !waiting::wait_for(flight.owner, self.reservation(flight)) {
                 side.abandoned.push((join, key.to_vec()));
-                return Err(Error::WouldDeadlock);
+                return Err(Stop::WouldDeadlock);
             }
             while !flight.is_over.load(Relaxed) {
                 side = flight.waiters.sleep(side);
@@ -289,14 +297,11 @@ impl<E> Stripe<E> {
             PickedUp::NotYet => unreachable!("the load is over"),
         };
         self.leave(&mut side, join.session);
-        match reply {
-            None => Ok(None),
-            Some(Some(reply)) => Ok(Some(reply)),
-            Some(None) => match flight.found.get() {
-                Some(Err(failure)) => Err(failure.clone().into()),
-                _ => unreachable!("the loader failed"),
-            },
-        }
+        let failure = || match flight.found.get() {
+            Some(Err(failure)) => failure.clone(),
+            _ => unreachable!("the loader failed"),
+        };
+        Ok(reply.map(|reply| reply.ok_or_else(failure)))
     }
 
     /// Sleeps until it may be tried again what was refused.
