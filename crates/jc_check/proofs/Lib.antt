@@ -10,3 +10,7 @@ pub mod Settling
 pub mod Orders
 pub mod Known
 pub mod Covering
+pub mod Runs
+pub mod RecordedSteps
+pub mod RecordedWalks
+pub mod RecordedTurns

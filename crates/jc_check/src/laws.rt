@@ -1,5 +1,5 @@
 //! Laws about verdicts, for provers. None of these functions does anything.
-ghost use Rattle.jc_check.specs.Laws.{ClosedNodesRefute, WholeNodesExplain};
+ghost use Rattle.jc_check.specs.Laws.{ClosedNodesRefute, LegalIsExplained, WholeNodesExplain};
 
 /// No order explains a record of which some nodes are closed.
 pub fn closed_nodes_refute()
@@ -9,4 +9,9 @@ pub fn closed_nodes_refute()
 /// Turns that lead from the opening to a whole node explain a record.
 pub fn whole_nodes_explain()
     ensures { WholeNodesExplain }
+{}
+
+/// What is recorded of a legal history at a key is explained, by the rules that judge the cache alone.
+pub fn legal_is_explained()
+    ensures { LegalIsExplained }
 {}
