@@ -1,11 +1,10 @@
 -- A recorded call of a lawful step fits as a step, or shares the load of the one before it.
-use Rattle.std.proofs.Common.{◌≡◌, ℕ, List, Bool, true, false, cond, not, ◌&&◌, Option, Some, None, is_some, is_none, option_map, sym, subst, ap, refl, ◌∙◌, true≢false}
+use Rattle.std.proofs.Common.{◌≡◌, ℕ, Bool, true, false, cond, ◌&&◌, Option, Some, None, is_some, is_none, option_map, sym, subst, ap, refl, ◌∙◌}
 use Rattle.std.specs.Bool.{beq}
 use Rattle.std.proofs.lemmas.Bool.{and_from, and_parts}
 use Rattle.jc_types.specs.declared.caller.Caller.{Caller}
 use Rattle.jc_types.specs.declared.config.Config.{Config}
 use Rattle.jc_model.specs.declared.event.Change.{Change}
-use Rattle.jc_model.specs.declared.event.Change.TheVariants.{Write, Delete}
 use Rattle.jc_model.specs.declared.event.Effect.TheVariants as effect
 use Rattle.jc_model.specs.declared.event.LoadAnswer.{LoadAnswer}
 use Rattle.jc_model.specs.declared.event.LoadAnswer.TheVariants as load
@@ -26,7 +25,7 @@ use Rattle.jc_check.specs.declared.record.Spot.{Spot}
 use Rattle.jc_check.specs.declared.record.Stored.{Stored}
 use Rattle.jc_check.specs.Explains.{entry_of_op}
 use Rattle.jc_check.specs.Recording.{AreTableRules, IsCallOf, IsRemovalOf, asked_change, change_of_entry, removal_out}
-use Rattle.jc_check.specs.Spot.{FitsChange, FitsLoad, FitsReply, FitsShare, FitsSights, FitsStep, shared_reply, spot_after, store_after}
+use Rattle.jc_check.specs.Spot.{FitsLoad, FitsReply, FitsShare, FitsSights, FitsStep, shared_reply, spot_after, store_after}
 use Rattle.jc_check.proofs.Runs.{has-run-fits}
 
 -- 1. What the writer was asked for.
@@ -109,7 +108,7 @@ left-by-step clock config rules s caller o out reply c table is =
     let to-op : spot_after_step rules s c.op c.out ≡ spot_after_step rules s o c.out = ap (λ (x : Op). spot_after_step rules s x c.out) is.op_is in
     let to-out : spot_after_step rules s o c.out ≡ spot_after_step rules s o out = ap (λ (x : Out). spot_after_step rules s o x) is.out_is in
     let stored : spot_after rules s c ≡ spot_after_step rules s c.op c.out =
-        ap (λ (x : Stored). spot_of c x) (same-store rules.is_store_known c s.store table.table) in
+    ap (λ (x : Stored). spot_of c x) (same-store rules.is_store_known c s.store table.table) in
     sym (stored ∙ to-op ∙ to-out)
   where
     spot_of : Recorded → Stored → Spot

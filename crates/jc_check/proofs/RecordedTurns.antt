@@ -12,9 +12,9 @@ use Rattle.jc_model.specs.declared.event.Event.TheVariants as event
 use Rattle.jc_model.specs.declared.event.Op.{Op}
 use Rattle.jc_model.specs.declared.event.Out.{Out}
 use Rattle.jc_model.specs.declared.event.Reply.{Reply}
-use Rattle.jc_model.specs.Cache.{Bytes, Cache, entry_at}
-use Rattle.jc_model.specs.Group.{history_of, nothing_said}
-use Rattle.jc_model.specs.Legal.{IsHistory, Legal, in_order, may_follow}
+use Rattle.jc_model.specs.Cache.{Bytes, entry_at}
+use Rattle.jc_model.specs.Group.{nothing_said}
+use Rattle.jc_model.specs.Legal.{Legal, in_order, may_follow}
 use Rattle.jc_model.specs.Table.{entry_after}
 use Rattle.jc_check.specs.declared.record.Act.{Act}
 use Rattle.jc_check.specs.declared.record.Act.TheVariants.{Step, Share}
@@ -23,9 +23,8 @@ use Rattle.jc_check.specs.declared.record.Rules.{Rules}
 use Rattle.jc_check.specs.declared.record.Spot.{Spot}
 use Rattle.jc_check.specs.declared.record.Turn.{Turn}
 use Rattle.jc_check.specs.declared.record.Turn.TheVariants.{Vanish, Call}
-use Rattle.jc_check.specs.Explains.{ActGoes, AreApart, CallGoes, CallsPrecede, Differ, Explains, Goes, IsExplained, IsPlaced, MustPrecede, PlaysTurns, call_at, changes_at, is_forgotten, must_be_placed, placed_call, places, some_if, stored_call}
+use Rattle.jc_check.specs.Explains.{ActGoes, AreApart, CallGoes, CallsPrecede, Differ, Goes, IsExplained, IsPlaced, MustPrecede, PlaysTurns, call_at, changes_at, is_forgotten, must_be_placed, placed_call, places, some_if, stored_call}
 use Rattle.jc_check.specs.Recording.{AreTableRules, IsCallOf, IsRecordOf, IsStepAt, Tells, TellsEvent, entry_after_event, entry_before, entry_left, is_at}
-use Rattle.jc_check.specs.Spot.{spot_after}
 use Rattle.jc_check.proofs.Landings.{not-more}
 use Rattle.jc_check.proofs.Quantified.{all-cons, any-here, any-there, pairs-cons}
 use Rattle.jc_check.proofs.RecordedSteps.{fits-removal, fits-share, fits-step, left-by-removal, left-by-step, spot_after_step}
@@ -75,12 +74,11 @@ step-goes : (clock : ℕ → ℕ → ℕ) (config : Config) (rules : Rules) (s :
 step-goes clock config rules s caller op key out reply None table fits is = absurd is
 step-goes clock config rules s caller op key out reply (Some c) table fits (inl is) =
     (is.role, fits-step clock config rules s caller op out reply c table fits.0 fits.1 is, left-by-step clock config rules s caller op out reply c table is)
-step-goes clock config rules s caller op key out reply (Some c) table fits (inr is) =
-    (
-      is.call.role,
-      fits-removal clock config rules s caller op out c table fits.0 is,
-      left-by-removal clock config rules s caller op out c table fits.0 is,
-    )
+step-goes clock config rules s caller op key out reply (Some c) table fits (inr is) = (
+  is.call.role,
+  fits-removal clock config rules s caller op out c table fits.0 is,
+  left-by-removal clock config rules s caller op out c table fits.0 is,
+)
 
 share-told : (clock : ℕ → ℕ → ℕ) (config : Config) (rules : Rules) (s : Spot) (caller : Caller) (op : Op) (key : Bytes) (out : Out) (place : ℕ) (reply : Reply) (c : Recorded) (r : Option Reply)
     → EventFits rules s (event.Step caller op key out (Some place) reply) → IsCallOf clock config.read_through s.entry caller op nothing_said reply c
@@ -186,11 +184,11 @@ turns-pairs R key calls [] f late early both = λ i j d less h. absurd (omega (a
 turns-pairs R key calls (e ∷ es) f late early both =
     pairs-if (makes key calls (f 0) e) R (turn_of (f 0) e) (turns_of key calls (λ k. f (suc k)) es)
     (λ made.
-        turns-all (R (turn_of (f 0) e)) key calls es (λ k. f (suc k)) (late (turn_of (f 0) e))
-        (λ k b at.
-            event-holds (λ (t : Turn). R t (Call (f (suc k)) b)) key e (f 0)
-            (and_parts (is_at key e) (is_made e (slice_get calls (f 0))) made).0 (early (Call (f (suc k)) b))
-            (λ a here. both 0 (suc k) a b (omega arith) here at)))
+    turns-all (R (turn_of (f 0) e)) key calls es (λ k. f (suc k)) (late (turn_of (f 0) e))
+    (λ k b at.
+    event-holds (λ (t : Turn). R t (Call (f (suc k)) b)) key e (f 0)
+    (and_parts (is_at key e) (is_made e (slice_get calls (f 0))) made).0 (early (Call (f (suc k)) b))
+    (λ a here. both 0 (suc k) a b (omega arith) here at)))
     (turns-pairs R key calls es (λ k. f (suc k)) late early (λ j k a b less x y. both (suc j) (suc k) a b (omega (arith, less)) x y))
 
 -- 4. Each call that has ended is placed.
@@ -299,7 +297,7 @@ ordered clock config rules key before after (Some (event.Step who op own out sha
     let session : who.session ≡ by.session = sym first.0 ∙ sym thread.one ∙ second.0 in
     let call : who.call < by.call = lower key own key' who by op t out out' shared shared' reply reply' at also session may in
     let clocks : clock who.session who.call ≤ clock by.session by.call =
-        subst (λ (n : ℕ). clock who.session who.call ≤ clock n by.call) session (forward who.session who.call by.call (omega (arith, call))) in
+    subst (λ (n : ℕ). clock who.session who.call ≤ clock n by.call) session (forward who.session who.call by.call (omega (arith, call))) in
     omega (arith, clocks, first.1, second.1, thread.before)
 
 none-precede : (rules : Rules) (x : Option Recorded) → CallsPrecede rules x None → ⊥
@@ -316,22 +314,23 @@ precede-if false rules calls i o must = absurd must
 pub record-explained : (config : Config) (rules : Rules) (key : Bytes) (events : List Event) (calls : List Recorded) (spot : Spot) (entry : Option Bytes)
     → AreTableRules config rules → spot.entry ≡ entry → Walks rules key spot events → in_order events ≡ true → IsRecordOf config key entry events calls
     → IsExplained rules calls spot
-record-explained config rules key events calls spot entry table is walks order told =
-    (turns_of key calls told.call events,
-    record {
-      last = spot_over rules key spot events;
-      plays = plays told.clock config rules key calls events told.call spot entry table is walks told.tells;
-      once = turns-pairs (Differ calls) key calls events told.call (λ t. (not-more (placed_call t), not-more (stored_call calls t))) (λ t. (tt, tt))
-          (λ j k a b less x y. differ calls (told.call j) (told.call k) a b (twice j k less x y));
-      each = λ i c at must. each i c at must;
-      order = turns-pairs (λ t u. MustPrecede rules calls u t → ⊥) key calls events told.call (λ t must. must)
-          (λ t must. none-precede rules (call_at calls (placed_call t)) must)
-          (λ j k a b less x y must.
-              ordered told.clock config rules key (entry_before key entry events j) (entry_before key entry events k) (slice_get events j) (slice_get events k)
-              (slice_get calls (told.call j)) (slice_get calls (told.call k)) table told.forward x y (follows events j k order less)
-              (told.tells j x) (told.tells k y)
-              (precede-if (places b) rules calls (told.call k) (slice_get calls (told.call j)) must));
-    })
+record-explained config rules key events calls spot entry table is walks order told = (
+  turns_of key calls told.call events,
+  record {
+    last = spot_over rules key spot events;
+    plays = plays told.clock config rules key calls events told.call spot entry table is walks told.tells;
+    once = turns-pairs (Differ calls) key calls events told.call (λ t. (not-more (placed_call t), not-more (stored_call calls t))) (λ t. (tt, tt))
+        (λ j k a b less x y. differ calls (told.call j) (told.call k) a b (twice j k less x y));
+    each = λ i c at must. each i c at must;
+    order = turns-pairs (λ t u. MustPrecede rules calls u t → ⊥) key calls events told.call (λ t must. must)
+        (λ t must. none-precede rules (call_at calls (placed_call t)) must)
+        (λ j k a b less x y must.
+        ordered told.clock config rules key (entry_before key entry events j) (entry_before key entry events k) (slice_get events j) (slice_get events k)
+        (slice_get calls (told.call j)) (slice_get calls (told.call k)) table told.forward x y (follows events j k order less)
+        (told.tells j x) (told.tells k y)
+        (precede-if (places b) rules calls (told.call k) (slice_get calls (told.call j)) must));
+  },
+)
   where
     twice : (j k : ℕ) → j < k → IsStepAt key (slice_get events j) → IsStepAt key (slice_get events k) → told.call j ≡ told.call k → ⊥
     twice j k less x y same =
@@ -341,7 +340,7 @@ record-explained config rules key events calls spot entry table is walks order t
     each i c at must =
         let inside = told.inside i c at must in
         let replied : has_reply (slice_get calls (told.call (told.place i))) ≡ true =
-            ap (λ (j : ℕ). has_reply (slice_get calls j)) inside ∙ ap has_reply at ∙ (and_parts (not (is_forgotten c.role)) (is_some c.reply) must).1 in
+        ap (λ (j : ℕ). has_reply (slice_get calls j)) inside ∙ ap has_reply at ∙ (and_parts (not (is_forgotten c.role)) (is_some c.reply) must).1 in
         subst (IsPlaced (turns_of key calls told.call events)) inside
         (is-placed key calls events told.call (told.place i) (told.steps i c at must) replied)
 

@@ -1,5 +1,5 @@
 -- What the events of a legal history do at a key, one after the other, with the load that a step has left to share.
-use Rattle.std.proofs.Common.{◌≡◌, ◌==◌, ℕ, ◌+◌, List, [], ◌∷◌, ◌++◌, length, map, Bool, true, false, cond, not, ◌&&◌, Option, Some, None, is_none, sym, subst, ap, refl, ◌∙◌, append_assoc}
+use Rattle.std.proofs.Common.{◌≡◌, ◌==◌, ℕ, ◌+◌, List, [], ◌∷◌, ◌++◌, length, map, Bool, true, false, cond, ◌&&◌, Option, Some, None, is_none, sym, subst, ap, refl, ◌∙◌, append_assoc}
 use Rattle.std.specs.Ordering.{eq_by_cmp}
 use Rattle.std.specs.Cmp.Lexicographic.{texts_ties, pointwise}
 use Rattle.std.specs.Cmp.{eq_by_cmp_equiv}
@@ -17,10 +17,10 @@ use Rattle.jc_model.specs.declared.event.LoadAnswer.TheVariants as load
 use Rattle.jc_model.specs.declared.event.Op.{Op}
 use Rattle.jc_model.specs.declared.event.Op.TheVariants.{Get}
 use Rattle.jc_model.specs.declared.event.Out.{Out}
-use Rattle.jc_model.specs.Cache.{Bytes, Cache, entry_at, key_cmp, with_entry}
+use Rattle.jc_model.specs.Cache.{Bytes, Cache, entry_at, key_cmp}
 use Rattle.jc_model.specs.Group.{Group, cache_after_group, cache_after_step, cache_before_step, evicted_events, events_of, history_of, shared_event, step_event, step_place, victim_events, without_own, without_victim}
 use Rattle.jc_model.specs.Lawful.{AreLawful, IsLawful, is_joinable, joined_fits, loads_whole}
-use Rattle.jc_model.specs.Table.{NewStep, Seq, answers_fit, early_fault, entry_after, is_invoke, is_load_given, is_process_given, is_write_given, load_fits, loader_ask, reply_after, seq_cache, seq_entry, write_ask}
+use Rattle.jc_model.specs.Table.{NewStep, Seq, answers_fit, entry_after, is_load_given, reply_after, seq_cache, seq_entry}
 use Rattle.jc_model.proofs.CallerLemmas.{get-with_entry, same_key}
 use Rattle.jc_check.specs.declared.record.Rules.{Rules}
 use Rattle.jc_check.specs.declared.record.Spot.{Spot}
@@ -121,15 +121,14 @@ step-leads true config rules key caller step cache next s table at is seq =
         seq.reply ∙ ap (λ (e : Option Bytes). reply_after step.op e step.out) (sym found),
       ),
       ap (λ (e : Option Bytes). entry_after step.op e step.out) found
-      ∙ sym (get-with_entry cache step.key (seq_entry cache step) key
-      ∙ ap (λ (b : Bool). cond b (seq_entry cache step) (entry_at cache key)) (compared key step.key true at)),
+          ∙ sym (get-with_entry cache step.key (seq_entry cache step) key
+          ∙ ap (λ (b : Bool). cond b (seq_entry cache step) (entry_at cache key)) (compared key step.key true at)),
     )
-step-leads false config rules key caller step cache next s table at is seq =
-    (
-      tt,
-      is ∙ sym (get-with_entry cache step.key (seq_entry cache step) key
+step-leads false config rules key caller step cache next s table at is seq = (
+  tt,
+  is ∙ sym (get-with_entry cache step.key (seq_entry cache step) key
       ∙ ap (λ (b : Bool). cond b (seq_entry cache step) (entry_at cache key)) (compared key step.key false at)),
-    )
+)
 
 -- 6. Those that share its load.
 
@@ -161,12 +160,12 @@ shares : (b : Bool) (config : Config) (rules : Rules) (key : Bytes) (cache : Cac
 shares false config rules key cache group s table at is joinable = tt
 shares true config rules key cache group s table at is joinable =
     let parts = and_parts (config.read_through && loads_whole group.step.op && is_none (entry_at (cache_before_step cache group) group.step.key))
-        (is_load_given group.step.out.load) joinable in
+    (is_load_given group.step.out.load) joinable in
     let found : s.entry ≡ entry_at (cache_before_step cache group) group.step.key =
-        is ∙ ap (entry_at (cache_before_step cache group)) (sym (is-key group.step.key key at)) in (
+    is ∙ ap (entry_at (cache_before_step cache group)) (sym (is-key group.step.key key at)) in (
       ap (λ (b : Bool). cond b group.step.out.load load.NotAsked)
-      (ap (λ (b : Bool). b && loads_whole group.step.op && is_none s.entry) table.read
-      ∙ ap (λ (e : Option Bytes). config.read_through && loads_whole group.step.op && is_none e) found ∙ parts.0),
+          (ap (λ (b : Bool). b && loads_whole group.step.op && is_none s.entry) table.read
+          ∙ ap (λ (e : Option Bytes). config.read_through && loads_whole group.step.op && is_none e) found ∙ parts.0),
       parts.1,
     )
 
@@ -189,14 +188,14 @@ after-step : (config : Config) (rules : Rules) (key : Bytes) (cache : Cache) (gr
     (entry_at (cache_after_group cache group) key)
 after-step config rules key cache group place s table is lawful =
     let one = step-leads (pointwise ◌==◌ group.step.key key) config rules key group.caller group.step (cache_before_step cache group)
-        (cache_after_step cache group) s table refl is lawful.step.seq in
+    (cache_after_step cache group) s table refl is lawful.step.seq in
     let next : Spot = spot_if (pointwise ◌==◌ group.step.key key) rules s (step_event group) in
     let events : List Event = map (shared_event place group.step.key group.step.out.load) group.joined in
     let others = joined-walks config rules key cache group place s group.joined table is lawful.joined in
     let last = evicted-leads rules key group.step.key group.evicted (cache_after_step cache group) (spot_over rules key next events)
-        (ap (λ (x : Spot). x.entry) others.1 ∙ one.1) in
+    (ap (λ (x : Spot). x.entry) others.1 ∙ one.1) in
     let rest = leads-on rules key next events (evicted_events group.step.key group.evicted) (entry_at (cache_after_group cache group) key)
-        others.0 last in
+    others.0 last in
     ((one.0, rest.0), rest.1)
 
 group-leads : (config : Config) (rules : Rules) (key : Bytes) (cache : Cache) (group : Group) (place : ℕ) (s : Spot) → AreTableRules config rules
@@ -207,8 +206,8 @@ group-leads config rules key cache group place s table is lawful =
     let own : List Event = step_event group ∷ map (shared_event (step_place place group) group.step.key group.step.out.load) group.joined in
     let entry : Option Bytes = entry_at (cache_after_group cache group) key in
     let all : Leads rules key s (victim_events group.victim ++ (own ++ evicted_events group.step.key group.evicted)) entry =
-        leads-on rules key s (victim_events group.victim) (own ++ evicted_events group.step.key group.evicted) entry first.0
-        (after-step config rules key cache group (step_place place group) (spot_over rules key s (victim_events group.victim)) table first.1 lawful) in
+    leads-on rules key s (victim_events group.victim) (own ++ evicted_events group.step.key group.evicted) entry first.0
+    (after-step config rules key cache group (step_place place group) (spot_over rules key s (victim_events group.victim)) table first.1 lawful) in
     subst (λ (events : List Event). Leads rules key s events entry) (sym (append_assoc (victim_events group.victim) own (evicted_events group.step.key group.evicted))) all
 
 walks-on : (rules : Rules) (key : Bytes) (s : Spot) (xs ys : List Event) → Walks rules key s xs → Walks rules key (spot_over rules key s xs) ys

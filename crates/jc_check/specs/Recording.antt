@@ -10,8 +10,9 @@
 --     IsRun                a processor's calls on its entry, the answers to them, and what its step has of its loader and of itself,
 --                          are one run of a processor
 --     HasRun               the same of an operation that runs a processor; another one has none
---     IsCallOf             a recorded call is that of a step that found this entry: its session is the thread, and its number, by the
---                          recorder's clock, the time of its begin. Its end may be at any time; if it hasn't ended, it has no reply
+--     IsCallOf             a recorded call is that of a step that found this entry: the session is the thread, the recorder's clock tells
+--                          when the call with its number began, and it has the step's reply, or none if it hasn't ended. When it ended
+--                          doesn't matter
 --     removal_out          the outside answers of a removal, as those of a processor that removes its entry
 --     IsRemovalOf          a recorded call is that of a removal, as a processor that removes its entry: so a record has the keys of a
 --                          `removeAll`, since that doesn't answer which of them were there
