@@ -14,3 +14,4 @@ pub mod Runs
 pub mod RecordedSteps
 pub mod RecordedWalks
 pub mod RecordedTurns
+pub mod RecordedCalls

@@ -93,11 +93,11 @@ fits-step clock config rules s caller o out reply c table answers replied is =
     }
 
 -- what others may share after a step
-abbrev pub joined : Rules → Op → Option Bytes → LoadAnswer → LoadAnswer
-joined rules o entry answer = cond (rules.config.read_through && loads_whole o && is_none entry) answer load.NotAsked
+abbrev pub shared_after : Rules → Op → Option Bytes → LoadAnswer → LoadAnswer
+shared_after rules o entry answer = cond (rules.config.read_through && loads_whole o && is_none entry) answer load.NotAsked
 
 abbrev pub spot_after_step : Rules → Spot → Op → Out → Spot
-spot_after_step rules s o out = record { entry = entry_after o s.entry out; store = s.store; shared = joined rules o s.entry out.load }
+spot_after_step rules s o out = record { entry = entry_after o s.entry out; store = s.store; shared = shared_after rules o s.entry out.load }
 
 same-store : (b : Bool) (c : Recorded) (store : Stored) → b ≡ false → store_after b c store ≡ store
 same-store b c store is = ap (λ (x : Bool). store_after x c store) is
@@ -113,7 +113,7 @@ left-by-step clock config rules s caller o out reply c table is =
   where
     spot_of : Recorded → Stored → Spot
     spot_of c store =
-        record { entry = entry_after c.op s.entry c.out; store = store; shared = joined rules c.op s.entry c.out.load }
+        record { entry = entry_after c.op s.entry c.out; store = store; shared = shared_after rules c.op s.entry c.out.load }
 
 -- 3. A removal, as the run of a processor.
 
@@ -167,7 +167,7 @@ left-by-removal clock config rules s caller o out c table answers is =
     ∙ left-by-step clock config rules s caller op.Invoke (removal_out out) (reply_after op.Invoke None (removal_out out)) c table is.call
   where
     spot_with : Option Bytes → Spot
-    spot_with e = record { entry = e; store = s.store; shared = joined rules op.Remove s.entry out.load }
+    spot_with e = record { entry = e; store = s.store; shared = shared_after rules op.Remove s.entry out.load }
 
 -- 4. A shared load.
 

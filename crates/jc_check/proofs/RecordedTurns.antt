@@ -126,7 +126,7 @@ event-leaves rules s (event.Evict gone cause) entry is = refl
 event-leaves rules s (event.Step caller op own out None reply) entry is = ap (λ (x : Option Bytes). entry_after op x out) is
 event-leaves rules s (event.Step caller op own out (Some place) reply) entry is = is
 
-leaves-if : (b : Bool) (rules : Rules) (s : Spot) (e : Event) (entry : Option Bytes) → s.entry ≡ entry
+pub leaves-if : (b : Bool) (rules : Rules) (s : Spot) (e : Event) (entry : Option Bytes) → s.entry ≡ entry
     → (spot_if b rules s e).entry ≡ (if b then entry_left entry e else entry)
 leaves-if true rules s e entry is = event-leaves rules s e entry is
 leaves-if false rules s e entry is = is
@@ -193,7 +193,7 @@ turns-pairs R key calls (e ∷ es) f late early both =
 
 -- 4. Each call that has ended is placed.
 
-key-at : (own key : Bytes) → own ≡ key → pointwise ◌==◌ own key ≡ true
+pub key-at : (own key : Bytes) → own ≡ key → pointwise ◌==◌ own key ≡ true
 key-at own key is = ap (pointwise ◌==◌ own) (sym is) ∙ nat_list_eq_equiv.refl own
 
 step-makes : (key : Bytes) (e : Event) (o : Option Recorded) → IsStepAt key (Some e) → has_reply o ≡ true → (is_at key e && is_made e o) ≡ true

@@ -27,7 +27,7 @@ use Rattle.jc_check.specs.declared.record.Spot.{Spot}
 use Rattle.jc_check.specs.Explains.{spot_vanished}
 use Rattle.jc_check.specs.Recording.{AreTableRules, is_at}
 use Rattle.jc_check.specs.Spot.{shared_reply}
-use Rattle.jc_check.proofs.RecordedSteps.{joined, spot_after_step}
+use Rattle.jc_check.proofs.RecordedSteps.{spot_after_step}
 
 -- 1. An event at the key.
 

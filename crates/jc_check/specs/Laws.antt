@@ -3,8 +3,10 @@
 --     WholeNodesExplain    turns that lead from the opening to a whole node explain a record
 --     LegalIsExplained     a record of a legal history at a key is explained by the rules that judge the cache alone, whatever the
 --                          store has at first
-use Rattle.std.specs.Prelude.{◌≡◌, List}
+--     LegalIsRecorded      a legal history has a record at each key, if no processor whose load failed has an effect; `some` is any call
+use Rattle.std.specs.Prelude.{◌≡◌, List, IsTrue}
 use Rattle.std.specs.FinMap.{from_entries}
+use Rattle.std.specs.List.{list_all}
 use Rattle.jc_types.specs.declared.config.Config.{Config}
 use Rattle.jc_model.specs.declared.event.Event.{Event}
 use Rattle.jc_model.specs.Cache.{Bytes, entry_at}
@@ -15,7 +17,7 @@ use Rattle.jc_check.specs.declared.record.Spot.{Spot}
 use Rattle.jc_check.specs.declared.record.Turn.{Turn}
 use Rattle.jc_check.specs.Explains.{Explains, IsExplained}
 use Rattle.jc_check.specs.Nodes.{IsClosed, IsWhole, NodeValue, PlaysNodes, opening_node}
-use Rattle.jc_check.specs.Recording.{AreTableRules, IsRecordOf}
+use Rattle.jc_check.specs.Recording.{AreTableRules, IsRecordOf, heeds_failed_load}
 
 abbrev pub ClosedNodesRefute : Type 0
 ClosedNodesRefute =
@@ -32,3 +34,9 @@ LegalIsExplained =
     (config : Config) (opening : List (Bytes × Bytes)) (events : List Event) (key : Bytes) (rules : Rules) (calls : List Recorded) (spot : Spot)
     → Legal config opening events → AreTableRules config rules → spot.entry ≡ entry_at (from_entries opening) key
     → IsRecordOf config key (entry_at (from_entries opening) key) events calls → IsExplained rules calls spot
+
+abbrev pub LegalIsRecorded : Type 0
+LegalIsRecorded =
+    (config : Config) (opening : List (Bytes × Bytes)) (events : List Event) (key : Bytes) (some : Recorded)
+    → Legal config opening events → IsTrue (list_all heeds_failed_load events)
+    → (calls : List Recorded) × IsRecordOf config key (entry_at (from_entries opening) key) events calls

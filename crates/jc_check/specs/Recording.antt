@@ -21,7 +21,9 @@
 --     IsRecordOf           a record has the calls of a history at one key: each step at the key has a call of its own, each call that
 --                          has ended is that of a step, and the recorder's clock doesn't run backwards while a session makes its calls.
 --                          In which order the calls are listed doesn't matter, and the record says nothing of evictions
-use Rattle.std.specs.Prelude.{◌≡◌, ◌==◌, ◌≤◌, ◌⊎◌, ℕ, List, map, take, Bool, true, false, Option, None, Some, option_map, Result, slice_get, if◌then◌else◌}
+--     keeps_entry          a processor has no effect on its entry
+--     heeds_failed_load    if the load of a step failed, its processor has no effect, if it ran one
+use Rattle.std.specs.Prelude.{◌≡◌, ◌==◌, ◌≤◌, ◌⊎◌, ℕ, List, map, take, Bool, true, false, ◌||◌, Option, None, Some, is_none, option_map, Result, slice_get, if◌then◌else◌}
 use Rattle.std.specs.Cmp.Lexicographic.{pointwise}
 use Rattle.std.specs.List.{fold}
 use Rattle.jc_types.specs.declared.caller.Caller.{Caller}
@@ -34,12 +36,13 @@ use Rattle.jc_model.specs.declared.event.Event.TheVariants.{Step, Evict}
 use Rattle.jc_model.specs.declared.event.Op.{Op}
 use Rattle.jc_model.specs.declared.event.Op.TheVariants.{Invoke, Remove}
 use Rattle.jc_model.specs.declared.event.Out.{Out}
+use Rattle.jc_model.specs.declared.event.ProcessAnswer.{ProcessAnswer}
 use Rattle.jc_model.specs.declared.event.ProcessAnswer.TheVariants as process
 use Rattle.jc_model.specs.declared.event.Reply.{Reply}
 use Rattle.jc_model.specs.Cache.{Bytes}
 use Rattle.jc_model.specs.Group.{nothing_said}
 use Rattle.jc_model.specs.Legal.{event_key}
-use Rattle.jc_model.specs.Processor.{all_answers, net_effect, process_answer, uses_load}
+use Rattle.jc_model.specs.Processor.{all_answers, failed_in, net_effect, process_answer, uses_load}
 use Rattle.jc_model.specs.Table.{entry_after, is_invoke, is_load_given, is_write_given, reply_after}
 use Rattle.jc_check.specs.declared.record.EntrySight.{EntrySight}
 use Rattle.jc_check.specs.declared.record.Recorded.{Recorded}
@@ -99,7 +102,8 @@ abbrev pub HasRun : Bool → Bool → Option Bytes → List EntrySight → Out �
 HasRun false read_through entry sights out = Unit {0}
 HasRun true read_through entry sights out = IsRun read_through entry sights out
 
-pub record IsCallOf (clock : ℕ → ℕ → ℕ) (read_through : Bool) (entry : Option Bytes) (caller : Caller) (op : Op) (out : Out) (reply : Reply) (c : Recorded) : Type 0 where
+pub record IsCallOf (clock : ℕ → ℕ → ℕ) (read_through : Bool) (entry : Option Bytes) (caller : Caller) (op : Op) (out : Out)
+    (reply : Reply) (c : Recorded) : Type 0 where
   pub role : c.role ≡ role.Call
   pub thread : c.thread ≡ caller.session
   pub began : c.began ≡ clock caller.session caller.call
@@ -112,7 +116,8 @@ pub record IsCallOf (clock : ℕ → ℕ → ℕ) (read_through : Bool) (entry :
 abbrev pub removal_out : Out → Out
 removal_out out = record { load = out.load; write = out.write; process = process.Ended effect.Remove None }
 
-pub record IsRemovalOf (clock : ℕ → ℕ → ℕ) (read_through : Bool) (entry : Option Bytes) (caller : Caller) (op : Op) (out : Out) (c : Recorded) : Type 0 where
+pub record IsRemovalOf (clock : ℕ → ℕ → ℕ) (read_through : Bool) (entry : Option Bytes) (caller : Caller) (op : Op) (out : Out)
+    (c : Recorded) : Type 0 where
   pub removes : op ≡ Remove
   pub call : IsCallOf clock read_through entry caller Invoke (removal_out out) (reply_after Invoke None (removal_out out)) c
 
@@ -140,3 +145,17 @@ pub record IsRecordOf (config : Config) (key : Bytes) (entry : Option Bytes) (ev
   pub own : (p : ℕ) → IsStepAt key (slice_get events p) → place (call p) ≡ p
   pub steps : (i : ℕ) (c : Recorded) → slice_get calls i ≡ Some c → must_be_placed c ≡ true → IsStepAt key (slice_get events (place i))
   pub inside : (i : ℕ) (c : Recorded) → slice_get calls i ≡ Some c → must_be_placed c ≡ true → call (place i) ≡ i
+
+-- 5. After a failed load.
+
+abbrev pub keeps_entry : ProcessAnswer → Bool
+keeps_entry process.NotAsked = true
+keeps_entry (process.Failed code) = true
+keeps_entry (process.Ended effect.Keep outcome) = true
+keeps_entry (process.Ended (effect.Set value) outcome) = false
+keeps_entry (process.Ended effect.Remove outcome) = false
+
+-- a history is also legal if that isn't so; no run of a processor is like that
+abbrev pub heeds_failed_load : Event → Bool
+heeds_failed_load (Step caller op key out shared reply) = is_none (failed_in out.load) || keeps_entry out.process
+heeds_failed_load (Evict key cause) = true
