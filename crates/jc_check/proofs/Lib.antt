@@ -15,3 +15,4 @@ pub mod RecordedSteps
 pub mod RecordedWalks
 pub mod RecordedTurns
 pub mod RecordedCalls
+pub mod RecordedWholes
