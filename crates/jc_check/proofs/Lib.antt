@@ -10,3 +10,9 @@ pub mod Settling
 pub mod Orders
 pub mod Known
 pub mod Covering
+pub mod Runs
+pub mod RecordedSteps
+pub mod RecordedWalks
+pub mod RecordedTurns
+pub mod RecordedCalls
+pub mod RecordedWholes

@@ -2,6 +2,7 @@ pub mod Spot
 pub mod Explains
 pub mod Nodes
 pub mod Orders
+pub mod Recording
 pub mod Laws
 pub mod States
 pub mod Exploring
