@@ -80,7 +80,7 @@ class Instance:
 
         self.store.load_many = late
         self.store.load = lambda key: late([key]).get(key)
-        self.cache, self.fleet = self.test.make(self.store, on_told=self.hear, on_state=self.turn)
+        self.cache, self.fleet = self.test.make(self.store, patience=1.5, on_told=self.hear, on_state=self.turn)
         if told is not None:
             self.cache = self.fleet._cache = Other(self.cache, told)
 

@@ -36,12 +36,13 @@ class WithEngine:
         cls.addClassCleanup(cls.running.end)
 
     def make(self, store=None, announcements=None, **words):
-        store = store or self.store()
+        """Its patience is endless, unless said: whatever else the machine does, no connection is lost by the way."""
+        store, words = store or self.store(), {'patience': 60, **words}
         cache = cadwrelch.Cache(loader=store, writer=store, stripes=1)
         self.source = announcements or self.told(store)
         made = fleet.Fleet(cache, self.source, **words)
         self.addCleanup(made.close)
-        self.assertEqual((made.state, made.error), ('live', None))
+        self.assertTrue(made.wait_until_live(60), made.error)
         return cache, made
 
     def proxy(self):

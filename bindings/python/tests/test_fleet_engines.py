@@ -37,12 +37,12 @@ LONG = float(os.environ.get('FLEET_SECONDS', 0))
 class OfAll:
     """What holds for each engine."""
 
-    def page(self, word, *replaced):
-        """What the examples of the page print that have this word, one after the other."""
+    def page(self, pattern, *replaced):
+        """What the examples of the page print that have such lines, one after the other."""
         if not os.path.isfile(PAGE):
             self.skipTest('there is no docs/FLEET.md')
         with open(PAGE, encoding='utf-8') as file:
-            blocks = [block for block in re.findall(r'```python\n(.*?)```', file.read(), re.DOTALL) if word in block]
+            blocks = [block for block in re.findall(r'```python\n(.*?)```', file.read(), re.DOTALL) if re.search(pattern, block, re.DOTALL)]
         names, printed = {}, io.StringIO()
         for block in blocks:
             for old, new in replaced:
@@ -168,17 +168,18 @@ class OfTables(OfAll):
             cache['n'] = postgres.Row('2', postgres.Row.NEW)
         self.assertEqual(cache['n'].value, '1')
 
-    def refused(self, told, dsn=None, **words):
+    def refused(self, told, dsn=None, patience=30, **words):
         store = postgres.PostgresStore(dsn or self.running.dsn, words.pop('table', 'pages'), **words)
         cache = cadwrelch.Cache(loader=store)
         with self.assertRaisesRegex(fleet.FleetError, told):
-            fleet.Fleet(cache, self.told(store), patience=0.5)
+            fleet.Fleet(cache, self.told(store), patience=patience)
         self.assertTrue(cache.suspended)
         return store
 
     def guest(self):
         """A user who may do nothing."""
         self.sql('drop role if exists guest; create role guest login')
+        self.addCleanup(self.sql, 'drop owned by guest; drop role guest')
         return self.running.dsn.replace('user=fleet', 'user=guest')
 
     def test_the_table_that_has_to_be_there(self):
@@ -200,8 +201,7 @@ class OfTables(OfAll):
         self.assertEqual([key for keys in heard for key in keys], [fleet.ALL, 2])
 
     def test_keys_of_another_type_and_names_that_are_quoted(self):
-        self.sql('drop table if exists "odd ""%% table"; create table "odd ""%% table" (note text, "the ''key" int primary key, value text)'.replace(
-            "''", "'").replace('%%', '%'))
+        self.sql("""drop table if exists "odd ""% table"; create table "odd ""% table" (note text, "the 'key" int primary key, value text)""")
         store = postgres.PostgresStore(self.running.dsn, 'odd "% table', key="the 'key", parse=int)
         self.install(store)
         heard = []
@@ -221,7 +221,7 @@ class Postgres(OfTables, fleets.Postgres, unittest.TestCase):
 
     def test_the_page(self):
         self.write(visits='41')
-        printed = self.page('PostgresStore', ("'dbname=shop'", repr(self.running.dsn)))
+        printed = self.page(r'PostgresStore\((?!.*decoded)', ("'dbname=shop'", repr(self.running.dsn)))
         self.assertEqual((sorted(printed), self.stored('home'), self.stored('visits')), (["['home']", 'text'], 'text', '42'))
 
     def test_statements_of_many_rows(self):
@@ -268,12 +268,13 @@ class Postgres(OfTables, fleets.Postgres, unittest.TestCase):
         connect = psycopg2.connect
         with mock.patch.object(postgres.psycopg2, 'connect', lambda dsn, **words: connect(dsn, **words) if 'async_' in words else
                                connect(dsn.replace('dbname=postgres', 'dbname=template1'), **words)):
-            self.refused('what is announced doesn\'t come .* it goes through a pooler of transactions')
+            self.refused('what is announced doesn\'t come .* it goes through a pooler of transactions', patience=0.5)
 
 
 class Decoding(OfTables, fleets.Decoding, unittest.TestCase):
     def test_the_page(self):
-        self.page('store.decoded()', ("'dbname=shop'", repr(self.running.dsn)))
+        printed = self.page('decoded', ("'dbname=shop'", repr(self.running.dsn)))
+        self.assertIn('text', printed)
         self.assertEqual(self.stored('home'), 'text')
 
     def test_statements_of_many_rows(self):
@@ -414,10 +415,10 @@ class Decoding(OfTables, fleets.Decoding, unittest.TestCase):
             self.assertRaisesRegex(fleet.FleetError, 'the table pages has no replica identity', store.publish)
             self.sql(change)
         self.sql('alter table pages replica identity full')
-        store = self.refused('the user may not replicate', self.guest())
+        store = self.refused('the user may not read the table pages', self.guest())
         self.assertRaisesRegex(fleet.FleetError, 'the user has to own the table', store.publish)
-        self.sql('alter role guest replication')
-        self.refused('the user may not read the table pages', self.running.dsn.replace('user=fleet', 'user=guest'))
+        self.sql('grant select on pages to guest')
+        self.refused('the user may not replicate: alter role .. replication', self.running.dsn.replace('user=fleet', 'user=guest'))
 
     def test_a_server_that_is_not_set_up(self):
         other = self.engine('wal_level=replica')
@@ -458,7 +459,7 @@ class Redis(OfAll, fleets.Redis, unittest.TestCase):
     # A busy key that is skipped is told once more by a later write, and several writes are told as one: b can't be counted here.
 
     def test_the_page(self):
-        printed = self.page('RedisStore(redis.Redis()', ('redis.Redis()', f'redis.Redis(unix_socket_path={self.running.socket!r})'))
+        printed = self.page(r'RedisStore\(redis', ('redis.Redis()', f'redis.Redis(unix_socket_path={self.running.socket!r})'))
         self.assertIn('text', printed)
         self.assertEqual(self.client.get('pages:home'), b'text')
 

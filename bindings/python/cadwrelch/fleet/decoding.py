@@ -21,7 +21,7 @@ import psycopg2
 import psycopg2.extras
 
 from . import ALL, FleetError, Lost
-from .postgres import _BECAUSE, KEYS_MAX, TableAnnouncements
+from .postgres import _BECAUSE, KEYS_MAX, TableAnnouncements, _literal, _quoted
 
 __all__ = ['DecodedAnnouncements', 'publish']
 _AT_ONCE_MAX = 10_000
@@ -34,13 +34,8 @@ _PROBE = _SNAPSHOT + " from pg_logical_emit_message(true, 'cadwrelch', %s)"
 _IDENTITY = """select relkind = 'r' and relpersistence = 'p', relreplident = 'f' or exists (select from pg_index join pg_attribute
                on attrelid = indrelid and attnum = any(indkey) where indexrelid = pg_get_replica_identity_index(pg_class.oid) and attname = %s)
                from pg_class where oid = to_regclass(%s)"""
-_SERVER = """select current_setting('wal_level'), (select rolreplication or rolsuper from pg_roles where rolname = current_user),
-             (select bool_and(pubinsert and pubupdate and pubdelete and pubtruncate) from pg_publication join pg_publication_rel
-              on prpubid = pg_publication.oid where pubname = %s and prrelid = to_regclass(%s))"""
-
-
-def _publication(store):
-    return '"' + store.channel.replace('"', '""') + '"'
+_PUBLISHED = """select bool_and(pubinsert and pubupdate and pubdelete and pubtruncate) from pg_publication join pg_publication_rel
+                on prpubid = pg_publication.oid where pubname = %s and prrelid = to_regclass(%s)"""
 
 
 def _check_identity(store, answer):
@@ -54,7 +49,7 @@ def _check_identity(store, answer):
 
 def publish(store):
     """Makes the publication of a store's table, or makes it anew. Without an identity writers would be refused by it."""
-    name, table = _publication(store), store.quoted
+    name, table = _quoted(store.channel), store.quoted
     connection = psycopg2.connect(store.dsn)
     try:
         with connection, connection.cursor() as cursor:
@@ -62,7 +57,8 @@ def publish(store):
             _check_identity(store, cursor.fetchone())
             cursor.execute(f'drop publication if exists {name}; create publication {name} for table {table}')
     except psycopg2.Error as error:
-        raise FleetError(f"the publication of the table {store.table} can't be made{_BECAUSE.get(error.pgcode, '')}") from error
+        because = ': the user has to own the table, and may create in the database' if error.pgcode == '42501' else _BECAUSE.get(error.pgcode, '')
+        raise FleetError(f"the publication of the table {store.table} can't be made{because}") from error
     finally:
         connection.close()
 
@@ -92,13 +88,11 @@ class DecodedAnnouncements(TableAnnouncements):
 
     def _check_way(self):
         store = self._store
-        level, may_replicate, is_published = self._ask(_SERVER, store.channel, store.quoted)
+        level, = self._ask('show wal_level')
         if level != 'logical':
             raise FleetError(f'wal_level is {level}, and has to be logical: alter system set wal_level = logical, then restart the server')
-        if not may_replicate:
-            raise FleetError('the user may not replicate: alter role .. replication')
         _check_identity(store, self._ask(_IDENTITY, store.key, store.quoted))
-        if not is_published:
+        if not self._ask(_PUBLISHED, store.channel, store.quoted)[0]:
             raise FleetError(f"the table {store.table} isn't published, or not with all its changes: publish() does that, called once by who "
                              'owns the table')
 
@@ -120,6 +114,8 @@ class DecodedAnnouncements(TableAnnouncements):
         except psycopg2.OperationalError as error:
             if 'max_wal_senders' in str(error):
                 raise FleetError('no sender of the log is free: max_wal_senders has to be more, one for each instance') from error
+            if not self._ask('select rolreplication or rolsuper from pg_roles where rolname = current_user')[0]:
+                raise FleetError(f'the user may not replicate: alter role .. replication ({error})') from error
             raise
 
     def _make_slot(self, patience):
@@ -132,9 +128,8 @@ class DecodedAnnouncements(TableAnnouncements):
             raise Lost("a transaction that has written, in any database of the server, hasn't ended yet: until then there is no slot") from error
         except psycopg2.errors.ConfigurationLimitExceeded as error:
             raise FleetError('no slot is free: max_replication_slots has to be more, one for each instance') from error
-        names = _publication(self._store).replace("'", "''")
         self._stream.start_replication_expert(f"START_REPLICATION SLOT {self._name} LOGICAL 0/0 (proto_version '1', messages 'true', "
-                                              f"publication_names '{names}')", decode=False)
+                                              f'publication_names {_literal(_quoted(self._store.channel))})', decode=False)
         self._await_answer(self._log)
 
     def _tell(self, command):
@@ -186,7 +181,7 @@ class DecodedAnnouncements(TableAnnouncements):
         at = data.index(b'\0', data.index(b'\0', 5) + 1) + 4
         names = []
         while at < len(data):
-            end = data.index(b'\0', at)
+            end = data.index(b'\0', at + 1)
             names.append(data[at + 1:end].decode())
             at = end + 9
         if self._store.key not in names:

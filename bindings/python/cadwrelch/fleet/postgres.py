@@ -30,11 +30,11 @@ _BECAUSE = {'42501': ': the user has to own the table, and may create functions 
 
 
 def _quoted(name):
-    return '"' + name.replace('"', '""').replace('%', '%%') + '"'
+    return '"' + name.replace('"', '""') + '"'
 
 
 def _literal(text):
-    return "'" + text.replace("'", "''").replace('%', '%%') + "'"
+    return "'" + text.replace("'", "''") + "'"
 
 
 class Row:
@@ -76,26 +76,27 @@ class PostgresStore:
             raise ValueError(f"table is {table!r}: its name is too long to be one of a channel")
         self.origin = secrets.token_hex(4)
         """By this announcements say whose change it was. It is another one after a write whose end isn't known."""
-        self.quoted = '.'.join(map(_quoted, table.split('.'))).replace('%%', '%')
-        """The table's name for to_regclass."""
+        self.quoted = '.'.join(map(_quoted, table.split('.')))
+        """The table's name in a statement."""
         self._rows = rows
         self._local = threading.local()
         self._invalidate = lambda key: None
-        self._words = {'table': '.'.join(map(_quoted, table.split('.'))), 'key': _quoted(key), 'value': _quoted(value),
+        self._words = {'table': self.quoted, 'key': _quoted(key), 'value': _quoted(value),
                        'function': _quoted(f'cadwrelch_announce_{table.replace(".", "_")}'), 'channel': _literal(self.channel), 'limit': KEYS_MAX,
-                       'version': 'xmin::text::bigint',
-                       'own': f"set_config('cadwrelch.own', %(origin)s || ' ' || {_quoted(key)}::text, true), xmin::text::bigint"}
+                       'version': 'xmin::text::bigint'}
         upsert = 'insert into {table} ({key}, {value}) values (%(key)s, %(value)s) on conflict ({key}) do '
-        self._load = self._statement('select {key}, {value}, {version} from {table} where {key} = any(%s)')
-        self._write_any = self._statement(upsert + 'update set {value} = excluded.{value} returning {own}')
-        self._write_new = self._statement(upsert + 'nothing returning {own}')
-        self._write_same = self._statement('update {table} set {value} = %(value)s where {key} = %(key)s and {version} = %(version)s '
-                                           'returning {own}')
-        self._delete = self._statement('delete from {table} where {key} = any(%(keys)s) returning {own}')
+        own = " returning set_config('cadwrelch.own', %(origin)s || ' ' || {key}::text, true), {version}"
+        same = 'update {table} set {value} = %(value)s where {key} = %(key)s and {version} = %(version)s'
+        self._load = self.statement('select {key}, {value}, {version} from {table} where {key} = any(%s)', '%%')
+        self._write_any = self.statement(upsert + 'update set {value} = excluded.{value}' + own, '%%')
+        self._write_new = self.statement(upsert + 'nothing' + own, '%%')
+        self._write_same = self.statement(same + own, '%%')
+        self._delete = self.statement('delete from {table} where {key} = any(%(keys)s)' + own, '%%')
 
-    def _statement(self, text):
+    def statement(self, text, percent='%'):
+        """A statement, with what this table has for the words in braces. In one with arguments a % of a name is doubled."""
         for name, word in self._words.items():
-            text = text.replace('{' + name + '}', str(word))
+            text = text.replace('{' + name + '}', str(word).replace('%', percent))
         return text
 
     def install(self):
@@ -104,7 +105,7 @@ class PostgresStore:
         connection = psycopg2.connect(self.dsn)
         try:
             with connection, connection.cursor() as cursor:
-                cursor.execute(self._statement(text).replace('%%', '%'))
+                cursor.execute(self.statement(text))
         except psycopg2.Error as error:
             raise FleetError(f"the triggers of the table {self.table} can't be made{_BECAUSE.get(error.pgcode, '')}") from error
         finally:
@@ -286,7 +287,7 @@ class TableAnnouncements(Announcements):
         """Whether a key that is there can be read."""
         store = self._store
         try:
-            sample = self._ask(store._statement('select max({key}::text) from (select * from {table} limit 1) as one').replace('%%', '%'))[0]
+            sample = self._ask(store.statement('select max({key}::text) from (select * from {table} limit 1) as one'))[0]
         except psycopg2.Error as error:
             if error.pgcode == '42501':
                 raise FleetError(f'the user may not read the table {store.table}: grant select on it to that user') from error
