@@ -68,22 +68,18 @@ class Postgres(Engine):
         self.socket = os.path.join(self.folder, '.s.PGSQL.5432')
         self.dsn = f'host={self.folder} user=fleet dbname=postgres'
         _run([os.path.join(self.programs(), 'initdb'), '-D', self.data, '-A', 'trust', '-U', 'fleet', '-E', 'UTF8', '--locale=C', '-N'])
-        self._begin(settings)
+        self.begin(*settings)
 
-    def _begin(self, settings):
+    def begin(self, *settings):
         chosen = ["listen_addresses=''", 'fsync=off', 'shared_buffers=16MB', 'max_prepared_transactions=2', *(settings or ['wal_level=logical'])]
         self._control('-l', os.path.join(self.folder, 'log'), '-o', ' '.join([f'-k {self.folder}', *(f'-c {each}' for each in chosen)]), 'start')
 
     def _control(self, *words):
         _run([os.path.join(self.programs(), 'pg_ctl'), '-D', self.data, '-w', *words])
 
-    def stop(self):
-        self._control('-m', 'immediate', 'stop')
-
-    def restart(self, *settings):
-        """As after a crash."""
-        self.stop()
-        self._begin(settings)
+    def stop(self, way='immediate'):
+        """As by a crash, unless said."""
+        self._control('-m', way, 'stop')
 
 
 class Redis(Engine):
@@ -99,6 +95,9 @@ class Redis(Engine):
 
     def start(self):
         self.socket = os.path.join(self.folder, 'redis')
+        self.begin()
+
+    def begin(self):
         self.process = subprocess.Popen(_as_nobody(['redis-server', '--unixsocket', self.socket, '--unixsocketperm', '777', '--port', '0', '--save', '',
                                                     '--dir', self.folder]), stdout=subprocess.DEVNULL, env=_environment())
         until(self._is_up)
@@ -114,7 +113,7 @@ class Redis(Engine):
         import redis
         return redis.Redis(unix_socket_path=self.socket, **words)
 
-    def stop(self):
+    def stop(self, way='immediate'):
         import redis
         try:
             self.client().shutdown(nosave=True)

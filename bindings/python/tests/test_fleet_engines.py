@@ -428,7 +428,8 @@ class Decoding(OfTables, fleets.Decoding, unittest.TestCase):
         self.connection.autocommit = True
         self.sql('create table pages (key text primary key, value text)')
         self.refused('wal_level is replica, and has to be logical', other.dsn)
-        other.restart('wal_level=logical', 'max_replication_slots=1', 'max_wal_senders=2')
+        other.stop()
+        other.begin('wal_level=logical', 'max_replication_slots=1', 'max_wal_senders=2')
         self.connection = psycopg2.connect(other.dsn)
         self.connection.autocommit = True
         store = postgres.PostgresStore(other.dsn, 'pages')
@@ -436,7 +437,8 @@ class Decoding(OfTables, fleets.Decoding, unittest.TestCase):
         with fleet.Fleet(cadwrelch.Cache(loader=store), store.decoded()) as made:
             self.assertTrue(made.is_live)
             self.refused('no slot is free: max_replication_slots has to be more', other.dsn)
-        other.restart('wal_level=logical', 'max_replication_slots=2', 'max_wal_senders=1')
+        other.stop()
+        other.begin('wal_level=logical', 'max_replication_slots=2', 'max_wal_senders=1')
         with fleet.Fleet(cadwrelch.Cache(loader=store), store.decoded()) as made:
             self.assertTrue(made.is_live)
             self.refused('no sender of the log is free: max_wal_senders has to be more', other.dsn)

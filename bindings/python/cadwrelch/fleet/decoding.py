@@ -129,7 +129,7 @@ class DecodedAnnouncements(TableAnnouncements):
         except psycopg2.errors.ConfigurationLimitExceeded as error:
             raise FleetError('no slot is free: max_replication_slots has to be more, one for each instance') from error
         self._stream.start_replication_expert(f"START_REPLICATION SLOT {self._name} LOGICAL 0/0 (proto_version '1', messages 'true', "
-                                              f'publication_names {_literal(_quoted(self._store.channel))})', decode=False)
+                                              f'publication_names {_literal(_quoted(self._store.channel))})', status_interval=1)
         self._await_answer(self._log)
 
     def _tell(self, command):
