@@ -12,6 +12,7 @@ import logging
 import os
 import re
 import threading
+import time
 import unittest
 from unittest import mock
 
@@ -141,6 +142,7 @@ class OfTables(OfAll):
 
     def heard(self, made, heard, sql):
         """What is told of a statement."""
+        self.assertTrue(made.catch_up(60))
         heard.clear()
         self.sql(sql)
         self.assertTrue(made.catch_up(60))
@@ -188,6 +190,16 @@ class OfTables(OfAll):
         self.refused('the table pages has no column id, but key, value', key='id')
         self.write(a='1')
         self.refused("the key 'a' of the table pages can't be read", parse=int)
+        for kind, sample, told in (('int', '1', "1 of the table others is announced as '1': .* as parse=int"), ('char(3)', "'x'", "'x  ' .* as 'x'")):
+            self.sql(f'drop table if exists others; create table others (key {kind} primary key, value text)')
+            for change in ('', f'insert into others values ({sample}, null)'):
+                self.sql(change) if change else None
+                store = postgres.PostgresStore(self.running.dsn, 'others')
+                self.install(store)
+                self.refused('the key ' + (told if change or kind == 'int' else told.replace('x', '1')), table='others')
+        self.sql('drop table others; create table others (key uuid primary key, value text)')
+        self.install(postgres.PostgresStore(self.running.dsn, 'others'))
+        self.make(postgres.PostgresStore(self.running.dsn, 'others'))
         self.assertRaisesRegex(ValueError, 'its name is too long', postgres.PostgresStore, '', 'x' * 60)
 
     def test_a_key_that_can_not_be_read_is_all(self):
@@ -395,6 +407,11 @@ class Decoding(OfTables, fleets.Decoding, unittest.TestCase):
 
         self.assertEqual(seen('10:20:10,15', 9, 10, 14, 15, 19, 20, 21), [True, False, True, False, True, False, False])
         self.assertEqual(seen('10:10:', 9, 10, 11), [True, False, False])
+        source = decoding.DecodedAnnouncements(self.store(), self.running.dsn)
+        snapshots = ['10:20:10,15', '15:30:15,25', '20:31:20,25', 'no more']
+        source._ask, source._end = lambda query: [snapshots.pop(0)], time.monotonic() + 60
+        source._await_ended()
+        self.assertEqual(snapshots, ['no more'])
         # The lower half begins anew.
         first = 3 << 32
         self.assertEqual(seen(f'{first - 5}:{first + 5}:{first - 5},{first + 1}', 2**32 - 6, 2**32 - 5, 2**32 - 4, 0, 1, 4, 5),

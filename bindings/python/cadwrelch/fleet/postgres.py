@@ -284,20 +284,32 @@ class TableAnnouncements(Announcements):
                              'the keys')
 
     def _check_key(self):
-        """Whether a key that is there can be read."""
+        """Whether a key that is there is announced as the one that it is read as: if it isn't, no entry would ever be forgotten."""
         store = self._store
         try:
-            sample = self._ask(store.statement('select max({key}::text) from (select * from {table} limit 1) as one'))[0]
+            sample = self._ask(store.statement('select {key}, {key}::text from {table} limit 1')) or self._sample()
         except psycopg2.Error as error:
             if error.pgcode == '42501':
                 raise FleetError(f'the user may not read the table {store.table}: grant select on it to that user') from error
             raise
-        if sample is not None:
-            try:
-                hash(store.parse(sample))
-            except Exception as error:
-                raise FleetError(f"the key {sample!r} of the table {store.table} can't be read: the column and parse, which makes keys of texts, "
-                                 'have to fit') from error
+        try:
+            key = sample and store.parse(sample[1])
+            hash(key)
+        except Exception as error:
+            raise FleetError(f"the key {sample[1]!r} of the table {store.table} can't be read: the column and parse, which makes keys of texts, "
+                             'have to fit') from error
+        if sample and key != sample[0]:
+            raise FleetError(f'the key {sample[0]!r} of the table {store.table} is announced as {key!r}: parse, which makes keys of texts, has to '
+                             'give what is read, as parse=int does for numbers')
+
+    def _sample(self):
+        """Of an empty table a key that might be there, or None."""
+        kind, = self._ask('select format_type(atttypid, atttypmod) from pg_attribute where attrelid = to_regclass(%s) and attname = %s',
+                          self._store.quoted, self._store.key)
+        try:
+            return self._ask(f"select key, key::text from (select '1'::{kind} as key) as one")
+        except psycopg2.DataError:
+            return None
 
     def _key(self, text):
         """A key by its text, or by the bytes of that; ALL, if they can't be read."""
