@@ -203,14 +203,17 @@ class OfTables(OfAll):
         self.assertRaisesRegex(ValueError, 'its name is too long', postgres.PostgresStore, '', 'x' * 60)
 
     def test_a_key_that_can_not_be_read_is_all(self):
-        self.write(**{'1': 'one'})
-        store = self.store(parse=int)
+        def parse(text):
+            if text == 'x':
+                raise ValueError
+            return text
+
         heard = []
         with self.assertLogs('cadwrelch.fleet'):
-            _, made = self.make(store, on_told=heard.append)
-            self.write(x='1', **{'2': 'two'})
+            _, made = self.make(self.store(parse=parse), on_told=heard.extend)
+            self.write(x='1', b='2')
             made.catch_up(60)
-        self.assertEqual([key for keys in heard for key in keys], [fleet.ALL, 2])
+        self.assertEqual(heard, [fleet.ALL, 'b'])
 
     def test_keys_of_another_type_and_names_that_are_quoted(self):
         self.sql("""drop table if exists "odd ""% table"; create table "odd ""% table" (note text, "the 'key" int primary key, value text)""")
