@@ -6,11 +6,17 @@ import sys
 import threading
 import time
 import unittest
+from unittest import mock
 
 import cadwrelch
 
-from . import fleets
+from . import engines, fleets
 from .engines import until
+
+if engines.Postgres.missing() is None:
+    import psycopg2
+
+    from cadwrelch.fleet import decoding
 
 BEAT, PATIENCE = 0.1, 0.4
 
@@ -195,6 +201,18 @@ class Decoding(OfTables, fleets.Decoding, unittest.TestCase):
         self.assertEqual((self.sql('select %s::pg_lsn < %s', before, after), made.stats()['lost']), ([(True,)], 0))
         made.close()
         until(lambda: self.slots() == [])
+
+    def test_an_instance_that_does_not_read(self):
+        """The server ends its slot, and keeps no log for it."""
+        source = self.store().decoded()
+        self.addCleanup(source.close)
+        with mock.patch.object(decoding, 'UNREAD_MILLIS', 500):
+            source.open(60)
+        self.assertEqual(len(self.slots()), 1)
+        until(lambda: self.slots() == [])
+        with self.assertRaises(psycopg2.Error):
+            while True:
+                source.wait(60)
 
     def slots(self):
         return self.sql("select slot_name, confirmed_flush_lsn from pg_replication_slots where slot_name like 'cadwrelch%'")

@@ -21,7 +21,7 @@ import psycopg2
 import psycopg2.extras
 
 from . import ALL, FleetError, Lost
-from .postgres import _BECAUSE, KEYS_MAX, TableAnnouncements, _literal, _quoted
+from .postgres import _BECAUSE, KEYS_MAX, UNREAD_MILLIS, TableAnnouncements, _literal, _quoted
 
 __all__ = ['DecodedAnnouncements', 'publish']
 _AT_ONCE_MAX = 10_000
@@ -123,6 +123,7 @@ class DecodedAnnouncements(TableAnnouncements):
         try:
             # The server waits for all who have written and aren't done, and doesn't see meanwhile that nobody listens any more.
             self._tell(f'set lock_timeout = {int(1000 * max(1.0, patience / 2))}')
+            self._tell(f'set wal_sender_timeout = {UNREAD_MILLIS}')
             self._tell(f'CREATE_REPLICATION_SLOT {self._name} TEMPORARY LOGICAL pgoutput NOEXPORT_SNAPSHOT')
         except psycopg2.errors.LockNotAvailable as error:
             raise Lost("a transaction that has written, in any database of the server, hasn't ended yet: until then there is no slot") from error

@@ -21,8 +21,8 @@ _LOG = logging.getLogger('cadwrelch.fleet')
 KEYS_MAX = 1000
 """A statement that changes more rows is announced as a change of all."""
 _CHANNEL_MAX = 63
-_UNREAD_MILLIS = 30_000
-"""If an instance doesn't read for so long, the server ends its connection, and keeps announcements no longer."""
+UNREAD_MILLIS = 30_000
+"""If an instance doesn't read for so long, the server ends its connection, and keeps for it neither announcements nor its log."""
 _BECAUSE = {'42501': ': the user has to own the table, and may create functions in its schema',
             '42P01': ": there is no such table; its schema goes before it, with a dot, unless it's on the search path",
             '3F000': ": there is no such schema",
@@ -348,7 +348,7 @@ class PostgresAnnouncements(TableAnnouncements):
 
     def _listen(self, patience):
         self._is_asked = self._is_told = False
-        self._ask(f'set tcp_user_timeout = {_UNREAD_MILLIS}')
+        self._ask(f'set tcp_user_timeout = {UNREAD_MILLIS}')
         self._ask(f'listen {_quoted(self._store.channel)}')
         self._ask(f'listen {_quoted(self._own_channel)}')
         self._check_is_told(patience)
