@@ -10,6 +10,9 @@ import threading
 import time
 
 HANGS = 60
+"""Seconds after which what is waited for doesn't come."""
+_STARTS = 300
+"""The same of what starts a server, also on a machine that does much else."""
 
 
 def _as_nobody(command):
@@ -24,18 +27,18 @@ def _environment():
 
 def _run(command):
     done = subprocess.run(_as_nobody(command), stdout=subprocess.PIPE, stderr=subprocess.STDOUT, universal_newlines=True, stdin=subprocess.DEVNULL,
-                          env=_environment(), timeout=HANGS)
+                          env=_environment(), timeout=_STARTS)
     assert done.returncode == 0, done.stdout
 
 
 class Engine:
     """A folder with a server."""
 
-    def __init__(self):
+    def __init__(self, *settings):
         self.folder = tempfile.mkdtemp(prefix='fleet')
         if os.getuid() == 0:
             shutil.chown(self.folder, 'postgres')
-        self.start()
+        self.start(*settings)
 
     def end(self):
         self.stop()
@@ -60,16 +63,23 @@ class Postgres(Engine):
         return next(iter(sorted(glob.glob('/usr/lib/postgresql/*/bin'), reverse=True)), None) or (
             os.path.dirname(shutil.which('initdb') or '') if shutil.which('pg_ctl') else None)
 
-    def start(self):
+    def start(self, *settings):
         self.data = os.path.join(self.folder, 'data')
-        _run([os.path.join(self.programs(), 'initdb'), '-D', self.data, '-A', 'trust', '-U', 'fleet', '-E', 'UTF8', '--locale=C', '-N'])
-        options = f"-k {self.folder} -c listen_addresses='' -c fsync=off -c shared_buffers=16MB -c max_prepared_transactions=2"
-        _run([os.path.join(self.programs(), 'pg_ctl'), '-D', self.data, '-l', os.path.join(self.folder, 'log'), '-w', '-o', options, 'start'])
         self.socket = os.path.join(self.folder, '.s.PGSQL.5432')
         self.dsn = f'host={self.folder} user=fleet dbname=postgres'
+        _run([os.path.join(self.programs(), 'initdb'), '-D', self.data, '-A', 'trust', '-U', 'fleet', '-E', 'UTF8', '--locale=C', '-N'])
+        self.begin(*settings)
 
-    def stop(self):
-        _run([os.path.join(self.programs(), 'pg_ctl'), '-D', self.data, '-m', 'immediate', '-w', 'stop'])
+    def begin(self, *settings):
+        chosen = ["listen_addresses=''", 'fsync=off', 'shared_buffers=16MB', 'max_prepared_transactions=2', *(settings or ['wal_level=logical'])]
+        self._control('-l', os.path.join(self.folder, 'log'), '-o', ' '.join([f'-k {self.folder}', *(f'-c {each}' for each in chosen)]), 'start')
+
+    def _control(self, *words):
+        _run([os.path.join(self.programs(), 'pg_ctl'), '-D', self.data, '-w', *words])
+
+    def stop(self, way='immediate'):
+        """As by a crash, unless said."""
+        self._control('-m', way, 'stop')
 
 
 class Redis(Engine):
@@ -85,6 +95,9 @@ class Redis(Engine):
 
     def start(self):
         self.socket = os.path.join(self.folder, 'redis')
+        self.begin()
+
+    def begin(self):
         self.process = subprocess.Popen(_as_nobody(['redis-server', '--unixsocket', self.socket, '--unixsocketperm', '777', '--port', '0', '--save', '',
                                                     '--dir', self.folder]), stdout=subprocess.DEVNULL, env=_environment())
         until(self._is_up)
@@ -100,7 +113,7 @@ class Redis(Engine):
         import redis
         return redis.Redis(unix_socket_path=self.socket, **words)
 
-    def stop(self):
+    def stop(self, way='immediate'):
         import redis
         try:
             self.client().shutdown(nosave=True)

@@ -32,7 +32,7 @@ class Told(fleet.Announcements):
 
     def wait(self, seconds):
         if not self.keys:
-            self._is_ready(self._woken, seconds)
+            self._is_ready(seconds)
         if self.is_cut:
             raise ConnectionError('cut')
         with self.lock:

@@ -1,9 +1,15 @@
-"""Fleets before a PostgreSQL and a Redis, which the tests start. Without an engine, or its driver, its tests are left out, with a line."""
+"""Fleets before a PostgreSQL and a Redis, which the tests start. Without an engine, or its driver, its tests are left out, with a line.
+
+    FLEET_SECONDS=3600 python3 -m unittest tests.test_fleet_engines.Decoding.test_the_rules_hold
+
+has the checker (fleet_checker) work for so long, in place of Decoding also before Postgres or Redis, on a part of a processor, and prints
+what it counted. All listening connections are ended every 20 seconds meanwhile.
+"""
 import contextlib
 import importlib.resources
 import io
+import logging
 import os
-import random
 import re
 import threading
 import time
@@ -13,58 +19,31 @@ from unittest import mock
 import cadwrelch
 from cadwrelch import fleet
 
-from . import engines
+from . import engines, fleets
 from .engines import until
+from .fleet_checker import A, B, Checker
+from .fleets import SOURCES
 
 if engines.Postgres.missing() is None:
     import psycopg2
 
-    from cadwrelch.fleet import postgres
+    from cadwrelch.fleet import decoding, postgres
 if engines.Redis.missing() is None:
-    import redis as driver
-
     from cadwrelch.fleet import redis
 
-
-SOURCES = os.environ.get('CADWRELCH_SOURCES', os.path.join(os.path.dirname(os.path.abspath(__file__)), '..'))
 PAGE = os.path.join(SOURCES, '..', '..', 'docs', 'FLEET.md')
+LONG = float(os.environ.get('FLEET_SECONDS', 0))
 
 
-class WithEngine:
-    """Each test has a store; make() makes an instance of the service: a cache and its fleet."""
+class OfAll:
+    """What holds for each engine."""
 
-    @classmethod
-    def setUpClass(cls):
-        missing = cls.engine.missing()
-        if missing is not None:
-            print(f'left out: {cls.__name__} ({missing})')
-            raise unittest.SkipTest(missing)
-        cls.running = cls.engine()
-        cls.addClassCleanup(cls.running.end)
-
-    def make(self, store=None, announcements=None, **words):
-        store = store or self.store()
-        cache = cadwrelch.Cache(loader=store, writer=store, stripes=1)
-        made = fleet.Fleet(cache, announcements or store.announcements(), **words)
-        self.addCleanup(made.close)
-        return cache, made
-
-    def proxy(self):
-        proxy = engines.Proxy(self.running.socket, self.running.socket.rpartition('/')[2])
-        self.addCleanup(proxy.end)
-        return proxy
-
-    def sees(self, cache, **wanted):
-        """What somebody else has written is told before long."""
-        until(lambda: not any(cache.hit(key) not in (None, value) for key, value in wanted.items()))
-        self.assertEqual({key: cache.get(key) for key in wanted}, wanted)
-
-    def page(self, word, *replaced):
-        """What the examples of the page print that have this word, one after the other."""
+    def page(self, pattern, *replaced):
+        """What the examples of the page print that have such lines, one after the other."""
         if not os.path.isfile(PAGE):
             self.skipTest('there is no docs/FLEET.md')
         with open(PAGE, encoding='utf-8') as file:
-            blocks = [block for block in re.findall(r'```python\n(.*?)```', file.read(), re.DOTALL) if word in block]
+            blocks = [block for block in re.findall(r'```python\n(.*?)```', file.read(), re.DOTALL) if re.search(pattern, block, re.DOTALL)]
         names, printed = {}, io.StringIO()
         for block in blocks:
             for old, new in replaced:
@@ -73,8 +52,6 @@ class WithEngine:
                 exec(block, names)
         self.assertTrue(blocks)
         return printed.getvalue().splitlines()
-
-    # What holds for both.
 
     def test_what_others_write_is_seen(self):
         (one, _), (two, _) = self.make(), self.make()
@@ -100,7 +77,7 @@ class WithEngine:
         cache.get('a')
         self.write(a='2')
         self.assertEqual(cache.get('a'), '1')
-        with fleet.Fleet(cache, store.announcements()) as made:
+        with fleet.Fleet(cache, self.told(store)) as made:
             self.assertEqual((made.state, cache.get('a')), ('live', '2'))
 
     def test_catch_up(self):
@@ -109,61 +86,6 @@ class WithEngine:
             self.write(a=str(number))
             self.assertTrue(made.catch_up(60))
             self.assertEqual(cache.get('a'), str(number))
-
-    def test_a_silent_connection(self):
-        proxy, store = self.proxy(), self.store()
-        cache, made = self.make(store, store.announcements(self.listener(proxy)), beat=0.1, patience=0.4)
-        self.write(a='1')
-        self.sees(cache, a='1')
-        with self.assertLogs('cadwrelch.fleet'):
-            proxy.flow.clear()
-            self.write(a='2')
-            wrote = time.monotonic()
-            until(lambda: cache.get('a') == '2')
-            self.assertLess(time.monotonic() - wrote, 30)
-            until(lambda: made.state == 'suspended')
-        self.assertEqual((cache.get('a'), len(cache)), ('2', 0))
-        proxy.cut()
-        self.assertTrue(made.wait_until_live(60))
-        self.write(a='3')
-        self.sees(cache, a='3')
-
-    def test_a_connection_that_ends(self):
-        states = []
-        cache, made = self.make(on_state=states.append)
-        self.write(a='1')
-        cache.get('a')
-        with self.assertLogs('cadwrelch.fleet'):
-            self.end_listeners()
-            until(lambda: states[-2:] == ['suspended', 'live'])
-        self.write(a='2')
-        self.sees(cache, a='2')
-        self.assertEqual(made.stats()['lost'], 1)
-
-    def test_a_write_whose_reply_is_lost(self):
-        """It fails, and the store has it: the old value isn't answered."""
-        proxy = self.proxy()
-        self.write(a='1')
-        store = self.store(proxy)
-        cache, _ = self.make(store, **self.skipping(store))
-        self.assertEqual(cache.get('a'), '1')
-        is_connected, may_put = threading.Event(), threading.Event()
-
-        def work():
-            store.load('b')
-            is_connected.set()
-            may_put.wait(60)
-            self.assertRaises(cadwrelch.WriterError, cache.put, 'a', '2')
-
-        put = threading.Thread(target=work)
-        put.start()
-        is_connected.wait(60)
-        proxy.flow.clear()
-        may_put.set()
-        until(lambda: self.stored('a') == '2')
-        proxy.cut()
-        put.join(60)
-        self.assertEqual(cache.get('a'), '2')
 
     def test_no_increment_is_lost(self):
         self.write(a='0')
@@ -185,228 +107,53 @@ class WithEngine:
             thread.join(60)
         self.assertEqual(self.stored('a'), '250')
 
-    def checked(self, seconds=3, keys='abcd', **words):
-        """A fleet under work, judged: a key's value is how often it was changed. What rules were broken."""
-        self.write(**dict.fromkeys(keys, '0'))
-        instances = [Instance(self, number, keys, **words) for number in range(3)]
-        end = time.monotonic() + seconds
-        threads = [threading.Thread(target=it.work, args=(end, seed)) for it in instances for seed in range(2)]
-        for thread in threads:
-            thread.start()
-        rng = random.Random(7)
-        while time.monotonic() < end:
-            self.increment(rng.choice(keys))
-            time.sleep(rng.random() * 0.004)
-        for thread in threads:
-            thread.join(60)
-        for it in instances:
-            it.rest()
-        broken = set().union(*(it.broken for it in instances))
-        return broken, sum(it.gets for it in instances)
-
     def test_the_rules_hold(self):
+        if LONG:
+            logging.disable()
+            self.addCleanup(logging.disable, logging.NOTSET)
+            broken, counts = Checker(self, pause=0.025, cuts=20).run(LONG)
+            print(f'{type(self).__name__}, {LONG:.0f} s: {counts}, broken: {broken}', flush=True)
+            self.assertEqual(broken, {})
+            return
         gets = 0
         for seconds in (3, 6, 12):
-            broken, more = self.checked(seconds)
-            gets += more
-            self.assertEqual((broken, gets), (set(), gets))
+            with self.assertLogs('cadwrelch.fleet'):
+                broken, counts = Checker(self, cuts=1).run(seconds)
+            self.assertEqual(broken, {})
+            gets += counts['gets']
             if gets > 100:
                 break
 
-    def breaks(self, rule, **words):
+    def breaks(self, rule, told):
         """The judge sees what it is there for, however slow the machine is."""
-        seen = set()
+        seen = {}
         for seconds in (1, 3, 9, 27):
-            seen |= self.checked(seconds, **words)[0]
+            seen.update(Checker(self, told=told).run(seconds)[0])
             if rule in seen:
                 return
         self.fail(f'not seen to be broken: {rule}, but {seen}')
 
     def test_the_rules_are_broken_without_announcements(self):
-        self.breaks("a: what is cached at rest is the store's", told=lambda cache, key: None)
+        self.breaks(A, lambda cache, key: None)
+
+
+class OfTables(OfAll):
+    """What holds for both ways of PostgreSQL."""
+
+    def heard(self, made, heard, sql):
+        """What is told of a statement."""
+        self.assertTrue(made.catch_up(60))
+        heard.clear()
+        self.sql(sql)
+        self.assertTrue(made.catch_up(60))
+        return sorted((key for keys in heard for key in keys), key=str)
 
     def test_the_rules_are_broken_if_busy_keys_are_skipped(self):
         def drop(cache, key):
             call = cache._begin(cadwrelch._core.CLEAR_KEY, key)
             assert not isinstance(call, cadwrelch._core.Call)
 
-        self.breaks('b: what was told is answered no older', told=drop)
-
-
-class Instance:
-    """An instance of a service whose loader is slow, and its log."""
-
-    def __init__(self, test, number, keys, told=None):
-        self.keys, self.gets, self.broken = keys, 0, set()
-        self.lock, self.told, self.seen = threading.Lock(), dict.fromkeys(keys, 0), dict.fromkeys(keys, 0)
-        self.counts_told = test.counts_told
-        store, rng = test.comparing(), random.Random(number)
-        load_many = store.load_many
-
-        def late(keys):
-            found = load_many(keys)
-            if rng.random() < 0.3:
-                time.sleep(0.03)
-            return found
-
-        store.load_many = late
-        store.load = lambda key: late([key]).get(key)
-        self.cache, self.fleet = test.make(store, on_told=self.hear)
-        if told is not None:
-            self.cache = self.fleet._cache = Other(self.cache, told)
-
-    def hear(self, keys):
-        """The i-th announcement of a key is of its i-th change."""
-        for key in keys:
-            if key in self.told:
-                self.told[key] += 1
-
-    def get(self, key):
-        """A get, judged by what was told, and seen, before it began."""
-        told, seen = self.told[key] if self.counts_told else 0, self.seen[key]
-        found = int(self.cache.get(key).value)
-        self.gets += 1
-        with self.lock:
-            self.seen[key] = max(self.seen[key], found)
-        if found < told - self.base.get(key, 0):
-            self.broken.add('b: what was told is answered no older')
-        if found < seen:
-            self.broken.add('c: no answer is older than one before')
-
-    base = {}
-
-    def work(self, end, seed):
-        rng = random.Random(seed)
-
-        def add(entry):
-            entry.value = entry.value.but(str(int(entry.value.value) + 1))
-
-        while time.monotonic() < end:
-            key = rng.choice(self.keys)
-            if rng.random() < 0.85:
-                self.get(key)
-            else:
-                fleet.invoke(self.cache, key, add)
-
-    def rest(self):
-        """When nobody writes any more."""
-        self.fleet.catch_up(60)
-        for key in self.cache.keys():
-            cached = self.cache.hit(key)
-            if cached is not None and cached.value != str(self.stored(key)):
-                self.broken.add("a: what is cached at rest is the store's")
-
-
-class Other:
-    """A cache that is told of changes in another way."""
-
-    def __init__(self, cache, told):
-        self._cache, self._told = cache, told
-
-    def invalidate(self, key):
-        self._told(self._cache, key)
-
-    def __getattr__(self, name):
-        return getattr(self._cache, name)
-
-
-class Postgres(WithEngine, unittest.TestCase):
-    engine = engines.Postgres
-    counts_told = True
-
-    def setUp(self):
-        self.connection = psycopg2.connect(self.running.dsn)
-        self.connection.autocommit = True
-        self.addCleanup(self.connection.close)
-        self.sql('drop table if exists pages, others; create table pages (key text primary key, value text not null)')
-        self.store().install()
-        Instance.stored = lambda it, key: self.stored(key)
-
-    def sql(self, text, *arguments):
-        with self.connection.cursor() as cursor:
-            cursor.execute(text, arguments or None)
-            return cursor.fetchall() if cursor.description else None
-
-    def store(self, proxy=None, **words):
-        return postgres.PostgresStore(self.running.dsn if proxy is None else self.listener(proxy), 'pages', **words)
-
-    def comparing(self):
-        return self.store(rows=True)
-
-    def skipping(self, store):
-        return {'announcements': store.announcements(self.running.dsn, skips_own=True)}
-
-    def listener(self, proxy):
-        return f'host={proxy.folder} user=fleet dbname=postgres'
-
-    def write(self, **values):
-        for key, value in values.items():
-            self.sql('insert into pages values (%s, %s) on conflict (key) do update set value = excluded.value', key, value)
-
-    def increment(self, key):
-        self.sql('update pages set value = (value::int + 1)::text where key = %s', key)
-
-    def stored(self, key):
-        rows = self.sql('select value from pages where key = %s', key)
-        return rows[0][0] if rows else None
-
-    def clear(self):
-        self.sql('truncate pages')
-
-    def end_listeners(self):
-        self.sql("select pg_terminate_backend(pid) from pg_stat_activity where application_name = 'cadwrelch-fleet'")
-
-    def test_the_triggers_are_those_of_java(self):
-        java = os.path.join(SOURCES, '..', 'java', 'fleet', 'src', 'cadwrelch', 'fleet', 'triggers.sql')
-        if not os.path.isfile(java):
-            self.skipTest('there are no sources of Java')
-        with open(java, encoding='utf-8') as file:
-            self.assertEqual(importlib.resources.files('cadwrelch.fleet').joinpath('triggers.sql').read_text(), file.read())
-
-    def test_the_page(self):
-        self.write(visits='41')
-        printed = self.page('PostgresStore', ("'dbname=shop'", repr(self.running.dsn)))
-        self.assertEqual((sorted(printed), self.stored('home'), self.stored('visits')), (["['home']", 'text'], 'text', '42'))
-
-    def test_statements_of_many_rows(self):
-        heard = []
-        cache, made = self.make(on_told=heard.append)
-        for sql, told in (("insert into pages select 'k' || g, '' from generate_series(1, 1000) g", 1000),
-                          ("update pages set value = 'x'", 1000), ("insert into pages values ('z', '')", 1),
-                          ("update pages set value = 'y'", fleet.ALL), ("update pages set key = 'y' where key = 'z'", 2),
-                          ('delete from pages', fleet.ALL), ("insert into pages values (repeat('k', 2000), '')", 1), ('truncate pages', fleet.ALL)):
-            heard.clear()
-            self.sql(sql)
-            made.catch_up(60)
-            keys = [key for keys in heard for key in keys]
-            self.assertEqual(keys if told is fleet.ALL else len(keys), [fleet.ALL] if told is fleet.ALL else told, sql)
-
-    def test_what_is_told_and_what_is_not(self):
-        heard = []
-        cache, made = self.make(on_told=heard.append)
-        told = {}
-        for name, sql in (('copy', "copy pages from program 'printf \"c\\t1\\n\"'"), ('a rolled back savepoint', """do $$ begin
-                              begin insert into pages values ('r', ''); raise 'no'; exception when raise_exception then end; end $$"""),
-                          ('replica role', "set session_replication_role = replica; insert into pages values ('s', ''); reset session_replication_role"),
-                          ('disabled triggers', "alter table pages disable trigger all; insert into pages values ('d', ''); "
-                                                'alter table pages enable always trigger cadwrelch_insert')):
-            heard.clear()
-            self.sql(sql)
-            made.catch_up(60)
-            told[name] = [key for keys in heard for key in keys]
-        self.assertEqual(told, {'copy': ['c'], 'a rolled back savepoint': [], 'replica role': ['s'], 'disabled triggers': []})
-        with self.assertRaises(psycopg2.Error):
-            self.sql("begin; insert into pages values ('p', ''); prepare transaction 'two phases'")
-        self.sql('rollback')
-
-    def test_own_changes(self):
-        for skips, told in ((False, ['a', 'b']), (True, [])):
-            heard, store = [], self.store()
-            cache, made = self.make(store, store.announcements(skips_own=skips), on_told=heard.append)
-            cache.put('a', '1')
-            cache.put('b', '1')
-            made.catch_up(60)
-            self.assertEqual(([key for keys in heard for key in keys], sorted(cache.keys())), (told, [] if told else ['a', 'b']))
+        self.breaks(B, drop)
 
     def test_rows(self):
         cache, _ = self.make(self.comparing())
@@ -423,89 +170,318 @@ class Postgres(WithEngine, unittest.TestCase):
             cache['n'] = postgres.Row('2', postgres.Row.NEW)
         self.assertEqual(cache['n'].value, '1')
 
-    def refused(self, told, dsn=None, announcements=None, **words):
+    def refused(self, told, dsn=None, patience=30, **words):
         store = postgres.PostgresStore(dsn or self.running.dsn, words.pop('table', 'pages'), **words)
         cache = cadwrelch.Cache(loader=store)
         with self.assertRaisesRegex(fleet.FleetError, told):
-            fleet.Fleet(cache, store.announcements(), patience=0.5)
+            fleet.Fleet(cache, self.told(store), patience=patience)
         self.assertTrue(cache.suspended)
         return store
 
-    def test_what_has_to_be_so(self):
+    def guest(self):
+        """A user who may do nothing."""
+        self.sql('drop role if exists guest; create role guest login')
+        self.addCleanup(self.sql, 'drop owned by guest; drop role guest')
+        return self.running.dsn.replace('user=fleet', 'user=guest')
+
+    def test_the_table_that_has_to_be_there(self):
         store = self.refused('there is no table missing in the database', table='missing')
-        self.assertRaisesRegex(fleet.FleetError, "triggers of the table missing can't be made: there is no such table", store.install)
+        self.assertRaisesRegex(fleet.FleetError, "of the table missing can't be made: there is no such table", self.install, store)
         self.refused('the table pages has no column id, but key, value', key='id')
         self.write(a='1')
         self.refused("the key 'a' of the table pages can't be read", parse=int)
+        for kind, sample, told in (('int', '1', "1 of the table others is announced as '1': .* as parse=int"), ('char(3)', "'x'", "'x  ' .* as 'x'")):
+            self.sql(f'drop table if exists others; create table others (key {kind} primary key, value text)')
+            for change in ('', f'insert into others values ({sample}, null)'):
+                self.sql(change) if change else None
+                store = postgres.PostgresStore(self.running.dsn, 'others')
+                self.install(store)
+                self.refused('the key ' + (told if change or kind == 'int' else told.replace('x', '1')), table='others')
+        self.sql('drop table others; create table others (key uuid primary key, value text)')
+        self.install(postgres.PostgresStore(self.running.dsn, 'others'))
+        self.make(postgres.PostgresStore(self.running.dsn, 'others'))
+        self.assertRaisesRegex(ValueError, 'its name is too long', postgres.PostgresStore, '', 'x' * 60)
+
+    def test_a_key_that_can_not_be_read_is_all(self):
+        def parse(text):
+            if text == 'x':
+                raise ValueError
+            return text
+
+        heard = []
+        with self.assertLogs('cadwrelch.fleet'):
+            _, made = self.make(self.store(parse=parse), on_told=heard.extend)
+            self.write(x='1', b='2')
+            made.catch_up(60)
+        self.assertEqual(heard, [fleet.ALL, 'b'])
+
+    def test_keys_of_another_type_and_names_that_are_quoted(self):
+        self.sql("""drop table if exists "odd ""% table"; create table "odd ""% table" (note text, "the 'key" int primary key, value text)""")
+        store = postgres.PostgresStore(self.running.dsn, 'odd "% table', key="the 'key", parse=int)
+        self.install(store)
+        heard = []
+        cache, made = self.make(store, on_told=heard.append)
+        cache.put(7, 'seven')
+        self.assertEqual((self.heard(made, heard, 'update "odd ""% table" set value = \'8\', note = \'it\''), cache.get(7)), ([7], '8'))
+        self.sql('drop table "odd ""% table"')
+
+
+class Postgres(OfTables, fleets.Postgres, unittest.TestCase):
+    def test_the_triggers_are_those_of_java(self):
+        java = os.path.join(SOURCES, '..', 'java', 'fleet', 'src', 'cadwrelch', 'fleet', 'triggers.sql')
+        if not os.path.isfile(java):
+            self.skipTest('there are no sources of Java')
+        with open(java, encoding='utf-8') as file:
+            self.assertEqual(importlib.resources.files('cadwrelch.fleet').joinpath('triggers.sql').read_text(), file.read())
+
+    def test_the_page(self):
+        self.write(visits='41')
+        printed = self.page(r'PostgresStore\((?!.*decoded)', ("'dbname=shop'", repr(self.running.dsn)))
+        self.assertEqual((sorted(printed), self.stored('home'), self.stored('visits')), (["['home']", 'text'], 'text', '42'))
+
+    def test_statements_of_many_rows(self):
+        heard = []
+        _, made = self.make(on_told=heard.append)
+        for sql, told in (("insert into pages select 'k' || g, '' from generate_series(1, 1000) g", 1000),
+                          ("update pages set value = 'x'", 1000), ("insert into pages values ('z', '')", 1),
+                          ("update pages set value = 'y'", fleet.ALL), ("update pages set key = 'y' where key = 'z'", 2),
+                          ('delete from pages', fleet.ALL), ("insert into pages values (repeat('k', 2000), '')", 1), ('truncate pages', fleet.ALL)):
+            keys = self.heard(made, heard, sql)
+            self.assertEqual(keys if told is fleet.ALL else len(keys), [fleet.ALL] if told is fleet.ALL else told, sql)
+
+    def test_what_is_told_and_what_is_not(self):
+        heard = []
+        _, made = self.make(on_told=heard.append)
+        for sql, told in (("copy pages from program 'printf \"c\\t1\\n\"'", ['c']),
+                          ("do $$ begin begin insert into pages values ('r', ''); raise 'no'; exception when raise_exception then end; end $$", []),
+                          ("set session_replication_role = replica; insert into pages values ('s', ''); reset session_replication_role", ['s']),
+                          ("alter table pages disable trigger all; insert into pages values ('d', ''); "
+                           'alter table pages enable always trigger cadwrelch_insert', [])):
+            self.assertEqual(self.heard(made, heard, sql), told, sql)
+        with self.assertRaises(psycopg2.Error):
+            self.sql("begin; insert into pages values ('p', ''); prepare transaction 'two phases'")
+        self.sql('rollback')
+
+    def test_own_changes(self):
+        for skips, told in ((False, ['a', 'b']), (True, [])):
+            heard, store = [], self.store()
+            cache, made = self.make(store, store.announcements(skips_own=skips), on_told=heard.append)
+            cache.put('a', '1')
+            cache.put('b', '1')
+            made.catch_up(60)
+            self.assertEqual(([key for keys in heard for key in keys], sorted(cache.keys())), (told, [] if told else ['a', 'b']))
+
+    def test_what_has_to_be_so(self):
         self.sql('create table others (key text primary key, value text)')
         store = self.refused("the table others doesn't announce its changes", table='others')
         store.install()
         self.sql('alter table others disable trigger cadwrelch_update')
         self.refused("the table others doesn't announce its changes", table='others')
-        self.sql('drop role if exists guest; create role guest login; drop table others')
-        guest = self.running.dsn.replace('user=fleet', 'user=guest')
-        store = self.refused('the user may not read the table pages: grant select on it to that user', guest)
+        store = self.refused('the user may not read the table pages: grant select on it to that user', self.guest())
         self.assertRaisesRegex(fleet.FleetError, 'the user has to own the table', store.install)
         # Announcements of another database don't come, as those through a pooler of transactions don't.
         connect = psycopg2.connect
         with mock.patch.object(postgres.psycopg2, 'connect', lambda dsn, **words: connect(dsn, **words) if 'async_' in words else
                                connect(dsn.replace('dbname=postgres', 'dbname=template1'), **words)):
-            self.refused('what is announced doesn\'t come .* it goes through a pooler of transactions')
-        self.assertRaisesRegex(ValueError, 'its name is too long', postgres.PostgresStore, '', 'x' * 60)
+            self.refused('what is announced doesn\'t come .* it goes through a pooler of transactions', patience=0.5)
 
-    def test_a_key_that_can_not_be_read_is_all(self):
-        self.write(**{'1': 'one'})
-        store = self.store(parse=int)
+
+class Decoding(OfTables, fleets.Decoding, unittest.TestCase):
+    def test_the_page(self):
+        printed = self.page('decoded', ("'dbname=shop'", repr(self.running.dsn)))
+        self.assertIn('text', printed)
+        self.assertEqual(self.stored('home'), 'text')
+
+    def test_statements_of_many_rows(self):
         heard = []
+        _, made = self.make(on_told=heard.append)
+        for sql, told in (("insert into pages select 'k' || g, '' from generate_series(1, 1000) g", 1000), ("update pages set value = 'x'", 1000),
+                          ("insert into pages values ('z', '')", 1), ("update pages set value = 'y'", fleet.ALL),
+                          ("update pages set key = 'y' where key = 'z'", 2), ('delete from pages', fleet.ALL), ('truncate pages', fleet.ALL)):
+            keys = self.heard(made, heard, sql)
+            self.assertEqual(keys if told is fleet.ALL else len(keys), [fleet.ALL] if told is fleet.ALL else told, sql)
+
+    def test_a_key_that_is_stored_apart(self):
+        """An update that leaves such a key has it nowhere but in the row before."""
+        self.sql('alter table pages alter key set storage external, alter value set storage plain')
+        heard = []
+        _, made = self.make(on_told=heard.append)
+        for sql in ("insert into pages values (repeat('k', 2500), repeat('v', 1000))", "update pages set value = 'x'", 'delete from pages'):
+            self.assertEqual(self.heard(made, heard, sql), ['k' * 2500], sql)
+
+    def test_what_is_told_and_what_is_not(self):
+        heard = []
+        self.sql('create table others (key text primary key)')
+        _, made = self.make(on_told=heard.append)
+        for sql, told in (("copy pages from program 'printf \"c\\t1\\n\"'", ['c']),
+                          ("do $$ begin begin insert into pages values ('r', ''); raise 'no'; exception when raise_exception then end; end $$", []),
+                          ("do $$ begin begin insert into pages values ('n', ''); exception when raise_exception then end; end $$", ['n']),
+                          ("set session_replication_role = replica; insert into pages values ('s', ''); reset session_replication_role", ['s']),
+                          ("alter table pages disable trigger all; insert into pages values ('d', '')", ['d']),
+                          ("insert into others values ('x')", []),
+                          ("update pages set key = 'e' where key = 'd'; alter table pages replica identity full", ['d', 'e']),
+                          ("update pages set key = 'f' where key = 'e'; delete from pages where key = 'f'", ['e', 'f']),
+                          ("alter table pages add column more int; insert into pages values ('m', '', 1)", ['m']),
+                          ("set synchronous_commit = off; insert into pages values ('o', ''); reset synchronous_commit", ['o'])):
+            self.assertEqual(self.heard(made, heard, sql), told, sql)
+
+    def test_two_phases(self):
+        heard = []
+        cache, made = self.make(on_told=heard.append)
+        self.write(p='1')
+        cache.get('p')
+        self.assertEqual(self.heard(made, heard, "begin; update pages set value = '2'; savepoint s; insert into pages values ('q', ''); "
+                                                 "prepare transaction 'two phases'"), [])
+        self.assertEqual(cache.get('p'), '1')
+        self.assertEqual((self.heard(made, heard, "commit prepared 'two phases'"), cache.get('p')), (['p', 'q'], '2'))
+
+    def unseen(self, key, value):
+        """A commit that is flushed, and that nobody sees until the thread is let go: it waits for a standby that there isn't."""
+        def set_standbys(name):
+            self.sql(f"alter system set synchronous_standby_names = '{name}'")
+            self.sql('select pg_reload_conf()')
+            with contextlib.closing(psycopg2.connect(self.running.dsn)) as other, other.cursor() as cursor:
+                until(lambda: cursor.execute('show synchronous_standby_names') or cursor.fetchone()[0] == name)
+
+        def work():
+            with contextlib.closing(psycopg2.connect(self.running.dsn)) as other, other, other.cursor() as cursor:
+                cursor.execute('set synchronous_commit = on; update pages set value = %s where key = %s', (value, key))
+
+        self.sql('set synchronous_commit = local')
+        set_standbys('nobody')
+        thread = threading.Thread(target=work)
+        thread.start()
+        until(lambda: self.sql("select 1 from pg_stat_activity where wait_event = 'SyncRep'"))
+
+        def let_go():
+            set_standbys('')
+            thread.join(60)
+
+        self.addCleanup(let_go)
+        return let_go
+
+    def test_a_change_is_told_once_it_is_seen(self):
+        heard = []
+        self.write(a='1', b='1')
+        cache, _ = self.make(patience=60, on_told=heard.append)
+        cache.get_many('ab')
+        let_go = self.unseen('a', '2')
+        self.write(b='2')
+        # The change is decoded, and waits.
+        until(lambda: len(self.source._waiting) >= 2)
+        self.assertEqual((cache.get('a'), cache.get('b'), heard), ('1', '1', []))
+        let_go()
+        self.sees(cache, a='2', b='2')
+        self.assertEqual([key for keys in heard for key in keys], ['a', 'b'])
+
+    def test_a_change_that_is_told_too_early_breaks_the_rule(self):
+        """The control of the test before."""
+        heard = []
+        self.write(a='1')
+        with mock.patch.object(decoding._Snapshot, 'sees', lambda snapshot, number: True):
+            cache, made = self.make(patience=60, on_told=heard.append)
+            cache.get('a')
+            let_go = self.unseen('a', '2')
+            until(lambda: heard)
+            self.assertEqual(cache.get('a'), '1')
+            let_go()
+            self.assertTrue(made.catch_up(60))
+        self.assertEqual((cache.get('a'), self.stored('a')), ('1', '2'))
+
+    def test_what_is_committed_as_it_begins_is_seen(self):
+        """A commit that is in the log before the slot begins isn't told: nothing is read until all see it."""
+        self.write(a='1')
+        let_go = self.unseen('a', '2')
+        store = self.store()
+        cache = cadwrelch.Cache(loader=store)
         with self.assertLogs('cadwrelch.fleet'):
-            _, made = self.make(store, on_told=heard.append)
-            self.write(x='1', **{'2': 'two'})
-            made.catch_up(60)
-        self.assertEqual([key for keys in heard for key in keys], [fleet.ALL, 2])
+            made = fleet.Fleet(cache, self.told(store), patience=0.5)
+        self.addCleanup(made.close)
+        self.assertEqual((made.state, cache.get('a'), len(cache)), ('suspended', '1', 0))
+        self.assertRegex(str(made.error), "hasn't ended yet")
+        let_go()
+        self.assertTrue(made.wait_until_live(60))
+        self.assertEqual((cache.get('a'), cache.hit('a')), ('2', '2'))
+
+    def test_numbers_of_transactions(self):
+        def seen(text, *numbers):
+            snapshot = decoding._Snapshot(text)
+            return [snapshot.sees(number) for number in numbers]
+
+        self.assertEqual(seen('10:20:10,15', 9, 10, 14, 15, 19, 20, 21), [True, False, True, False, True, False, False])
+        self.assertEqual(seen('10:10:', 9, 10, 11), [True, False, False])
+        source = decoding.DecodedAnnouncements(self.store(), self.running.dsn)
+        snapshots = ['10:20:10,15', '15:30:15,25', '20:31:20,25', 'no more']
+        source._ask, source._end = lambda query: [snapshots.pop(0)], time.monotonic() + 60
+        source._await_ended()
+        self.assertEqual(snapshots, ['no more'])
+        # The lower half begins anew.
+        first = 3 << 32
+        self.assertEqual(seen(f'{first - 5}:{first + 5}:{first - 5},{first + 1}', 2**32 - 6, 2**32 - 5, 2**32 - 4, 0, 1, 4, 5),
+                         [True, False, True, True, False, True, False])
+
+    def test_what_has_to_be_so(self):
+        self.sql('create table others (key text primary key, value text); create unlogged table pages_unlogged (key text primary key, value text)')
+        self.addCleanup(self.sql, 'drop table pages_unlogged')
+        self.refused("the table others isn't published", table='others')
+        self.refused("pages_unlogged isn't an ordinary table", table='pages_unlogged')
+        self.sql("alter publication cadwrelch_pages set (publish = 'insert, update')")
+        self.refused("the table pages isn't published, or not with all its changes: publish\\(\\) does that")
+        self.store().publish()
+        self.sql('alter table pages add column id int unique; alter table pages replica identity nothing')
+        for change in ('alter table pages drop constraint pages_pkey', 'alter table pages alter id set not null',
+                       'alter table pages replica identity using index pages_id_key'):
+            store = self.refused('the table pages has no replica identity that has the column key: it needs that as its primary key')
+            self.assertRaisesRegex(fleet.FleetError, 'the table pages has no replica identity', store.publish)
+            self.sql(change)
+        self.sql('alter table pages replica identity full')
+        store = self.refused('the user may not read the table pages', self.guest())
+        self.assertRaisesRegex(fleet.FleetError, 'the user has to own the table', store.publish)
+        self.sql('grant select on pages to guest')
+        self.refused('the user may not replicate: alter role .. replication', self.running.dsn.replace('user=fleet', 'user=guest'))
+
+    def test_a_server_that_is_not_set_up(self):
+        other = self.engine('wal_level=replica')
+        self.addCleanup(other.end)
+        self.connection.close()
+        self.connection = psycopg2.connect(other.dsn)
+        self.connection.autocommit = True
+        self.sql('create table pages (key text primary key, value text)')
+        self.refused('wal_level is replica, and has to be logical', other.dsn)
+        other.stop()
+        other.begin('wal_level=logical', 'max_replication_slots=1', 'max_wal_senders=2')
+        self.connection = psycopg2.connect(other.dsn)
+        self.connection.autocommit = True
+        store = postgres.PostgresStore(other.dsn, 'pages')
+        store.publish()
+        with fleet.Fleet(cadwrelch.Cache(loader=store), store.decoded()) as made:
+            self.assertTrue(made.is_live)
+            self.refused('no slot is free: max_replication_slots has to be more', other.dsn)
+        other.stop()
+        other.begin('wal_level=logical', 'max_replication_slots=2', 'max_wal_senders=1')
+        with fleet.Fleet(cadwrelch.Cache(loader=store), store.decoded()) as made:
+            self.assertTrue(made.is_live)
+            self.refused('no sender of the log is free: max_wal_senders has to be more', other.dsn)
+
+    def test_a_transaction_that_is_open(self):
+        """There is no slot before it ends; no attempt stays behind in the server."""
+        self.sql("begin; insert into pages values ('a', '1')")
+        store = self.store()
+        with self.assertLogs('cadwrelch.fleet'):
+            made = fleet.Fleet(cadwrelch.Cache(loader=store), self.told(store), patience=0.5, retry=0.05)
+            self.addCleanup(made.close)
+            self.assertEqual((made.state, str(made.error)), ('suspended', "a transaction that has written, in any database of the server, hasn't "
+                                                             'ended yet: until then there is no slot'))
+        self.sql('commit')
+        self.assertTrue(made.wait_until_live(60))
+        self.assertEqual(self.sql("select count(*) from pg_stat_activity where application_name = 'cadwrelch-fleet'"), [(2,)])
 
 
-class Redis(WithEngine, unittest.TestCase):
-    engine = engines.Redis
-    counts_told = False
-
-    def setUp(self):
-        self.client = self.running.client()
-        self.client.flushall()
-        Instance.stored = lambda it, key: self.stored(key)
-
-    def store(self, proxy=None, **words):
-        return redis.RedisStore(self.client if proxy is None else self.listener(proxy), 'v:', **words)
-
-    def comparing(self):
-        return self.store(reads=True)
-
-    def skipping(self, store):
-        return {'announcements': store.announcements(self.client)}
-
-    def listener(self, proxy):
-        return driver.Redis(unix_socket_path=proxy.path)
-
-    def write(self, **values):
-        self.client.mset({f'v:{key}': value for key, value in values.items()})
-
-    def increment(self, key):
-        self.client.incr(f'v:{key}')
-
-    def stored(self, key):
-        found = self.client.get(f'v:{key}')
-        return None if found is None else found.decode()
-
-    def clear(self):
-        self.client.flushall()
-
-    def end_listeners(self):
-        self.client.client_kill_filter(_type='pubsub')
-
+class Redis(OfAll, fleets.Redis, unittest.TestCase):
     # A busy key that is skipped is told once more by a later write, and several writes are told as one: b can't be counted here.
-    test_the_rules_are_broken_if_busy_keys_are_skipped = None
 
     def test_the_page(self):
-        printed = self.page('RedisStore(redis.Redis()', ('redis.Redis()', f'redis.Redis(unix_socket_path={self.running.socket!r})'))
+        printed = self.page(r'RedisStore\(redis', ('redis.Redis()', f'redis.Redis(unix_socket_path={self.running.socket!r})'))
         self.assertIn('text', printed)
         self.assertEqual(self.client.get('pages:home'), b'text')
 

@@ -76,12 +76,12 @@ class Announcements:
         except BlockingIOError:
             pass
 
-    def _is_ready(self, socket, seconds):
-        """Waits until a socket can be read, or for wake()."""
-        ready = select.select([socket, self._woken], [], [], seconds)[0]
+    def _is_ready(self, seconds, *sockets):
+        """Waits until one of these can be read, and says whether one can; or for wake()."""
+        ready = select.select([*sockets, self._woken], [], [], seconds)[0]
         if self._woken in ready:
             os.read(self._woken, 4096)
-        return socket in ready
+        return any(socket in ready for socket in sockets)
 
     def attach(self, cache):
         """Called once, with the cache that is to forget the keys of writes whose end isn't known."""

@@ -1,6 +1,7 @@
 """A table of PostgreSQL, 14 or later, as the store of a fleet of caches. It needs psycopg2.
 
-The table's triggers announce each change to all who listen, as the change is committed, whoever made it.
+The table's triggers announce each change to all who listen, as the change is committed, whoever made it. The other way, without triggers, is
+in cadwrelch.fleet.decoding.
 """
 import importlib.resources
 import logging
@@ -20,8 +21,8 @@ _LOG = logging.getLogger('cadwrelch.fleet')
 KEYS_MAX = 1000
 """A statement that changes more rows is announced as a change of all."""
 _CHANNEL_MAX = 63
-_UNREAD_MILLIS = 30_000
-"""If an instance doesn't read for so long, the server ends its connection, and keeps announcements no longer."""
+UNREAD_MILLIS = 30_000
+"""If an instance doesn't read for so long, the server ends its connection, and keeps for it neither announcements nor its log."""
 _BECAUSE = {'42501': ': the user has to own the table, and may create functions in its schema',
             '42P01': ": there is no such table; its schema goes before it, with a dot, unless it's on the search path",
             '3F000': ": there is no such schema",
@@ -29,11 +30,11 @@ _BECAUSE = {'42501': ': the user has to own the table, and may create functions 
 
 
 def _quoted(name):
-    return '"' + name.replace('"', '""').replace('%', '%%') + '"'
+    return '"' + name.replace('"', '""') + '"'
 
 
 def _literal(text):
-    return "'" + text.replace("'", "''").replace('%', '%%') + "'"
+    return "'" + text.replace("'", "''") + "'"
 
 
 class Row:
@@ -75,24 +76,27 @@ class PostgresStore:
             raise ValueError(f"table is {table!r}: its name is too long to be one of a channel")
         self.origin = secrets.token_hex(4)
         """By this announcements say whose change it was. It is another one after a write whose end isn't known."""
+        self.quoted = '.'.join(map(_quoted, table.split('.')))
+        """The table's name in a statement."""
         self._rows = rows
         self._local = threading.local()
         self._invalidate = lambda key: None
-        self._words = {'table': '.'.join(map(_quoted, table.split('.'))), 'key': _quoted(key), 'value': _quoted(value),
+        self._words = {'table': self.quoted, 'key': _quoted(key), 'value': _quoted(value),
                        'function': _quoted(f'cadwrelch_announce_{table.replace(".", "_")}'), 'channel': _literal(self.channel), 'limit': KEYS_MAX,
-                       'version': 'xmin::text::bigint',
-                       'own': f"set_config('cadwrelch.own', %(origin)s || ' ' || {_quoted(key)}::text, true), xmin::text::bigint"}
+                       'version': 'xmin::text::bigint'}
         upsert = 'insert into {table} ({key}, {value}) values (%(key)s, %(value)s) on conflict ({key}) do '
-        self._load = self._statement('select {key}, {value}, {version} from {table} where {key} = any(%s)')
-        self._write_any = self._statement(upsert + 'update set {value} = excluded.{value} returning {own}')
-        self._write_new = self._statement(upsert + 'nothing returning {own}')
-        self._write_same = self._statement('update {table} set {value} = %(value)s where {key} = %(key)s and {version} = %(version)s '
-                                           'returning {own}')
-        self._delete = self._statement('delete from {table} where {key} = any(%(keys)s) returning {own}')
+        own = " returning set_config('cadwrelch.own', %(origin)s || ' ' || {key}::text, true), {version}"
+        same = 'update {table} set {value} = %(value)s where {key} = %(key)s and {version} = %(version)s'
+        self._load = self.statement('select {key}, {value}, {version} from {table} where {key} = any(%s)', '%%')
+        self._write_any = self.statement(upsert + 'update set {value} = excluded.{value}' + own, '%%')
+        self._write_new = self.statement(upsert + 'nothing' + own, '%%')
+        self._write_same = self.statement(same + own, '%%')
+        self._delete = self.statement('delete from {table} where {key} = any(%(keys)s)' + own, '%%')
 
-    def _statement(self, text):
+    def statement(self, text, percent='%'):
+        """A statement, with what this table has for the words in braces. In one with arguments a % of a name is doubled."""
         for name, word in self._words.items():
-            text = text.replace('{' + name + '}', str(word))
+            text = text.replace('{' + name + '}', str(word).replace('%', percent))
         return text
 
     def install(self):
@@ -101,7 +105,7 @@ class PostgresStore:
         connection = psycopg2.connect(self.dsn)
         try:
             with connection, connection.cursor() as cursor:
-                cursor.execute(self._statement(text).replace('%%', '%'))
+                cursor.execute(self.statement(text))
         except psycopg2.Error as error:
             raise FleetError(f"the triggers of the table {self.table} can't be made{_BECAUSE.get(error.pgcode, '')}") from error
         finally:
@@ -114,6 +118,16 @@ class PostgresStore:
         if no trigger changes the row that is written.
         """
         return PostgresAnnouncements(self, dsn or self.dsn, skips_own)
+
+    def publish(self):
+        """Makes the publication that decoded() needs, or makes it anew: once, by whoever owns the table. FleetError says why it can't."""
+        from . import decoding
+        decoding.publish(self)
+
+    def decoded(self, dsn=None):
+        """The changes of the table by logical decoding, for a Fleet, in place of announcements(): without triggers. Own ones are told, too."""
+        from . import decoding
+        return decoding.DecodedAnnouncements(self, dsn or self.dsn)
 
     def _connection(self):
         connection = getattr(self._local, 'connection', None)
@@ -218,15 +232,14 @@ class _Changing:
             self._store.in_doubt(self._keys)
 
 
-class PostgresAnnouncements(Announcements):
-    """LISTEN on a connection of its own, which must not go through a pooler of transactions."""
+class TableAnnouncements(Announcements):
+    """What both ways have in common: a connection whose questions have an end, what has to be so, and the keys of texts."""
 
-    def __init__(self, store, dsn, skips_own):
+    def __init__(self, store, dsn):
         super().__init__()
-        self._store, self._dsn, self._skips_own = store, dsn, skips_own
-        self._own_channel = f'cadwrelch_wake_{secrets.token_hex(16)}'
-        self._connection = self._cursor = None
-        self._is_asked = self._is_told = self._has_warned = False
+        self._store, self._dsn = store, dsn
+        self._connection = None
+        self._has_warned = False
 
     def attach(self, cache):
         """The cache that forgets the keys of a write whose end isn't known."""
@@ -235,65 +248,110 @@ class PostgresAnnouncements(Announcements):
     def open(self, patience):
         """Connects, looks whether all is as it has to be, and listens."""
         self._end = time.monotonic() + max(2.0, patience)
-        self._is_asked = self._is_told = False
         self._connection = psycopg2.connect(self._dsn, async_=True, application_name='cadwrelch-fleet')
-        self._await_answer()
+        self._await_answer(self._connection)
         self._check_table()
-        self._ask(f'set tcp_user_timeout = {_UNREAD_MILLIS}')
-        self._ask(f'listen {_quoted(self._store.channel)}')
-        self._ask(f'listen {_quoted(self._own_channel)}')
-        self._check_is_told(patience)
+        self._check_way()
+        self._check_key()
+        self._listen(patience)
 
-    def _await_answer(self):
-        while (state := self._connection.poll()) != psycopg2.extensions.POLL_OK:
+    def _await_answer(self, connection):
+        while (state := connection.poll()) != psycopg2.extensions.POLL_OK:
             left = self._end - time.monotonic()
-            socket = [self._connection.fileno()]
+            socket = [connection.fileno()]
             reads, writes = (socket, []) if state == psycopg2.extensions.POLL_READ else ([], socket)
             if left <= 0 or not any(select.select(reads, writes, [], left)):
                 raise Lost('no connection in time')
 
     def _ask(self, query, *arguments):
-        """The first row of a query, or None. The listening connection isn't used for anything else yet."""
+        """The first row of a query, or None. The connection isn't used for anything else yet."""
         with self._connection.cursor() as cursor:
             cursor.execute(query, arguments or None)
-            self._await_answer()
+            self._await_answer(self._connection)
             return cursor.fetchone() if cursor.description else None
 
-    # What has to be so.
-
     def _check_table(self):
-        store, table = self._store, self._store._words['table'].replace('%%', '%')
+        store = self._store
         if self._ask('select pg_is_in_recovery()')[0]:
             raise FleetError('the database is a standby, which announces nothing: dsn has to be that of the primary')
         columns = self._ask('select array_agg(attname::text order by attnum) from pg_attribute where attrelid = to_regclass(%s) and attnum > 0 '
-                            'and not attisdropped', table)[0]
+                            'and not attisdropped', store.quoted)[0]
         if columns is None:
             raise FleetError(f"there is no table {store.table} in the database: its schema goes before its name, with a dot, unless it's on the "
                              'search path')
         if store.key not in columns:
             raise FleetError(f'the table {store.table} has no column {store.key}, but {", ".join(columns)}: one of them has to be named as that of '
                              'the keys')
-        if self._ask("select count(*) from pg_trigger where tgrelid = to_regclass(%s) and tgenabled = 'A' and tgname in ('cadwrelch_insert', "
-                     "'cadwrelch_update', 'cadwrelch_delete', 'cadwrelch_truncate')", table)[0] != 4:
-            raise FleetError(f"the table {store.table} doesn't announce its changes: its triggers aren't there, or not enabled; install() makes "
-                             'them, called once by who owns the table')
-        self._check_key()
 
     def _check_key(self):
-        """Whether a key that is there can be read."""
+        """Whether a key that is there is announced as the one that it is read as: if it isn't, no entry would ever be forgotten."""
         store = self._store
         try:
-            sample = self._ask(store._statement('select max({key}::text) from (select * from {table} limit 1) as one').replace('%%', '%'))[0]
+            sample = self._ask(store.statement('select {key}, {key}::text from {table} limit 1')) or self._sample()
         except psycopg2.Error as error:
             if error.pgcode == '42501':
                 raise FleetError(f'the user may not read the table {store.table}: grant select on it to that user') from error
             raise
-        if sample is not None:
-            try:
-                hash(store.parse(sample))
-            except Exception as error:
-                raise FleetError(f"the key {sample!r} of the table {store.table} can't be read: the column and parse, which makes keys of texts, "
-                                 'have to fit') from error
+        try:
+            key = sample and store.parse(sample[1])
+            hash(key)
+        except Exception as error:
+            raise FleetError(f"the key {sample[1]!r} of the table {store.table} can't be read: the column and parse, which makes keys of texts, "
+                             'have to fit') from error
+        if sample and key != sample[0]:
+            raise FleetError(f'the key {sample[0]!r} of the table {store.table} is announced as {key!r}: parse, which makes keys of texts, has to '
+                             'give what is read, as parse=int does for numbers')
+
+    def _sample(self):
+        """Of an empty table a key that might be there, or None."""
+        kind, = self._ask('select format_type(atttypid, atttypmod) from pg_attribute where attrelid = to_regclass(%s) and attname = %s',
+                          self._store.quoted, self._store.key)
+        try:
+            return self._ask(f"select key, key::text from (select '1'::{kind} as key) as one")
+        except psycopg2.DataError:
+            return None
+
+    def _key(self, text):
+        """A key by its text, or by the bytes of that; ALL, if they can't be read."""
+        try:
+            key = self._store.parse(text if isinstance(text, str) else text.decode())
+            hash(key)
+            return key
+        except Exception as error:
+            if not self._has_warned:
+                _LOG.warning("the key %r of the table %s can't be read: all keys are forgotten at each such change", text, self._store.table,
+                             exc_info=error)
+            self._has_warned = True
+            return ALL
+
+    def close(self):
+        """Ends the connection."""
+        if self._connection is not None:
+            self._connection.close()
+
+
+class PostgresAnnouncements(TableAnnouncements):
+    """LISTEN on a connection of its own, which must not go through a pooler of transactions."""
+
+    def __init__(self, store, dsn, skips_own):
+        super().__init__(store, dsn)
+        self._skips_own = skips_own
+        self._own_channel = f'cadwrelch_wake_{secrets.token_hex(16)}'
+        self._cursor = None
+        self._is_asked = self._is_told = False
+
+    def _check_way(self):
+        if self._ask("select count(*) from pg_trigger where tgrelid = to_regclass(%s) and tgenabled = 'A' and tgname in ('cadwrelch_insert', "
+                     "'cadwrelch_update', 'cadwrelch_delete', 'cadwrelch_truncate')", self._store.quoted)[0] != 4:
+            raise FleetError(f"the table {self._store.table} doesn't announce its changes: its triggers aren't there, or not enabled; install() "
+                             'makes them, called once by who owns the table')
+
+    def _listen(self, patience):
+        self._is_asked = self._is_told = False
+        self._ask(f'set tcp_user_timeout = {UNREAD_MILLIS}')
+        self._ask(f'listen {_quoted(self._store.channel)}')
+        self._ask(f'listen {_quoted(self._own_channel)}')
+        self._check_is_told(patience)
 
     def _check_is_told(self, patience):
         """Whether what another connection announces comes to this one, with nothing asked meanwhile."""
@@ -311,12 +369,10 @@ class PostgresAnnouncements(Announcements):
             raise FleetError(f"what is announced doesn't come to the connection that listens within {patience} seconds: it goes through a pooler "
                              'of transactions, which has to be gone round')
 
-    # What is told.
-
     def wait(self, seconds):
         """The keys that were told."""
         keys = self._drained()
-        if not keys and self._is_ready(self._connection.fileno(), seconds):
+        if not keys and self._is_ready(seconds, self._connection.fileno()):
             is_done = self._connection.poll() == psycopg2.extensions.POLL_OK
             if is_done and self._is_asked:
                 # What was announced before the answer is taken by the next poll.
@@ -341,19 +397,6 @@ class PostgresAnnouncements(Announcements):
                 keys.append(self._key(text))
         return keys
 
-    def _key(self, text):
-        """A key by its text; ALL, if that can't be read."""
-        try:
-            key = self._store.parse(text)
-            hash(key)
-            return key
-        except Exception as error:
-            if not self._has_warned:
-                _LOG.warning("the key %r of the table %s can't be read: all keys are forgotten at each such change", text, self._store.table,
-                             exc_info=error)
-            self._has_warned = True
-            return ALL
-
     def probe(self):
         """Asks the server."""
         # The cursor has to live until the answer is there.
@@ -364,8 +407,3 @@ class PostgresAnnouncements(Announcements):
     def is_answered(self):
         """Whether it has answered."""
         return not self._is_asked
-
-    def close(self):
-        """Ends the connection."""
-        if self._connection is not None:
-            self._connection.close()

@@ -169,7 +169,7 @@ class RedisAnnouncements(Announcements):
     def wait(self, seconds):
         """The keys that were told."""
         keys = []
-        if self._connection.can_read(timeout=0) or self._is_ready(self._connection._sock, seconds):
+        if self._connection.can_read(timeout=0) or self._is_ready(seconds, self._connection._sock):
             self._read(keys)
             while len(keys) < _AT_ONCE_MAX and self._connection.can_read(timeout=0):
                 self._read(keys)
