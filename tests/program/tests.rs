@@ -340,7 +340,6 @@ fn is_told(
     let told = &console.watch;
     let found = (told.numbers, told.times, told.ends);
     assert!(rt; found == wanted, "{text}");
-    assert_eq!(rt; console.err.len(), 0, "{text}");
 }
 
 #[test]
@@ -383,12 +382,26 @@ fn shows_a_line_of_progress(rt: HostRuntime) {
     shows(&rt, alloc, false, 8193, "");
 }
 
+/// What standard error says of an item before the first thread.
+const NO_THREAD: &str = "jcache: line 3, column 1: no thread 'get' (a line thread begins the first thread, and items follow it)\n";
+
+#[test]
+fn warns_of_values_that_nobody_writes(rt: HostRuntime) {
+    let wanted = Wanted {
+        status: 5,
+        out: "outcome 1\ncache\nstore\ncoherent\n| open 1 2 100\n| audit\nall outcomes: 1 of 1 states\nsometimes cache.a=1 store.b=2: fails\n",
+        err: "jcache: warning: no line sets or writes the value 1: sometimes cache.a=1 store.b=2\njcache: warning: no line sets or writes the value 2: sometimes cache.a=1 store.b=2\n",
+    };
+    let program = b"open 1 2 100\nsometimes cache.a=1 store.b=2\n";
+    ends_alone(&rt, rt.alloc(), "jcache explore", program, wanted);
+}
+
 #[test]
 fn tells_a_fault_of_a_program(rt: HostRuntime) {
     let wanted = Wanted {
         status: 1,
         out: "line 3: no thread\n",
-        err: "",
+        err: NO_THREAD,
     };
     let program = b"open 1 2 100\n# a comment\nget a\n";
     ends_alone(&rt, rt.alloc(), "jcache explore", program, wanted);

@@ -9,7 +9,11 @@ pub use Rattle.std.specs.Str.{bytes_eq}
 pub use Rattle.jc_litmus.specs.Atoms.{atoms_from, is_atom}
 pub use Rattle.jc_litmus.specs.Judging.{decides, end_of, first_deciding, is_failure, reply_of, value_of_key, verdict_from, verdict_on}
 pub use Rattle.jc_litmus.specs.Outcomes.{counts_text, item_text, outcome_if, text_up_to, thread_at, verdict_line}
-pub use Rattle.jc_litmus.specs.Program.{ReadSoFar, ReadsLines, after_line, ended, fault_at, is_blank, onto_last, program_from, program_of, then_on, value_of_program}
+pub use Rattle.jc_litmus.specs.Explanations.{ExplainsLines, ExplainsProgram, IsExplained, explanation, explanation_at_end, explanation_from, explanation_if_open, explanation_of, explanation_or}
+pub use Rattle.jc_litmus.specs.FaultWords.{bad_from}
+pub use Rattle.jc_litmus.specs.UnknownValues.{expectation_warnings, item_warning, thread_warnings, warning_of, warnings_text}
+pub use Rattle.jc_text.specs.Places.{start_from}
+pub use Rattle.jc_litmus.specs.Program.{ReadSoFar, ReadsLines, after_line, ended, is_blank, onto_last, program_from, program_of, then_on, value_of_program}
 pub use Rattle.jc_litmus.specs.ReplyTexts.{HasRefusal, HasReply, RepliesAreOfKind, RepliesAreTold, RepliesOfTable, RepliesReadBack, SilenceIsTold, colon_for_space, reply_word}
 pub use Rattle.jc_litmus.specs.ReplyWords.{failure_with, plain_reply, plain_value, refusal_of, reply_from, reply_kind, reply_said, two_words}
 pub use Rattle.jc_litmus.specs.Spaced.{lone_text, open_text, spaced}

@@ -2,7 +2,7 @@
 --     verdict_means     a verdict
 --     end_means         an end
 --     answers_of        the answer to a program is one
-use Rattle.jc_litmus.proofs.Common.{Ok, Err, Result, inl, ◌≡◌, refl, ℕ, suc, ◌<◌, ◌≤◌, List, [], ◌∷◌, length, get_or, Bool, true, false, cond, Option, None, Some, subst, arith, position, IfOk, Any, list_any, position_or_len, common_steps, decides, end_of, first_deciding, is_failure, verdict_from, verdict_on, program_of, value_of_program}
+use Rattle.jc_litmus.proofs.Common.{Ok, Err, Result, inl, ◌≡◌, refl, ℕ, suc, ◌<◌, ◌≤◌, List, [], ◌∷◌, length, get_or, Bool, true, false, cond, Option, None, Some, subst, arith, position, IfOk, Any, list_any, position_or_len, common_steps, decides, end_of, first_deciding, is_failure, verdict_from, verdict_on, program_of, value_of_program, warnings_text, ◌++◌}
 use Rattle.std.proofs.lemmas.List.Quantifiers.{position-Some}
 use Rattle.std.proofs.lemmas.List.Sums.{fails_before_first}
 use Rattle.jc_explore.specs.declared.program.Program.{Program}
@@ -101,7 +101,8 @@ end_by p budget r es found false false any w = tt
 pub end_means : (p : Program) (budget : ℕ) (r : Explored) (es : List Expectation) → HasExplored p budget r → EndMeans p es (end_of r es)
 end_means p budget r es found = end_by p budget r es found (list_any (λ e. is_failure (verdict_on r e)) es) r.is_whole refl refl
 
-pub answers_of : {V E : Type 0} (budget : ℕ) (input : List ℕ) (x : Litmus) (out : V → List ℕ) (end : V → LitmusEnd) (r : Result V E)
-    → program_of input ≡ Ok (value_of_program x) → IfOk r (λ v. IsProgramAnswer budget x (out v) (end v)) → IfOk r (λ v. AnswersProgram budget input (out v) (end v))
-answers_of budget input x out end (Ok v) said is = inl (x, said, is)
-answers_of budget input x out end (Err e) said is = tt
+pub answers_of : {V E : Type 0} (budget : ℕ) (input : List ℕ) (x : Litmus) (out : V → List ℕ) (end : V → LitmusEnd) (r : Result V E) (old notes : List ℕ)
+    → program_of input ≡ Ok (value_of_program x) → IfOk r (λ v. IsProgramAnswer budget x (out v) (end v)) → notes ≡ old ++ warnings_text x.program x.expectations.items
+    → IfOk r (λ v. (said : List ℕ) × AnswersProgram budget input (out v) said (end v) × (notes ≡ old ++ said))
+answers_of budget input x out end (Ok v) old notes read is warned = (warnings_text x.program x.expectations.items, inl (x, read, is, refl), warned)
+answers_of budget input x out end (Err e) old notes read is warned = tt

@@ -4,11 +4,12 @@
 --     next_line         a line that is read
 --     at_fault          a line at fault
 --     last_line         what is behind the last line feed
-use Rattle.jc_litmus.proofs.Common.{◌≡◌, ◌∙◌, ap, sym, refl, ℕ, ◌+◌, List, [], ◌∷◌, ◌++◌, Result, Ok, Err, map, pieces_some, map-append, pieces_of, LineFault, after_line, ended, fault_at, is_blank, onto_last, program_from, ReadSoFar, ReadsLines, then_on}
+use Rattle.jc_litmus.proofs.Common.{◌≡◌, ◌∙◌, ap, sym, refl, ℕ, ◌+◌, List, [], ◌∷◌, ◌++◌, Result, Ok, Err, map, pieces_some, map-append, pieces_of, LineFault, after_line, ended, is_blank, onto_last, program_from, IsExplained, ReadSoFar, ReadsLines, then_on}
 use Rattle.std.specs.Global.{Vec}
 use Rattle.jc_explore.specs.declared.program.Item.{Item}
 use Rattle.jc_litmus.specs.declared.line_error.LineError.{LineError}
-use Rattle.jc_litmus.specs.declared.line_error.LineError.TheVariants as errors
+use Rattle.jc_litmus.specs.declared.program.ProgramFault.{ProgramFault}
+use Rattle.jc_litmus.specs.declared.program.ProgramFault.TheVariants as program_fault
 use Rattle.jc_litmus.specs.LineResults.{ReadsAs}
 
 pub onto_the_last : (one : Item) (threads : List (List Item)) (last : List Item) → onto_last one (threads ++ last ∷ []) ≡ threads ++ (last ++ one ∷ []) ∷ []
@@ -39,12 +40,15 @@ next_line so_far new n text after rest cut read =
     at_line so_far n text after rest cut
     ∙ ap (λ (r : Result ReadSoFar LineFault). then_on n r (λ new. program_from new (n + 1) (pieces_of after))) read
 
-pub at_fault : (so_far new : ReadSoFar) (n : ℕ) (text after rest : List ℕ) (error : LineError) → pieces_of rest ≡ text ∷ pieces_of after
-    → ReadsAs {X = ReadSoFar} (Err error) (after_line so_far text) → ReadsLines (Err (fault_at n error)) new (program_from so_far n (pieces_of rest))
-at_fault so_far new n text after rest errors.Memory cut read = tt
-at_fault so_far new n text after rest (errors.Fault fault) cut read =
+pub at_fault : (so_far new : ReadSoFar) (n : ℕ) (text after rest : List ℕ) (error : LineError) (old notes : List ℕ) (result : ProgramFault)
+    → pieces_of rest ≡ text ∷ pieces_of after → ReadsAs {X = ReadSoFar} (Err error) (after_line so_far text) → IsExplained new.threads n text error old notes result
+    → ReadsLines (Err result) new (program_from so_far n (pieces_of rest))
+at_fault so_far new n text after rest error old notes program_fault.OutOfMemory cut read is = tt
+at_fault so_far new n text after rest error old notes (program_fault.Line at fault) cut read is =
+    let failed : after_line so_far text ≡ Err fault = rw is.0 at read in
     at_line so_far n text after rest cut
-    ∙ ap (λ (r : Result ReadSoFar LineFault). then_on n r (λ new. program_from new (n + 1) (pieces_of after))) read
+    ∙ ap (λ (r : Result ReadSoFar LineFault). then_on n r (λ new. program_from new (n + 1) (pieces_of after))) failed
+    ∙ ap (λ (k : ℕ). Err (k, fault)) (sym is.1)
 
 pub last_line : (so_far : ReadSoFar) (n : ℕ) (rest : List ℕ) → pieces_of rest ≡ rest ∷ [] → program_from so_far n (pieces_of rest) ≡ ended so_far n (is_blank rest)
 last_line so_far n rest uncut = ap (λ (x : List (List ℕ)). program_from so_far n x) uncut

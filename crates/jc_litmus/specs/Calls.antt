@@ -1,12 +1,12 @@
 -- The calls of a program, by the numbers with which an expectation names them.
---     answered       the kind of replies of a call; a write of another program isn't answered
---     is_call        an item is a call, and no write of another program
---     named_or       a call's place among its thread's calls, and its kind of replies, if it has replies
---     answered_at    the kind of replies of an item, if there is one
---     call_in        a call of a thread: its place among the thread's calls, and its kind of replies
---     place_of       the place of a number that counts from 1
---     call_at        the call at a place of a thread, if there is such a thread
---     call_named     the call with these numbers of its thread and of its item, which count from 1
+--     item_reply_kind    the kind of replies of a call; a write of another program isn't answered
+--     is_call            an item is a call, and no write of another program
+--     named_or           a call's place among its thread's calls, and its kind of replies, if it has replies
+--     reply_kind_at      the kind of replies of an item, if there is one
+--     call_in            a call of a thread: its place among the thread's calls, and its kind of replies
+--     place_of           the place of a number that counts from 1
+--     call_at            the call at a place of a thread, if there is such a thread
+--     call_named         the call with these numbers of its thread and of its item, which count from 1
 use Rattle.std.specs.Prelude.{ℕ, zero, suc, List, take, count_by, slice_get, Bool, true, false, Option, None, Some, Result, Ok, Err}
 use Rattle.jc_model.specs.declared.event.Op.TheVariants.{Invoke}
 use Rattle.jc_explore.specs.declared.program.Item.{Item}
@@ -18,10 +18,10 @@ use Rattle.jc_litmus.specs.declared.calls.Named.{Named}
 use Rattle.jc_litmus.specs.ReplyWords.{reply_kind}
 use Rattle.jc_litmus.specs.Then.{◌>>=◌}
 
-abbrev pub answered : Item → Option ReplyKind
-answered (item.Call op key) = Some (reply_kind op)
-answered (item.Invoke key calls) = Some (reply_kind Invoke)
-answered (item.Foreign key value) = None
+abbrev pub item_reply_kind : Item → Option ReplyKind
+item_reply_kind (item.Call op key) = Some (reply_kind op)
+item_reply_kind (item.Invoke key calls) = Some (reply_kind Invoke)
+item_reply_kind (item.Foreign key value) = None
 
 abbrev pub is_call : Item → Bool
 is_call (item.Call op key) = true
@@ -32,12 +32,12 @@ abbrev pub named_or : ℕ → Option ReplyKind → Result (ℕ × ReplyKind) Lin
 named_or call None = Err NoSuchItem
 named_or call (Some kind) = Ok (call, kind)
 
-abbrev pub answered_at : Option Item → Option ReplyKind
-answered_at None = None
-answered_at (Some one) = answered one
+abbrev pub reply_kind_at : Option Item → Option ReplyKind
+reply_kind_at None = None
+reply_kind_at (Some one) = item_reply_kind one
 
 abbrev pub call_in : List Item → ℕ → Result (ℕ × ReplyKind) LineFault
-call_in items at = named_or (count_by is_call (take at items)) (answered_at (slice_get items at))
+call_in items at = named_or (count_by is_call (take at items)) (reply_kind_at (slice_get items at))
 
 abbrev pub place_of : ℕ → Result ℕ LineFault
 place_of zero = Err NoSuchItem

@@ -9,11 +9,12 @@
 --     plain_calls, act_calls, line_calls, calls_of_text    the calls of an entry processor that fails neither by itself nor by
 --                                           its loader, from its run, from what happens next to a call, from a line, and from its
 --                                           text
+--     is_outside                            a word names one who is outside the cache
 --     failing_named                         the partner that may fail, and how, from the words that name it
 --     with_number, may_fail_so, may_fail    the partner that may fail, and with which code, from the words of a line
 --     with_fault                            the faults that may happen, with one more
 --     quantifier_named                      the number of outcomes that an expectation is about
-use Rattle.std.specs.Prelude.{ℕ, List, [], ◌∷◌, ◌++◌, codes, ◌&&◌, Option, None, Some, Result, Ok, Err, if◌then◌else◌}
+use Rattle.std.specs.Prelude.{ℕ, List, [], ◌∷◌, ◌++◌, codes, Bool, ◌&&◌, ◌||◌, Option, None, Some, Result, Ok, Err, if◌then◌else◌}
 use Rattle.std.specs.Str.{bytes_eq}
 use Rattle.jc_model.specs.declared.processor.EntryCall.{EntryCall}
 use Rattle.jc_world.specs.declared.process.LoadSource.{LoadSource}
@@ -78,6 +79,9 @@ line_calls other = Err (Script BadLine)
 
 abbrev pub calls_of_text : List ℕ → Result (List EntryCall) LineFault
 calls_of_text text = made_line text >>= λ l. line_calls l
+
+abbrev pub is_outside : List ℕ → Bool
+is_outside word = bytes_eq word (codes "loader") || bytes_eq word (codes "writer") || bytes_eq word (codes "processor")
 
 abbrev pub failing_named : List ℕ → List ℕ → Option WhoFails
 failing_named who how =

@@ -14,4 +14,7 @@ pub mod Spaced
 pub mod Witness
 pub mod Outcomes
 pub mod Meaning
+pub mod FaultWords
+pub mod Explanations
+pub mod UnknownValues
 pub mod Running

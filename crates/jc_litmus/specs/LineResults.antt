@@ -1,6 +1,7 @@
 -- The result of a function that reads a line.
---     error_of    an error of a script's reader, as one of a program's
---     ReadsAs     a function returned what the definition states, unless an allocation failed
+--     error_of        an error of a script's reader, as one of a program's
+--     ReadsAs         a function returned what the definition states, unless an allocation failed
+--     KeepsAtFault    at a fault nothing has changed
 use Rattle.std.specs.Prelude.{◌≡◌, Result, Ok, Err}
 use Rattle.jc_text.specs.declared.fault.ReadError.{ReadError}
 use Rattle.jc_text.specs.declared.fault.ReadError.TheVariants as script
@@ -17,3 +18,8 @@ abbrev pub ReadsAs : {X : Type 0} → Result X LineError → Result X LineFault 
 ReadsAs (Ok x) said = said ≡ Ok x
 ReadsAs (Err errors.Memory) said = Unit {0}
 ReadsAs (Err (errors.Fault fault)) said = said ≡ Err fault
+
+abbrev pub KeepsAtFault : {X Y : Type 0} → (old new : X) → Result Y LineError → Type 0
+KeepsAtFault old new (Ok y) = Unit {0}
+KeepsAtFault old new (Err errors.Memory) = Unit {0}
+KeepsAtFault old new (Err (errors.Fault fault)) = new ≡ old

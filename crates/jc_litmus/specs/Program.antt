@@ -14,7 +14,6 @@
 --     invocation_of, invocation, after_invoke    an entry processor on a key, with its calls
 --     after_failing                          a fault that may happen
 --     with_expected, after_expect            an expectation about the items above it
---     is_outside                             a word names one who is outside the cache
 --     after_own_line, after_words, after_other_line    a line that no script has, by its first word, from its words, and if no
 --                                            word is empty
 --     after_fault, after_read, after_line    a line that no script has, a line as scripts read it, and the bytes of a line
@@ -28,9 +27,8 @@
 --     then_on                                what follows a line, or its fault
 --     program_from                           the program of the lines from a number on, or the first line at fault, and its fault
 --     program_of                             the program of a text, whose lines are the pieces between its line feeds
---     fault_at                               an error of the line with a number
 --     ReadsLines, ReadsProgram               the result of reading a text is that of `program_of`, unless an allocation failed
-use Rattle.std.specs.Prelude.{◌≡◌, ℕ, ◌+◌, List, [], ◌∷◌, ◌++◌, length, map, codes, Bool, true, false, ◌||◌, nat_lt, Option, None, Some, Result, Ok, Err, if◌then◌else◌}
+use Rattle.std.specs.Prelude.{◌≡◌, ℕ, ◌+◌, List, [], ◌∷◌, ◌++◌, length, map, codes, Bool, true, false, nat_lt, Option, None, Some, Result, Ok, Err, if◌then◌else◌}
 use Rattle.std.specs.Str.{bytes_eq}
 use Rattle.std.specs.List.{flat_map}
 use Rattle.jc_types.specs.declared.config.Config.{Config}
@@ -47,8 +45,6 @@ use Rattle.jc_text.specs.declared.read.line.Line.TheVariants as line
 use Rattle.jc_text.specs.Words.{key_of, words_of}
 use Rattle.jc_text.specs.Lines.{are_words, read_line}
 use Rattle.jc_text.specs.Pieces.{pieces_of}
-use Rattle.jc_litmus.specs.declared.line_error.LineError.{LineError}
-use Rattle.jc_litmus.specs.declared.line_error.LineError.TheVariants as errors
 use Rattle.jc_litmus.specs.declared.program.TheConstants.{ITEMS_MAX, THREADS_MAX}
 use Rattle.jc_litmus.specs.declared.program.Atom.{Atom}
 use Rattle.jc_litmus.specs.declared.program.Expectation.{Expectation}
@@ -59,7 +55,7 @@ use Rattle.jc_litmus.specs.declared.program.ProgramFault.{ProgramFault}
 use Rattle.jc_litmus.specs.declared.program.ProgramFault.TheVariants as program_fault
 use Rattle.jc_litmus.specs.declared.program.Quantifier.{Quantifier}
 use Rattle.jc_litmus.specs.Atoms.{are_atoms, atoms_from, in_script}
-use Rattle.jc_litmus.specs.Grammar.{after_space, begin_line, calls_of_text, may_fail, operation_in, process_text, quantifier_named, with_fault}
+use Rattle.jc_litmus.specs.Grammar.{after_space, begin_line, calls_of_text, is_outside, may_fail, operation_in, process_text, quantifier_named, with_fault}
 use Rattle.jc_litmus.specs.Opened.{shape_fault}
 use Rattle.jc_litmus.specs.Then.{◌>>=◌}
 
@@ -171,9 +167,6 @@ after_expect so_far quantifier text words =
     then if_open so_far.config (atoms_from so_far.threads [] words >>= λ atoms. Ok (with_expected so_far quantifier text atoms))
     else Err (Script BadLine)
 
-abbrev pub is_outside : List ℕ → Bool
-is_outside word = bytes_eq word (codes "loader") || bytes_eq word (codes "writer") || bytes_eq word (codes "processor")
-
 unfoldable pub after_own_line : ReadSoFar → List ℕ → List ℕ → List (List ℕ) → Option Quantifier → Result ReadSoFar LineFault
 after_own_line so_far text first words (Some quantifier) = after_expect so_far quantifier text words
 after_own_line so_far text first words None =
@@ -260,10 +253,6 @@ abbrev pub program_of : List ℕ → Result ProgramValue (ℕ × LineFault)
 program_of text = program_from nothing_read 1 (pieces_of text)
 
 -- 6. The results of the functions.
-
-abbrev pub fault_at : ℕ → LineError → ProgramFault
-fault_at number errors.Memory = program_fault.OutOfMemory
-fault_at number (errors.Fault fault) = program_fault.Line number fault
 
 -- by the place where the lines end, whether the last one has a line feed, and the parts that were read
 abbrev pub ReadsLines : Result (ℕ × Bool) ProgramFault → ReadSoFar → Result ProgramValue (ℕ × LineFault) → Type 0

@@ -112,7 +112,7 @@ fn pair_of(threads: &[Vec<Item>], what: &[u8], says: &[u8]) -> Result<Atom, Line
 }
 
 /// The atom of a word, about an outcome of these threads.
-fn atom_of(threads: &[Vec<Item>], word: &[u8]) -> Result<Atom, LineFault>
+pub(crate) fn atom_of(threads: &[Vec<Item>], word: &[u8]) -> Result<Atom, LineFault>
     ensures { result ≡ atom_of (map (λ t. t.items) threads.now) word.now }
 {
     if is(word, "coherent") {
@@ -135,7 +135,7 @@ fn is_about(what: &[u8]) -> bool
 }
 
 /// Whether a word has the shape of an atom.
-fn is_atom(word: &[u8]) -> bool
+pub(crate) fn is_atom(word: &[u8]) -> bool
     ensures { result ≡ is_atom word.now }
 {
     if is(word, "coherent") || is(word, "differs") {

@@ -1,6 +1,6 @@
 //! The calls of a program, by the numbers with which an expectation names them.
 ghost use Rattle.std.specs.Prelude.{◌≡◌, count_by, map, take, slice_get};
-ghost use Rattle.jc_litmus.specs.Calls.{answered, is_call, answered_at, call_in, place_of, call_at, call_named};
+ghost use Rattle.jc_litmus.specs.Calls.{item_reply_kind, is_call, reply_kind_at, call_in, place_of, call_at, call_named};
 
 use crate::program::LineFault;
 use crate::reply_words::{ReplyKind, reply_kind};
@@ -8,8 +8,8 @@ use jc_explore::Item;
 use jc_model::Op;
 
 /// The kind of replies of a call. A write of another program isn't answered.
-fn answered(item: &Item) -> Option<ReplyKind>
-    ensures { result ≡ answered item.now }
+fn item_reply_kind(item: &Item) -> Option<ReplyKind>
+    ensures { result ≡ item_reply_kind item.now }
 {
     match item {
         Item::Call { op, .. } => Some(reply_kind(op)),
@@ -36,7 +36,7 @@ fn calls_in(items: &[Item]) -> usize
 }
 
 /// The first `count` items, or all if there are fewer.
-fn front(items: &[Item], count: usize) -> &[Item]
+fn first_items(items: &[Item], count: usize) -> &[Item]
     ensures { result.now ≡ take count items.now }
 {
     if items.len() < count {
@@ -47,12 +47,12 @@ fn front(items: &[Item], count: usize) -> &[Item]
 }
 
 /// The kind of replies of the item at a place, if it is there and is a call.
-fn answered_at(items: &[Item], at: usize) -> Option<ReplyKind>
-    ensures { result ≡ answered_at (slice_get items.now at) }
+fn reply_kind_at(items: &[Item], at: usize) -> Option<ReplyKind>
+    ensures { result ≡ reply_kind_at (slice_get items.now at) }
 {
     match items.get(at) {
         None => None,
-        Some(item) => answered(item),
+        Some(item) => item_reply_kind(item),
     }
 }
 
@@ -60,9 +60,9 @@ fn answered_at(items: &[Item], at: usize) -> Option<ReplyKind>
 fn call_in(items: &[Item], at: usize) -> Result<(usize, ReplyKind), LineFault>
     ensures { result ≡ call_in items.now at }
 {
-    match answered_at(items, at) {
+    match reply_kind_at(items, at) {
         None => Err(LineFault::NoSuchItem),
-        Some(kind) => Ok((calls_in(front(items, at)), kind)),
+        Some(kind) => Ok((calls_in(first_items(items, at)), kind)),
     }
 }
 

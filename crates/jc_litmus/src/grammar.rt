@@ -4,7 +4,7 @@ ghost use Rattle.std.specs.List.{flat_map};
 ghost use Rattle.jc_text.specs.Lines.{ok_with};
 ghost use Rattle.jc_litmus.specs.LineResults.{ReadsAs};
 ghost use Rattle.jc_litmus.specs.Grammar.{after_space, begin_line, begin_words, process_text, made_line, operation_in, plain_calls, act_calls, line_calls, calls_of_text};
-ghost use Rattle.jc_litmus.specs.Grammar.{failing_named, may_fail, with_fault, quantifier_named};
+ghost use Rattle.jc_litmus.specs.Grammar.{failing_named, is_outside, may_fail, with_fault, quantifier_named};
 
 use crate::line_error::LineError;
 use crate::program::{LineFault, Quantifier};
@@ -154,6 +154,13 @@ pub(crate) fn entry_calls(
     line_calls(alloc, line)
 }
 
+/// Whether a word names the loader, the writer or the processor.
+pub(crate) fn is_outside(word: &[u8]) -> bool
+    ensures { result ≡ is_outside word.now }
+{
+    is(word, "loader") || is(word, "writer") || is(word, "processor")
+}
+
 /// The partner that may fail, and how.
 #[derive(Clone, Copy)]
 pub(crate) enum WhoFails {
@@ -168,7 +175,7 @@ pub(crate) enum WhoFails {
 }
 
 /// The partner that may fail, and how, from the words that name it.
-fn failing_named(who: &[u8], how: &[u8]) -> Option<WhoFails>
+pub(crate) fn failing_named(who: &[u8], how: &[u8]) -> Option<WhoFails>
     ensures { result ≡ failing_named who.now how.now }
 {
     match who {

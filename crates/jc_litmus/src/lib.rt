@@ -5,6 +5,8 @@
 mod answer;
 mod atoms;
 mod calls;
+mod explanation;
+mod fault_word;
 mod grammar;
 mod judge;
 pub mod laws;
@@ -15,6 +17,7 @@ mod reading;
 mod reply_words;
 pub mod run;
 mod spelling;
+mod unknown_values;
 mod witness;
 mod word_parts;
 

@@ -1,17 +1,21 @@
 //! A program, read line by line.
-ghost use Rattle.std.specs.Prelude.{◌≡◌, ◌≤◌, ◌<◌, ◌+◌, ◌++◌, ◌∷◌, [], true, Ok, None, Some, MatchOption, length, map, is_ok, IfOk, IfSome, OnOk};
+ghost use Rattle.std.specs.Prelude.{◌≡◌, ◌≤◌, ◌<◌, ◌+◌, ◌++◌, ◌∷◌, [], true, Ok, None, Some, MatchOption, length, map, is_ok, IfOk, IfSome, OnErr, OnOk};
 ghost use Rattle.jc_types.specs.Limits.{check};
 ghost use Rattle.jc_text.specs.Lines.{ok_with};
 ghost use Rattle.jc_litmus.specs.Opened.{shape_fault};
-ghost use Rattle.jc_litmus.specs.LineResults.{ReadsAs};
-ghost use Rattle.jc_litmus.specs.Program.{after_item, after_open, after_set, expected, fault_at, if_open, is_blank, may_add, nothing_read, onto_last};
+ghost use Rattle.jc_litmus.specs.LineResults.{KeepsAtFault, ReadsAs};
+ghost use Rattle.jc_litmus.specs.Program.{after_item, after_open, after_set, expected, if_open, is_blank, may_add, nothing_read, onto_last};
 ghost use Rattle.jc_litmus.specs.Program.{program_from, program_of, program_read, value_of_program, ReadsLines, ReadsProgram};
+ghost use Rattle.jc_litmus.specs.Explanations.{IsExplained, ExplainsLines, ExplainsProgram, explanation_from, explanation_of};
 ghost use Rattle.jc_text.specs.Pieces.{pieces_of};
 ghost use Rattle.jc_litmus.specs.declared.program.TheConstants.{THREADS_MAX, ITEMS_MAX};
 ghost use Rattle.jc_explore.specs.declared.program.Item.TheVariants as items;
+ghost use Rattle.jc_litmus.specs.declared.line_error.LineError.TheVariants as errors;
+ghost use Rattle.jc_litmus.specs.declared.program.LineFault.TheVariants as faults;
 
 mod lines;
 
+use crate::explanation::note_error;
 use crate::line_error::LineError;
 use crate::program::{Expectation, ITEMS_MAX, LineFault, Litmus, ProgramFault, THREADS_MAX};
 use jc_explore::{Faults, Item, Program};
@@ -158,7 +162,8 @@ impl ProgramParts {
     /// Takes the shape of the cache.
     #[tactic(auto, unfolding(crate::specs::Program::after_open))]
     fn open(&mut self, config: &Config) -> Result<(), LineFault>
-        ensures { ok_with self.new result ≡ after_open self.old config.now }
+        ensures opened { ok_with self.new result ≡ after_open self.old config.now }
+        ensures kept { OnErr result (self.new ≡ self.old) }
     {
         if self.config.is_some() {
             return Err(LineFault::Script(Fault::OpenTwice));
@@ -175,7 +180,8 @@ impl ProgramParts {
     /// Adds an entry of the store.
     #[tactic(auto, unfolding(crate::specs::Program::after_set))]
     fn set(&mut self, key: &Key, value: &Value) -> Result<(), LineError>
-        ensures { ReadsAs (ok_with self.new result) (after_set self.old key.now value.now) }
+        ensures read { ReadsAs (ok_with self.new result) (after_set self.old key.now value.now) }
+        ensures kept { KeepsAtFault self.old self.new result }
     {
         self.check_open()?;
         if !self.threads.is_empty() {
@@ -188,7 +194,8 @@ impl ProgramParts {
     /// Adds an item to the last thread.
     #[tactic(auto, unfolding(crate::specs::Program::after_item))]
     fn add(&mut self, item: Item) -> Result<(), LineError>
-        ensures { ReadsAs (ok_with self.new result) (after_item self.old item) }
+        ensures read { ReadsAs (ok_with self.new result) (after_item self.old item) }
+        ensures kept { KeepsAtFault self.old self.new result }
     {
         self.check_item()?;
         push_item(&mut self.threads, item)?;
@@ -198,10 +205,25 @@ impl ProgramParts {
 
     /// Adds a write of another program.
     fn foreign(&mut self, key: &Key, value: &Option<Value>) -> Result<(), LineError>
-        ensures { ReadsAs (ok_with self.new result) (after_item self.old (items.Foreign key.now value.now)) }
+        ensures read { ReadsAs (ok_with self.new result) (after_item self.old (items.Foreign key.now value.now)) }
+        ensures kept { KeepsAtFault self.old self.new result }
     {
         let (key, value) = (*key, *value);
         self.add(Item::Foreign { key, value })
+    }
+
+    /// Notes where an error of the line after these is, if it is a fault, and returns it.
+    fn note_error(
+        &self,
+        alloc: Global,
+        notes: &mut Vec<u8>,
+        number: u64,
+        text: &[u8],
+        error: LineError,
+    ) -> ProgramFault
+        ensures { IsExplained self.now.threads number text.now error notes.old.items notes.new.items result }
+    {
+        note_error(alloc, notes, &self.threads, number, text, error)
     }
 
     /// The program, or none if the cache's shape wasn't read.
@@ -243,31 +265,24 @@ fn is_blank(bytes: &[u8]) -> bool
     }
 }
 
-fn fault_at(number: u64, error: LineError) -> ProgramFault
-    ensures { result ≡ fault_at number error }
-{
-    match error {
-        LineError::Memory => ProgramFault::OutOfMemory,
-        LineError::Fault(fault) => ProgramFault::Line(number, fault),
-    }
-}
-
-/// Reads each line that ends in a line feed. It returns the number of the next line, and the bytes that are left: those of a line
-/// without a line feed.
+/// Reads each line that ends in a line feed. It returns the number of the next line, and whether no bytes are left, which would be
+/// those of a line without a line feed. At a fault `notes` gets where it is.
 fn read_lines<'a>(
     alloc: Global,
     input: &'a [u8],
     reading: &mut ProgramParts,
-    room: &mut ReadBuffers<'a>,
+    buffers: &mut ReadBuffers<'a>,
+    notes: &mut Vec<u8>,
 ) -> Result<(u64, bool), ProgramFault>
-    ensures { ReadsLines result reading.new (program_from reading.old 1 (pieces_of input.now)) }
+    ensures program { ReadsLines result reading.new (program_from reading.old 1 (pieces_of input.now)) }
+    ensures notes { ExplainsLines result reading.new notes.old.items notes.new.items (explanation_from reading.old 1 (pieces_of input.now)) }
 {
     let mut rest = input;
     let mut number: u64 = 1;
     while let Some((text, after)) = first_line(rest) {
-        match reading.read_line(alloc, text, room) {
+        match reading.read_line(alloc, text, buffers) {
             Ok(()) => {}
-            Err(error) => return Err(fault_at(number, error)),
+            Err(error) => return Err(reading.note_error(alloc, notes, number, text, error)),
         }
         rest = after;
         number += 1;
@@ -280,29 +295,45 @@ fn read_all_lines(
     alloc: Global,
     input: &[u8],
     reading: &mut ProgramParts,
+    notes: &mut Vec<u8>,
 ) -> Result<(u64, bool), ProgramFault>
-    ensures { ReadsLines result reading.new (program_from reading.old 1 (pieces_of input.now)) }
+    ensures program { ReadsLines result reading.new (program_from reading.old 1 (pieces_of input.now)) }
+    ensures notes { ExplainsLines result reading.new notes.old.items notes.new.items (explanation_from reading.old 1 (pieces_of input.now)) }
 {
-    let mut room = ReadBuffers {
+    let mut buffers = ReadBuffers {
         words: Vec::new(alloc),
         line: Line::Audit,
     };
-    read_lines(alloc, input, reading, &mut room)
+    read_lines(alloc, input, reading, &mut buffers, notes)
 }
 
-/// Reads a program, up to the first line with a fault. A program without an `open` has its fault at the line after its last.
-pub(crate) fn read_program(alloc: Global, input: &[u8]) -> Result<Litmus, ProgramFault>
+/// Notes a fault that no line has, at the end of a text, and returns it.
+fn note_fault_at_end(alloc: Global, notes: &mut Vec<u8>, number: u64, fault: Fault) -> ProgramFault
+    ensures { IsExplained [] number [] (errors.Fault (faults.Script fault)) notes.old.items notes.new.items result }
+{
+    let error = LineError::Fault(LineFault::Script(fault));
+    note_error(alloc, notes, &[], number, &[], error)
+}
+
+/// Reads a program, up to the first line with a fault. A program without an `open` has its fault at the line after its last. At a
+/// fault one line more is put at the end of `notes`: where it is.
+pub(crate) fn read_program(
+    alloc: Global,
+    input: &[u8],
+    notes: &mut Vec<u8>,
+) -> Result<Litmus, ProgramFault>
     ensures program { ReadsProgram result (program_of input.now) }
+    ensures notes { ExplainsProgram result notes.old.items notes.new.items (explanation_of input.now) }
     ensures fits { IfOk result (λ litmus.
         (is_ok (check litmus.program.config) ≡ true) × (length litmus.program.threads.items ≤ THREADS_MAX)) }
 {
     let mut reading = ProgramParts::new(alloc);
-    let (number, ended) = read_all_lines(alloc, input, &mut reading)?;
+    let (number, ended) = read_all_lines(alloc, input, &mut reading, notes)?;
     if !ended {
-        return Err(ProgramFault::Line(number, LineFault::Script(Fault::CutLine)));
+        return Err(note_fault_at_end(alloc, notes, number, Fault::CutLine));
     }
     match reading.finish() {
         Some(litmus) => Ok(litmus),
-        None => Err(ProgramFault::Line(number, LineFault::Script(Fault::NotOpen))),
+        None => Err(note_fault_at_end(alloc, notes, number, Fault::NotOpen)),
     }
 }

@@ -1,14 +1,16 @@
 //! The run of a program, from the bytes that are read to the bytes that are written.
-ghost use Rattle.std.specs.Prelude.{◌≡◌, ◌≢◌, ◌↔◌, true, false, ◌<◌, length, IfOk, IfErr, IfSome};
+ghost use Rattle.std.specs.Prelude.{◌≡◌, ◌≢◌, ◌↔◌, true, false, ◌<◌, ◌++◌, ℕ, List, length, IfOk, IfErr, IfSome, OnOk};
 ghost use Rattle.jc_litmus.specs.Judging.{end_of};
 ghost use Rattle.jc_litmus.specs.Outcomes.{exploration_text};
 ghost use Rattle.jc_explore.specs.Search.{HasExplored};
+ghost use Rattle.jc_litmus.specs.UnknownValues.{warnings_text};
 ghost use Rattle.jc_litmus.specs.Running.{AnswersProgram, BreaksOffExploration, IsProgramAnswer, RunsExploration};
 
 use crate::answer::{answer, complaint};
 use crate::judge::end_of;
 use crate::program::{Litmus, ProgramFault};
 use crate::reading::read_program;
+use crate::unknown_values::put_warnings;
 use jc_explore::{Explored, Watch, explore};
 use jc_text::Noted;
 use jc_text::input::{InputFault, read_all, write_out};
@@ -97,17 +99,28 @@ fn answer_to_read<H: Watch>(
     }
 }
 
-/// The answer to a program's text.
-fn answered<H: Watch>(
+/// Notes the values of expectations that no line of the program sets or writes.
+fn warn_of(litmus: &Litmus, notes: &mut Vec<u8>) -> Result<(), AllocError>
+    ensures { OnOk result (notes.new.items ≡ notes.old.items ++ warnings_text litmus.now.program litmus.now.expectations.items) }
+{
+    put_warnings(notes, &litmus.program, &litmus.expectations)
+}
+
+/// The answer to a program's text. `notes` gets what is to be said of it.
+fn answer_to_input<H: Watch>(
     alloc: Global,
     input: &[u8],
     states: usize,
     watch: &mut H,
+    notes: &mut Vec<u8>,
 ) -> Result<(Vec<u8>, LitmusEnd), AllocError>
-    ensures { IfOk result (λ r. AnswersProgram states input.now r.0.items r.1) }
+    ensures { IfOk result (λ r. (said : List ℕ) × AnswersProgram states input.now r.0.items said r.1 × (notes.new.items ≡ notes.old.items ++ said)) }
 {
-    match read_program(alloc, input) {
-        Ok(litmus) => answer_to_read(alloc, &litmus, states, watch),
+    match read_program(alloc, input, notes) {
+        Ok(litmus) => {
+            warn_of(&litmus, notes)?;
+            answer_to_read(alloc, &litmus, states, watch)
+        }
         Err(ProgramFault::OutOfMemory) => Err(AllocError),
         Err(ProgramFault::Line(line, fault)) => {
             Ok((complaint(alloc, line, fault)?, LitmusEnd::LineFault))
@@ -117,15 +130,21 @@ fn answered<H: Watch>(
 
 /// Reads a program to its end, explores it, and writes the answer, which is complete before the first write. `watch` is told the
 /// progress of the search, and that it is over before anything is written.
+///
+/// Lines for people are put at the end of `notes`: of a line with a fault its number, the column if there is one, and what is wrong
+/// there; of a program without one each value in an expectation that no line of the program sets or writes. After an error there may
+/// be such lines, too.
 pub fn run<R: Read, W: Write, H: Watch>(
     alloc: Global,
     reader: &mut Noted<R>,
     writer: &mut Noted<W>,
     states: usize,
     watch: &mut H,
+    notes: &mut Vec<u8>,
 ) -> Result<LitmusEnd, LitmusFault>
-    // The bytes written are the answer to the bytes read.
-    ensures ran { IfOk result (λ end. RunsExploration states (R.remaining reader.old.inner) (R.remaining reader.new.inner) (W.contents writer.old.inner) (W.contents writer.new.inner) end) }
+    // The bytes written are the answer to the bytes read, and the notes say where its fault is, or which values are unknown.
+    ensures ran { IfOk result (λ end. RunsExploration states (R.remaining reader.old.inner) (R.remaining reader.new.inner) (W.contents writer.old.inner)
+        (W.contents writer.new.inner) notes.old.items notes.new.items end) }
     // After a failed write they are a prefix of it.
     ensures broke { result ≡ Err LitmusFault.Write → BreaksOffExploration states (R.remaining reader.old.inner) (R.remaining reader.new.inner) (W.contents writer.old.inner) (W.contents writer.new.inner) }
     // Any other fault writes nothing.
@@ -142,7 +161,7 @@ pub fn run<R: Read, W: Write, H: Watch>(
         Err(InputFault::TooLong) => return Err(LitmusFault::TooLong),
         Err(InputFault::OutOfMemory) => return Err(LitmusFault::OutOfMemory),
     };
-    let (out, end) = match answered(alloc, &input, states, watch) {
+    let (out, end) = match answer_to_input(alloc, &input, states, watch, notes) {
         Ok(made) => made,
         Err(_) => return Err(LitmusFault::OutOfMemory),
     };

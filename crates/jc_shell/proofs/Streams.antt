@@ -1,5 +1,5 @@
 -- What was read, answered and written, one part after another.
-use Rattle.jc_shell.proofs.Common.{◌≡◌, ◌-◌, ◌+◌, ℕ, List, [], ◌∷◌, ◌++◌, length, drop, Option, None, Some, Result, Ok, Err, OnOk, IfErr, inl, inr, ◌⊎◌, false, refl, sym, ap, ◌∙◌, append_assoc, append-nil, arith, drop-append_seam, take-append-add, take-length, flat_map-append, length-append, take-append-le, Appends, Consumes, IsAtEnd, codes, Read, TooLong, OutOfMemory, Write, OpenedWorld, Holds, LateCalls, Calls, SaveCall, Accepted, AnswersLine, AreAnswered, has_feed, nobody, script_of, appends-then}
+use Rattle.jc_shell.proofs.Common.{◌≡◌, ◌-◌, ◌+◌, ℕ, List, [], ◌∷◌, ◌++◌, length, drop, Option, None, Some, Result, Ok, Err, OnOk, IfErr, inl, inr, ◌⊎◌, false, refl, sym, ap, ◌∙◌, append_assoc, append-nil, arith, drop-append_seam, take-append-add, take-length, flat_map-append, length-append, take-append-le, Appends, Consumes, IsAtEnd, BeginsWithQuit, Read, TooLong, OutOfMemory, Write, OpenedWorld, Holds, LateCalls, Calls, SaveCall, Accepted, AnswersLine, AreAnswered, has_feed, nobody, script_of, appends-then}
 use Rattle.jc_shell.specs.declared.run.ShellFault.{ShellFault}
 use Rattle.jc_shell.specs.Running.{EndsDialogue, LastText, RunsDialogue, Stopped, WrittenBy}
 use Rattle.jc_shell.proofs.Turns.{calls_none, calls_then, script_more}
@@ -148,13 +148,13 @@ talked_next prompt before after later old new newer kept saved latest input byte
 -- ---- how a session ends
 
 pub ran_quit : (prompt : List ℕ) (before after later old new newer : Option (List ℕ)) (kept saved latest : Option (List SaveCall)) (input bytes grown : List ℕ) (at : ℕ)
-    (script : List ℕ) (count : ℕ) (world : OpenedWorld) (lines : List (List ℕ)) (answers : List ℕ) (more : List SaveCall) (rest others : List ℕ) (c : Accepted)
+    (script : List ℕ) (count : ℕ) (world : OpenedWorld) (lines : List (List ℕ)) (answers : List ℕ) (more : List SaveCall) (rest : List ℕ) (c : Accepted)
     → (t : Talked prompt before after old new kept saved input at script count world)
     → Consumes after later bytes → grown ≡ input ++ bytes
     → AreAnswered prompt t.b lines answers more c → drop at grown ≡ script_of lines ++ rest → Appends new newer answers → Calls saved latest more
-    → rest ≡ codes "quit" ++ 10 ∷ others
+    → BeginsWithQuit rest
     → RunsDialogue prompt before later old newer kept latest
-ran_quit prompt before after later old new newer kept saved latest input bytes grown at script count world lines answers more rest others c t read is are cut app sv quit =
+ran_quit prompt before after later old new newer kept saved latest input bytes grown at script count world lines answers more rest c t read is are cut app sv quit =
     let all = read_then grown (drop at grown) rest t.lines lines (all_of (script_of t.lines) t.rest bytes input grown at t.input_is t.at_is is) cut in
     let taken = consumes_then before after later input bytes t.read read in
     record {
@@ -166,7 +166,7 @@ ran_quit prompt before after later old new newer kept saved latest input bytes g
       accepted = c;
       read = rw (← all, is) taken;
       answered = answered_then prompt t.lines lines t.answers answers t.more more nobody t.b c t.answered are;
-      ends = inl (refl, (others, quit));
+      ends = inl (refl, quit);
       written = rw (append-nil (prompt ++ (t.answers ++ answers)), ← append_assoc prompt t.answers answers) (appends-then old new newer (prompt ++ t.answers) answers t.written app);
       saves = calls_then kept saved latest t.more more t.saves sv;
     }

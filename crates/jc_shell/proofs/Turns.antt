@@ -1,7 +1,5 @@
 -- Sessions: what is answered keeps to the transcript of the accepted lines.
-use Rattle.jc_shell.proofs.Common.{◌≡◌, ℕ, ◌+◌, Bool, true, cond, take, Option, List, [], ◌∷◌, ◌++◌, length, None, Some, false, refl, sym, ap, ◌∙◌, append_assoc, append-nil, inl, inr, flat_map-append, codes, word_of, length-append, OpenedWorld, Prints, IsTranscript, fault_of, Fault, Clean, LineFault, complaint, fault_line, Help, Quit, Save, Line, PlaysOn, Holds, SaveCall, Calls, SavesNothing, Accepted, AnswersWord, AreAnswered, IsLineAccepted, IsLineRejected, has_feed, next_line_number, nobody, script_of, with_accepted}
-use Rattle.std.proofs.lemmas.Slice.Eq.{bytes_eq-Decides}
-use Rattle.std.specs.Str.{bytes_eq}
+use Rattle.jc_shell.proofs.Common.{◌≡◌, ℕ, ◌+◌, Bool, true, cond, take, Option, List, [], ◌∷◌, ◌++◌, length, None, Some, false, refl, sym, ap, ◌∙◌, append_assoc, append-nil, inl, inr, flat_map-append, codes, drop, drop-append_seam, length-append, undone_text, OpenedWorld, Prints, IsTranscript, fault_of, Fault, Clean, LineFault, complaint, fault_line, Help, HelpOn, Quit, Save, Undo, Line, PlaysOn, Holds, SaveCall, Calls, SavesNothing, Accepted, AnswersWord, AreAnswered, IsLineAccepted, IsLineRejected, has_feed, next_line_number, nobody, script_of, with_accepted}
 use Rattle.jc_shell.specs.declared.words.Word.{Word}
 use Rattle.jc_shell.proofs.Lines.{at_fault, at_line}
 
@@ -12,8 +10,12 @@ IsShown a = IsTranscript (script_of a.lines) a.shown Clean
 
 after_word : (w : Word) (a : Accepted) (line answer : List ℕ) (saved : List SaveCall) (b : Accepted) → IsShown a → AnswersWord w a line answer saved b → IsShown b
 after_word Help a line answer saved b t (text, none, same) = rw same t
+after_word HelpOn a line answer saved b t (text, none, same) = rw same t
 after_word Quit a line answer saved b t h = absurd h
 after_word Save a line answer saved b t (is, same) = rw same t
+after_word Undo a line answer saved b t (none, inl (empty, said, same)) = rw same t
+after_word Undo a line answer saved b t (none, inr (inl (last, whole, is, shown, said))) = shown
+after_word Undo a line answer saved b t (none, inr (inr (stuck, said, same))) = rw same t
 after_word Line a line answer saved b t (none, inl (more, played)) = rw more played
 after_word Line a line answer saved b t (none, inr (same, told)) = rw same t
 
@@ -63,6 +65,25 @@ told a old line f whole goes fault =
     let at = goes (line ++ 10 ∷ []) (fault_line n f) (LineFault n) (at_fault old n line [] f whole fault) in
     (refl, (f, rw (← append-nil (script_of (a.lines ++ line ∷ [])), script_more a.lines line []) at, refl))
 
+pub nothing_of : {X : Type 0} (xs : List X) → length xs ≡ 0 → xs ≡ []
+nothing_of [] none = refl
+nothing_of (x ∷ xs) none = absurd cc
+
+-- a script whose first lines are accepted, after one line more
+pub next_script : (script : List ℕ) (a b : Accepted) (line answer rest after : List ℕ) → b ≡ with_accepted a line answer → script ≡ script_of a.lines ++ rest
+    → rest ≡ line ++ 10 ∷ after → script ≡ script_of b.lines ++ after
+next_script script a b line answer rest after more is cut =
+    is ∙ ap (λ (t : List ℕ). script_of a.lines ++ t) cut ∙ sym (script_more a.lines line after)
+    ∙ ap (λ (x : Accepted). script_of x.lines ++ after) (sym more)
+
+-- the text about the last line of a script, whose lines before it were played
+pub last_of : (first script second : List ℕ) (b : Accepted) (played_of last : List ℕ) (at : ℕ) → first ≡ script → second ≡ script → at ≡ length played_of
+    → played_of ≡ script_of b.lines → first ≡ script_of b.lines ++ (last ++ 10 ∷ []) → codes "undone " ++ drop at second ≡ undone_text last
+last_of first script second b played_of last at first_is second_is at_is played_is cut =
+    ap (λ (n : ℕ). codes "undone " ++ drop n second) (at_is ∙ ap length played_is)
+    ∙ ap (λ (t : List ℕ). codes "undone " ++ drop (length (script_of b.lines)) t) (second_is ∙ sym first_is ∙ cut)
+    ∙ ap (λ (t : List ℕ). codes "undone " ++ t) (drop-append_seam (script_of b.lines) (last ++ 10 ∷ []))
+
 -- ---- what a session has at hand
 
 pub kept : (a : Accepted) (old new : OpenedWorld) (line text script more : List ℕ) (count next : ℕ) → has_feed line ≡ false → Holds a script count old
@@ -90,15 +111,3 @@ calls_then None b c xs ys p q = tt
 calls_then (Some a) None c xs ys p q = absurd p
 calls_then (Some a) (Some b) None xs ys p q = absurd q
 calls_then (Some a) (Some b) (Some c) xs ys p q = q ∙ ap (λ (t : List SaveCall). t ++ ys) p ∙ append_assoc a xs ys
-
--- ---- the word that ends a session
-
-word_by : (help quit save : Bool) (line : List ℕ) → (quit ≡ true → line ≡ codes "quit")
-    → cond help Help (cond quit Quit (cond save Save Line)) ≡ Quit → line ≡ codes "quit"
-word_by true quit save line is e = absurd cc
-word_by false true save line is e = is refl
-word_by false false true line is e = absurd cc
-word_by false false false line is e = absurd cc
-
-pub quit_word : (line : List ℕ) → word_of line ≡ Quit → line ≡ codes "quit"
-quit_word line e = word_by (bytes_eq line (codes "help")) (bytes_eq line (codes "quit")) (bytes_eq (take 5 line) (codes "save ")) line (bytes_eq-Decides line (codes "quit")).0 e

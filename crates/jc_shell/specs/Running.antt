@@ -1,16 +1,17 @@
 -- Sessions over streams, from the bytes of a reader to the bytes of a writer.
---     prompt_end     a line feed, which ends the line of a prompt after which nothing was typed; none without prompts
---     cut_text       the text for the bytes after the last line feed: nothing if there are none, otherwise that the input cuts a
---                    line
---     LastText       both of them, at the end of the input
---     EndsDialogue   the end of a session: at a line `quit`, or at the end of the input, with such a text
---     WrittenBy      the part of a text that was written by an error: all of it, or a prefix if it was the writer's
---     RunsDialogue   the input was read up to the session's end, each line of it was answered, and the saver was called for each
---                    line that asked for it, and for no other
---     LateCalls      calls of the saver without an answer: refused ones, after which an allocation failed
---     Stopped        the same up to an error: the bytes that were read, and those of its lines that were answered, which are all
+--     prompt_end       a line feed, which ends the line of a prompt after which nothing was typed; none without prompts
+--     cut_text         the text for the bytes after the last line feed: nothing if there are none, otherwise that the input cuts a
+--                      line
+--     LastText         both of them, at the end of the input
+--     BeginsWithQuit   bytes begin with a line that ends a session
+--     EndsDialogue     the end of a session: at such a line, or at the end of the input, with such a text
+--     WrittenBy        the part of a text that was written by an error: all of it, or a prefix if it was the writer's
+--     RunsDialogue     the input was read up to the session's end, each line of it was answered, and the saver was called for each
+--                      line that asked for it, and for no other
+--     LateCalls        calls of the saver without an answer: refused ones, after which an allocation failed
+--     Stopped          the same up to an error: the bytes that were read, and those of its lines that were answered, which are all
 --                    of them if reading failed or the input is too long
-use Rattle.std.specs.Prelude.{◌≡◌, ◌≤◌, ◌⊎◌, ℕ, List, [], ◌∷◌, ◌++◌, codes, false, length, take, Option}
+use Rattle.std.specs.Prelude.{◌≡◌, ◌≤◌, ◌⊎◌, ℕ, List, [], ◌∷◌, ◌++◌, false, length, take, Option}
 use Rattle.std.specs.Io.KnownBytes.{Appends, Consumes, IsAtEnd}
 use Rattle.jc_text.specs.declared.fault.Fault.TheVariants.{CutLine}
 use Rattle.jc_text.specs.Places.{complaint}
@@ -18,6 +19,8 @@ use Rattle.jc_shell.specs.declared.run.ShellFault.{ShellFault}
 use Rattle.jc_shell.specs.declared.run.ShellFault.TheVariants.{OutOfMemory, Read, TooLong, Write}
 use Rattle.jc_shell.specs.Saving.{AreRefused, Calls, SaveCall}
 use Rattle.jc_shell.specs.Sessions.{Accepted, AreAnswered, has_feed, next_line_number, nobody, script_of}
+use Rattle.jc_shell.specs.ShellWords.{word_of}
+use Rattle.jc_shell.specs.declared.words.Word.TheVariants.{Quit}
 
 abbrev pub prompt_end : (prompt : List ℕ) → List ℕ
 prompt_end [] = []
@@ -30,10 +33,13 @@ cut_text number (b ∷ bs) = complaint number (b ∷ bs) CutLine
 abbrev pub LastText : (prompt : List ℕ) → Accepted → (last text : List ℕ) → Type 0
 LastText prompt a last text = text ≡ prompt_end prompt ++ cut_text (next_line_number a) last
 
+abbrev pub BeginsWithQuit : (rest : List ℕ) → Type 0
+BeginsWithQuit rest = (line : List ℕ) × (others : List ℕ) × (word_of line ≡ Quit) × (rest ≡ line ++ 10 ∷ others)
+
 -- after: the bytes that the reader has left; rest: those that were read and aren't answered
 abbrev pub EndsDialogue : (prompt : List ℕ) → Accepted → (rest text : List ℕ) (after : Option (List ℕ)) → Type 0
 EndsDialogue prompt a rest text after =
-    ((text ≡ []) × ((others : List ℕ) × (rest ≡ codes "quit" ++ 10 ∷ others)))
+    ((text ≡ []) × BeginsWithQuit rest)
     ⊎ ((has_feed rest ≡ false) × LastText prompt a rest text × IsAtEnd after)
 
 abbrev pub WrittenBy : ShellFault → (said written : List ℕ) → Type 0

@@ -11,6 +11,10 @@
 --                            answer tells it as the run of that script does, and the line isn't accepted
 --     IsSaved                the saver was called with a script and a name, and the answer says that it was saved, or shows the
 --                            reason for which this call was refused
+--     IsFront                the accepted lines are those of a script but its last one
+--     HasFaultNow            a prefix of a script has a transcript that ends with a fault: in another one memory was there, or wasn't
+--     IsUndone               the last accepted line is taken back, and those before it were played anew; or there is none; or one of
+--                            those before has a fault this time, and nothing changes
 --     AnswersWord            the answer to a line, by what it asks for
 --     AnswersLine            the answer to a line, by the line alone
 --     AreAnswered            lines one after another, each with its answer, and the prompt after that
@@ -23,9 +27,9 @@ use Rattle.jc_text.specs.Printing.{fault_line}
 use Rattle.jc_script.specs.declared.run.RunEnd.TheVariants.{Clean, LineFault}
 use Rattle.jc_script.specs.Transcript.{IsTranscript}
 use Rattle.jc_shell.specs.declared.words.Word.{Word}
-use Rattle.jc_shell.specs.declared.words.Word.TheVariants.{Help, Quit, Save, Line}
+use Rattle.jc_shell.specs.declared.words.Word.TheVariants.{Help, HelpOn, Quit, Save, Undo, Line}
 use Rattle.jc_shell.specs.Saving.{SaveCall}
-use Rattle.jc_shell.specs.ShellWords.{help_text, name_in, not_saved_text, saved_text, word_of}
+use Rattle.jc_shell.specs.ShellWords.{help_text, line_help, name_in, no_undo_text, not_saved_text, not_undone_text, saved_text, undone_text, word_of}
 
 -- 1. The accepted lines.
 
@@ -68,11 +72,30 @@ IsSaved script name answer calls =
     ((answer ≡ saved_text name) × (calls ≡ record { name = name; script = script; refusal = None } ∷ []))
     ⊎ ((why : List ℕ) × (answer ≡ not_saved_text name why) × (calls ≡ record { name = name; script = script; refusal = Some why } ∷ []))
 
+abbrev pub IsFront : Accepted → (script : List ℕ) → Type 0
+IsFront b script = (last : List ℕ) × (has_feed last ≡ false) × (script ≡ script_of b.lines ++ (last ++ 10 ∷ []))
+
+abbrev pub HasFaultNow : (script : List ℕ) → Type 0
+HasFaultNow script =
+    (lines : List (List ℕ)) × (line : List ℕ) × (others : List ℕ) × (shown : List ℕ) × (number : ℕ)
+    × (script ≡ script_of lines ++ (line ++ 10 ∷ others))
+    × IsTranscript (script_of (lines ++ line ∷ [])) shown (LineFault number)
+
+-- a: the accepted lines before it; b: those after it
+abbrev pub IsUndone : (a : Accepted) (answer : List ℕ) (b : Accepted) → Type 0
+IsUndone a answer b =
+    ((a.lines ≡ []) × (answer ≡ no_undo_text) × (b ≡ a))
+    ⊎ (((last : List ℕ) × (has_feed last ≡ false) × (script_of a.lines ≡ script_of b.lines ++ (last ++ 10 ∷ []))
+    × IsTranscript (script_of b.lines) b.shown Clean × (answer ≡ undone_text last))
+    ⊎ (HasFaultNow (script_of a.lines) × (answer ≡ not_undone_text) × (b ≡ a)))
+
 -- a line that ends the session has no answer
 abbrev pub AnswersWord : Word → (a : Accepted) (line answer : List ℕ) → List SaveCall → (b : Accepted) → Type 0
 AnswersWord Help a line answer calls b = (answer ≡ help_text) × (calls ≡ []) × (b ≡ a)
+AnswersWord HelpOn a line answer calls b = (answer ≡ line_help (name_in line)) × (calls ≡ []) × (b ≡ a)
 AnswersWord Quit a line answer calls b = ⊥
 AnswersWord Save a line answer calls b = IsSaved (script_of a.lines) (name_in line) answer calls × (b ≡ a)
+AnswersWord Undo a line answer calls b = (calls ≡ []) × IsUndone a answer b
 AnswersWord Line a line answer calls b = (calls ≡ []) × (IsLineAccepted a line answer b ⊎ IsLineRejected a line answer b)
 
 abbrev pub AnswersLine : (a : Accepted) (line answer : List ℕ) → List SaveCall → (b : Accepted) → Type 0

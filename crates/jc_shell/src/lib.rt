@@ -5,6 +5,7 @@
 //!   script's own definition.
 //! - A line with a fault is told as a run of that script and this line would tell it, with the line's number there, and does
 //!   nothing, so that a session never differs from a run.
+//! - `undo` plays the lines before the last one anew, on a world of their own, because no step of a world can be taken back.
 //! - The prompt is written to the same stream as the answers, because their order then is fixed. It is empty if nobody types.
 //! - A script is saved through a trait, so that a contract can state which bytes were saved.
 #![tactic(auto)]

@@ -1,9 +1,9 @@
 //! A session over streams: from the lines that are read to the answers that are written.
-ghost use Rattle.std.specs.Prelude.{◌≡◌, ◌≢◌, ◌⊎◌, ◌↔◌, ◌++◌, ◌∷◌, ◌+◌, ◌<◌, ◌≤◌, [], List, ℕ, true, false, codes, length, IfOk, IfErr, IfSome, MatchOption, OnOk};
+ghost use Rattle.std.specs.Prelude.{◌≡◌, ◌≢◌, ◌⊎◌, ◌↔◌, ◌++◌, ◌∷◌, ◌+◌, ◌<◌, ◌≤◌, [], List, ℕ, true, false, length, IfOk, IfErr, IfSome, MatchOption, OnOk};
 ghost use Rattle.std.specs.Io.KnownBytes.{Appends, Consumes, IsAtEnd};
 ghost use Rattle.jc_script.specs.Transcript.{opened_world};
 ghost use Rattle.jc_shell.specs.Holding.{Holds};
-ghost use Rattle.jc_shell.specs.Running.{LastText, LateCalls, RunsDialogue, Stopped, WrittenBy, cut_text, prompt_end};
+ghost use Rattle.jc_shell.specs.Running.{BeginsWithQuit, LastText, LateCalls, RunsDialogue, Stopped, WrittenBy, cut_text, prompt_end};
 ghost use Rattle.jc_shell.specs.Saving.{Calls, SaveCall};
 ghost use Rattle.jc_shell.specs.Sessions.{Accepted, AnswersLine, AreAnswered, has_feed, nobody, script_of};
 ghost use Rattle.jc_shell.specs.ShellWords.{word_of};
@@ -112,7 +112,7 @@ fn answer_lines<W: Write, S: Save>(
         × (bytes.now ≡ script_of lines ++ rest)
         × Appends (W.contents writer.old.inner) (W.contents writer.new.inner) answers
         × Calls (S.calls saves.old) (S.calls saves.new) calls
-        × MatchOption left ((others : List ℕ) × (rest ≡ codes "quit" ++ 10 ∷ others))
+        × MatchOption left (BeginsWithQuit rest)
         (λ n. (n ≡ length rest) × (has_feed rest ≡ false)
         × Holds b session.new.script.items session.new.lines (opened_world session.new.player.world))) }
     ensures kinds { IfErr result (λ e. (e ≡ ShellFault.Write) ⊎ (e ≡ ShellFault.OutOfMemory)) }
@@ -149,8 +149,8 @@ fn end_prompt(prompt: &[u8], out: &mut Vec<u8>) -> Result<(), AllocError>
     Ok(())
 }
 
-/// Tells that the end of the input cuts a line, if it does.
-fn tell_cut(
+/// Appends that the end of the input cuts a line, if it does.
+fn put_cut_line(
     alloc: Global,
     session: &Dialogue,
     last: &[u8],
@@ -161,7 +161,7 @@ fn tell_cut(
     if last.is_empty() {
         return Ok(());
     }
-    session.tell(alloc, last, Fault::CutLine, out)?;
+    session.explain(alloc, last, Fault::CutLine, out)?;
     Ok(())
 }
 
@@ -178,7 +178,7 @@ fn last_text(
 {
     let mut out = Vec::new(alloc);
     end_prompt(prompt, &mut out)?;
-    tell_cut(alloc, session, last, &mut out)?;
+    put_cut_line(alloc, session, last, &mut out)?;
     Ok(out)
 }
 
@@ -275,7 +275,7 @@ fn converse<R: Read, W: Write, S: Save>(
     Err(ShellFault::TooLong)
 }
 
-/// Answers the lines of a script as they are read, up to the end of the input or a line `quit`, and writes the prompt before it
+/// Answers the lines of a script as they are read, up to the end of the input or a line `quit` or `exit`, and writes the prompt before it
 /// reads a line. A line without a fault is played, and its answer is what it prints. A line with a fault does nothing, and its
 /// answer tells the fault. `save NAME` saves the lines that were played, as a script; if `saves` refuses it, the answer shows the
 /// reason.

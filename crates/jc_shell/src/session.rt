@@ -1,19 +1,21 @@
 //! A session: the lines that were accepted so far, and the world that they have led to.
-ghost use Rattle.std.specs.Prelude.{◌≡◌, ◌≢◌, ◌⊎◌, ◌++◌, ◌∷◌, ◌+◌, ◌≤◌, [], List, ℕ, false, length, OnOk, OnErr};
+ghost use Rattle.std.specs.Prelude.{◌≡◌, ◌≢◌, ◌⊎◌, ◌++◌, ◌∷◌, ◌+◌, ◌≤◌, ◌<◌, [], List, ℕ, true, false, codes, drop, length, IfOk, MatchOption, OnOk, OnErr};
 ghost use Rattle.jc_text.specs.Places.{complaint};
 ghost use Rattle.jc_script.specs.Transcript.{opened_world};
 ghost use Rattle.jc_shell.specs.Holding.{Holds};
 ghost use Rattle.jc_shell.specs.Saving.{Calls, SaveCall, SavesNothing};
-ghost use Rattle.jc_shell.specs.Sessions.{Accepted, AnswersLine, IsLineAccepted, IsLineRejected, IsSaved, has_feed, nobody};
+ghost use Rattle.jc_shell.specs.Sessions.{Accepted, AnswersLine, HasFaultNow, IsFront, IsLineAccepted, IsLineRejected, IsSaved, IsUndone, has_feed, next_line_number, nobody, script_of};
 ghost use Rattle.jc_shell.specs.ShellWords.{not_saved_text, word_of};
 ghost use Rattle.jc_shell.specs.declared.words.Word.TheVariants.{Quit};
 
 use crate::save::Save;
-use crate::words::{HELP, Word, name_in, word_of};
+use crate::words::{HELP, Word, line_help, name_in, word_of};
 use jc_script::play::Player;
+use jc_text::lines::first_line;
 use jc_text::print::place::put_complaint;
 use jc_text::{Fault, put};
 use std::alloc::{AllocError, Global};
+use std::mem;
 
 /// A dialogue with a shell: a player, and the script of the lines that it has played.
 pub struct Dialogue {
@@ -59,6 +61,14 @@ impl Dialogue {
                 put(out, HELP)?;
                 Ok(())
             }
+            Word::HelpOn => {
+                put(out, line_help(name_in(line)))?;
+                Ok(())
+            }
+            Word::Undo => {
+                self.undo(alloc, out)?;
+                Ok(())
+            }
             Word::Save => save_as(name_in(line), &self.script, saves, out),
             Word::Quit => Ok(()),
             Word::Line => {
@@ -77,15 +87,94 @@ impl Dialogue {
             × (IsLineAccepted a line.now answer b ⊎ IsLineRejected a line.now answer b)
             × (out.new.items ≡ out.old.items ++ answer)) }
     {
+        match self.accept(alloc, line, out)? {
+            None => Ok(()),
+            Some(fault) => {
+                self.explain(alloc, line, fault, out)?;
+                Ok(())
+            }
+        }
+    }
+
+    /// Plays a line, and keeps it. If it has a fault, nothing is done, and the fault is returned.
+    fn accept(
+        &mut self,
+        alloc: Global,
+        line: &[u8],
+        out: &mut Vec<u8>,
+    ) -> Result<Option<Fault>, AllocError>
+        requires { has_feed line.now ≡ false }
+        ensures { IfOk result (λ r. (a : Accepted) → Holds a self.old.script.items self.old.lines (opened_world self.old.player.world)
+            → MatchOption r
+            ((answer : List ℕ) × (b : Accepted)
+            × Holds b self.new.script.items self.new.lines (opened_world self.new.player.world)
+            × IsLineAccepted a line.now answer b × (out.new.items ≡ out.old.items ++ answer))
+            (λ fault. Holds a self.new.script.items self.new.lines (opened_world self.new.player.world)
+            × IsLineRejected a line.now (complaint (next_line_number a) line.now fault) a
+            × (out.new.items ≡ out.old.items))) }
+    {
         let mut words = Vec::new(alloc);
         match self.player.play(alloc, line, &mut words, out)? {
             None => {
                 self.keep(line)?;
-                Ok(())
+                Ok(None)
             }
-            Some(fault) => {
-                self.tell(alloc, line, fault, out)?;
-                Ok(())
+            Some(fault) => Ok(Some(fault)),
+        }
+    }
+
+    /// Plays the lines of a script but its last one, and keeps them. `false` says that one of them has a fault this time. Nothing was
+    /// typed before.
+    fn play_front(&mut self, alloc: Global, script: &[u8]) -> Result<bool, AllocError>
+        requires { Holds nobody self.old.script.items self.old.lines (opened_world self.old.player.world) }
+        ensures { (lines : List (List ℕ)) → script.now ≡ script_of lines → 0 < length script.now
+            → IfOk result (λ whole. (b : Accepted) × Holds b self.new.script.items self.new.lines (opened_world self.new.player.world)
+            × (whole ≡ true → IsFront b script.now) × (whole ≡ false → HasFaultNow script.now)) }
+    {
+        let mut shown = Vec::new(alloc);
+        let mut rest = script;
+        while let Some((line, after)) = first_line(rest) {
+            if after.is_empty() {
+                return Ok(true);
+            }
+            match self.accept(alloc, line, &mut shown)? {
+                None => rest = after,
+                Some(_) => return Ok(false),
+            }
+        }
+        Ok(true)
+    }
+
+    /// Takes the last accepted line back. The lines before it are played anew; if one of them has a fault this time, all stays as it
+    /// was.
+    fn undo(&mut self, alloc: Global, out: &mut Vec<u8>) -> Result<(), AllocError>
+        ensures { OnOk result ((a : Accepted) → Holds a self.old.script.items self.old.lines (opened_world self.old.player.world)
+            → (answer : List ℕ) × (b : Accepted)
+            × Holds b self.new.script.items self.new.lines (opened_world self.new.player.world)
+            × IsUndone a answer b × (out.new.items ≡ out.old.items ++ answer)) }
+    {
+        if self.lines == 0 {
+            put(out, "nothing to undo\n")?;
+            return Ok(());
+        }
+        let mut fresh = Dialogue::new(alloc);
+        match fresh.play_front(alloc, &self.script) {
+            Ok(true) => {
+                let answered = put_undone(out, &self.script, fresh.script.len());
+                let former = mem::replace(self, fresh);
+                former.close();
+                answered
+            }
+            Ok(false) => {
+                fresh.close();
+                put(
+                    out,
+                    "not undone: a line before it has a fault this time, since memory was short\n",
+                )
+            }
+            Err(error) => {
+                fresh.close();
+                Err(error)
             }
         }
     }
@@ -102,8 +191,8 @@ impl Dialogue {
         Ok(())
     }
 
-    /// Tells the fault of a line, as the run of the script with it would.
-    pub fn tell(
+    /// Appends what the run of the script with this line would say of its fault.
+    pub fn explain(
         &self,
         alloc: Global,
         line: &[u8],
@@ -124,6 +213,18 @@ impl Dialogue {
         } = self;
         player.close();
     }
+}
+
+/// Appends that the line at this place of a script, its last, was taken back.
+fn put_undone(out: &mut Vec<u8>, script: &[u8], at: usize) -> Result<(), AllocError>
+    ensures { OnOk result (out.new.items ≡ out.old.items ++ (codes "undone " ++ drop at script.now)) }
+{
+    put(out, "undone ")?;
+    if script.len() < at {
+        return Ok(());
+    }
+    out.extend_from_slice(&script[at..])?;
+    Ok(())
 }
 
 /// Saves a script under a name, and answers that it was saved, or why not. After an `Err` nothing was saved.

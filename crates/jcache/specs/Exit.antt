@@ -72,7 +72,7 @@ use Rattle.jcache.specs.declared.report.Report.{Report}
 abbrev pub ExitOfPlay : (status : ℕ) (before after old new : Option (List ℕ)) (silent : Type 0) → Type 0
 ExitOfPlay status before after old new silent =
     ((status ≡ 0) × RunsScript before after old new [] [] Clean)
-    ⊎ (((status ≡ 1) × ((line : ℕ) × (told : List ℕ) × RunsScript before after old new [] told (LineFault line)))
+    ⊎ (((status ≡ 1) × ((line : ℕ) × (note : List ℕ) × RunsScript before after old new [] note (LineFault line)))
     ⊎ (((status ≡ 3) × (BreaksOffScript before after old new ⊎ silent))
     ⊎ ((status ≡ 4) × silent)))
 
@@ -94,7 +94,7 @@ status_of_end litmus.Open = 6
 
 abbrev pub ExitOfExplore : (states : ℕ) (status : ℕ) (before after old new : Option (List ℕ)) (silent : Type 0) → Type 0
 ExitOfExplore states status before after old new silent =
-    ((end : LitmusEnd) × (status ≡ status_of_end end) × RanLitmus states before after old new end)
+    ((end : LitmusEnd) × (notes : List ℕ) × (status ≡ status_of_end end) × RanLitmus states before after old new [] notes end)
     ⊎ (((status ≡ 3) × (BrokeLitmus states before after old new ⊎ silent))
     ⊎ ((status ≡ 4) × silent))
 

@@ -5,6 +5,6 @@ use Rattle.jc_cache.specs.Caches.{CacheState}
 use Rattle.jc_cache.specs.Sessions.{MayCall}
 use Rattle.jc_session.specs.declared.session.Session.{Session}
 
-pub record HasCounted {I J : Type 0} {D : I → Type 0} {E : J → Type 0} (cache : CacheState) (most : ℕ) (session : Session I J D E) : Type 0 where
+pub record HasCounted {I J : Type 0} {D : I → Type 0} {E : J → Type 0} (cache : CacheState) (steps_max : ℕ) (session : Session I J D E) : Type 0 where
   pub may : MayCall cache session
-  pub few : session.agent.counts.own ≤ most
+  pub few : session.agent.counts.own ≤ steps_max

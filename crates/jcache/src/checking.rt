@@ -3,8 +3,8 @@ ghost use Rattle.std.specs.Prelude.{◌≡◌, ◌≢◌, false, true};
 ghost use Rattle.jcache.specs.Exit.{ExitOfCheck, ExitOfRecord, FailsByStreams, asked_of, is_first, status_of_check};
 
 use crate::exec::{
-    CLEAN, LINE_FAULT, OPEN, STREAMS, UNEXPECTED, USAGE, complain, complain_of, end_of_output,
-    end_without_memory,
+    STATUS_CLEAN, STATUS_LINE_FAULT, STATUS_OPEN, STATUS_STREAMS, STATUS_UNEXPECTED, STATUS_USAGE,
+    complain, complain_of, end_of_output, end_without_memory,
 };
 use jc_commands::checking::{CheckPlan, Choice};
 use jc_record::run::run;
@@ -37,10 +37,10 @@ fn status_of_check(end: RecordEnd) -> u8
     ensures apart { result ≢ 3 }
 {
     match end {
-        RecordEnd::Explained => CLEAN,
-        RecordEnd::LineFault => LINE_FAULT,
-        RecordEnd::NotExplained => UNEXPECTED,
-        RecordEnd::GaveUp => OPEN,
+        RecordEnd::Explained => STATUS_CLEAN,
+        RecordEnd::LineFault => STATUS_LINE_FAULT,
+        RecordEnd::NotExplained => STATUS_UNEXPECTED,
+        RecordEnd::GaveUp => STATUS_OPEN,
     }
 }
 
@@ -61,12 +61,12 @@ fn judge<R: Read, W: Write, E: Write>(
         Ok(end) => status_of_check(end),
         Err(CheckFault::Read) => {
             complain_of(reader, err, "read failed");
-            STREAMS
+            STATUS_STREAMS
         }
         Err(CheckFault::Write) => end_of_output(out, err),
         Err(CheckFault::TooLong) => {
             let _ = write!(err, "jcache: input too long: over {RECORD_MAX} bytes\n");
-            STREAMS
+            STATUS_STREAMS
         }
         Err(CheckFault::OutOfMemory) => end_without_memory(err),
     }
@@ -90,7 +90,7 @@ pub(crate) fn check_and_show<R: Read, W: Write, E: Write>(
             err,
             "jcache: --rules is store or table, --order is real or program, --evict is free or never\n",
         );
-        return USAGE;
+        return STATUS_USAGE;
     }
     judge(alloc, &asked_of(plan), reader, out, err)
 }

@@ -25,25 +25,26 @@ use jc_shell::run::run as answer_lines;
 use jc_shell::{Save, ShellFault};
 use jc_text::Noted;
 use jc_text::input::write_out;
+use jc_text::lines::first_line;
 use jc_types::SCRIPT_MAX;
 use std::alloc::{AllocError, Global};
 use std::io::{self, Read, Write};
 
 /// The script was played to its end, or a shell ended well, or each expectation holds, or each key is explained, or the text that
 /// was asked for was shown.
-pub(crate) const CLEAN: u8 = 0;
+pub(crate) const STATUS_CLEAN: u8 = 0;
 /// The transcript ends with a line's fault, or a line of the program of threads or of the record has one.
-pub(crate) const LINE_FAULT: u8 = 1;
+pub(crate) const STATUS_LINE_FAULT: u8 = 1;
 /// The command line is not one of this program's, or asks for too much work.
-pub(crate) const USAGE: u8 = 2;
+pub(crate) const STATUS_USAGE: u8 = 2;
 /// Standard input or output failed, or the input is too long.
-pub(crate) const STREAMS: u8 = 3;
+pub(crate) const STATUS_STREAMS: u8 = 3;
 /// An allocation failed.
-const MEMORY: u8 = 4;
+const STATUS_MEMORY: u8 = 4;
 /// The count on threads isn't the plan's, or an expectation fails, or a key isn't explained.
-pub(crate) const UNEXPECTED: u8 = 5;
+pub(crate) const STATUS_UNEXPECTED: u8 = 5;
 /// Not all outcomes are known, and no expectation fails; or the search of a key gave up, and no key is known not to be explained.
-pub(crate) const OPEN: u8 = 6;
+pub(crate) const STATUS_OPEN: u8 = 6;
 
 /// The output of `--version`.
 const VERSION: &str = "jcache 0.2.0\n";
@@ -101,7 +102,7 @@ pub(crate) fn end_of_output<W, E: Write>(out: &Noted<W>, err: &mut E) -> u8
     if !matches!(out.failure(), Some(io::ErrorKind::BrokenPipe)) {
         complain_of(out, err, "write failed");
     }
-    STREAMS
+    STATUS_STREAMS
 }
 
 /// Writes that an allocation failed, and returns the status.
@@ -109,7 +110,7 @@ pub(crate) fn end_without_memory<E: Write>(err: &mut E) -> u8
     ensures { result ≡ 4 }
 {
     complain(err, "jcache: out of memory\n");
-    MEMORY
+    STATUS_MEMORY
 }
 
 /// Writes that the input is too long, and returns the status.
@@ -117,7 +118,7 @@ fn end_of_long_input<E: Write>(err: &mut E) -> u8
     ensures { result ≡ 3 }
 {
     let _ = write!(err, "jcache: input too long: over {SCRIPT_MAX} bytes\n");
-    STREAMS
+    STATUS_STREAMS
 }
 
 /// Writes why the words of the command line couldn't be read, and returns the status.
@@ -129,15 +130,25 @@ fn end_without_words<E: Write>(why: io::ErrorKind, err: &mut E) -> u8
         io::ErrorKind::OutOfMemory => end_without_memory(err),
         _ => {
             complain(err, "jcache: a word of the command line isn't UTF-8\n");
-            USAGE
+            STATUS_USAGE
         }
     }
 }
 
-/// Writes where a line's fault is.
-fn tell<E: Write>(err: &mut E, told: &[u8]) {
+/// Writes a line for people: where a line's fault is, or a warning.
+fn write_note<E: Write>(err: &mut E, note: &[u8]) {
     complain(err, "jcache: ");
-    let _ = err.write_all(told);
+    let _ = err.write_all(note);
+}
+
+/// Writes each of these lines.
+fn write_notes<E: Write>(err: &mut E, notes: &[u8]) {
+    let mut rest = notes;
+    while let Some((note, after)) = first_line(rest) {
+        write_note(err, note);
+        complain(err, "\n");
+        rest = after;
+    }
 }
 
 /// Plays the script, and returns the status.
@@ -152,16 +163,16 @@ fn play<R: Read, W: Write, E: Write>(
     ensures streams { reader.old.failed ≡ false → out.old.failed ≡ false
         → FailsByStreams result reader.new.failed out.new.failed (R.remaining reader.old.inner) (out.new ≡ out.old) }
 {
-    let mut told = Vec::new(alloc);
-    match run(alloc, reader, out, &mut told) {
-        Ok(RunEnd::Clean) => CLEAN,
+    let mut note = Vec::new(alloc);
+    match run(alloc, reader, out, &mut note) {
+        Ok(RunEnd::Clean) => STATUS_CLEAN,
         Ok(RunEnd::LineFault(_)) => {
-            tell(err, &told);
-            LINE_FAULT
+            write_note(err, &note);
+            STATUS_LINE_FAULT
         }
         Err(RunFault::Read) => {
             complain_of(reader, err, "read failed");
-            STREAMS
+            STATUS_STREAMS
         }
         Err(RunFault::Write) => end_of_output(out, err),
         Err(RunFault::TooLong) => end_of_long_input(err),
@@ -183,10 +194,10 @@ fn converse<R: Read, W: Write, E: Write, H, S: Save>(
 {
     let err = &mut console.err;
     match answer_lines(alloc, console.prompt, reader, out, &mut console.saves) {
-        Ok(()) => CLEAN,
+        Ok(()) => STATUS_CLEAN,
         Err(ShellFault::Read) => {
             complain_of(reader, err, "read failed");
-            STREAMS
+            STATUS_STREAMS
         }
         Err(ShellFault::Write) => end_of_output(out, err),
         Err(ShellFault::TooLong) => end_of_long_input(err),
@@ -200,10 +211,10 @@ fn status_of_end(end: LitmusEnd) -> u8
     ensures apart { result ≢ 3 }
 {
     match end {
-        LitmusEnd::Holds => CLEAN,
-        LitmusEnd::LineFault => LINE_FAULT,
-        LitmusEnd::Fails => UNEXPECTED,
-        LitmusEnd::Open => OPEN,
+        LitmusEnd::Holds => STATUS_CLEAN,
+        LitmusEnd::LineFault => STATUS_LINE_FAULT,
+        LitmusEnd::Fails => STATUS_UNEXPECTED,
+        LitmusEnd::Open => STATUS_OPEN,
     }
 }
 
@@ -220,11 +231,22 @@ fn explore_and_show<R: Read, W: Write, E: Write, H: Watch, S>(
     ensures streams { reader.old.failed ≡ false → out.old.failed ≡ false
         → FailsByStreams result reader.new.failed out.new.failed (R.remaining reader.old.inner) (out.new ≡ out.old) }
 {
-    match explore(alloc, reader, out, states as usize, &mut console.watch) {
-        Ok(end) => status_of_end(end),
+    let mut notes = Vec::new(alloc);
+    match explore(
+        alloc,
+        reader,
+        out,
+        states as usize,
+        &mut console.watch,
+        &mut notes,
+    ) {
+        Ok(end) => {
+            write_notes(&mut console.err, &notes);
+            status_of_end(end)
+        }
         Err(LitmusFault::Read) => {
             complain_of(reader, &mut console.err, "read failed");
-            STREAMS
+            STATUS_STREAMS
         }
         Err(LitmusFault::Write) => end_of_output(out, &mut console.err),
         Err(LitmusFault::TooLong) => end_of_long_input(&mut console.err),
@@ -238,7 +260,7 @@ fn show<W: Write, E: Write>(text: &str, out: &mut Noted<W>, err: &mut E) -> u8
     ensures streams { out.old.failed ≡ false → (result ≡ 3 ↔ out.new.failed ≡ true) }
 {
     match write_out(out, text.as_bytes()) {
-        Ok(()) => CLEAN,
+        Ok(()) => STATUS_CLEAN,
         Err(_) => end_of_output(out, err),
     }
 }
@@ -251,7 +273,7 @@ fn answer<W: Write, E: Write>(alloc: Global, error: &Error, out: &mut Noted<W>, 
 {
     if error.use_stderr() {
         let _ = write!(err, "{error}");
-        return USAGE;
+        return STATUS_USAGE;
     }
     if error.kind() == ErrorKind::DisplayVersion {
         return show(VERSION, out, err);
@@ -297,7 +319,11 @@ fn show_report<W: Write, E: Write>(
 fn status_of(report: &Report) -> u8
     ensures { result ≡ status_of report.now }
 {
-    if report.is_right() { CLEAN } else { UNEXPECTED }
+    if report.is_right() {
+        STATUS_CLEAN
+    } else {
+        STATUS_UNEXPECTED
+    }
 }
 
 /// Writes that a plan is too much work.
@@ -337,7 +363,7 @@ fn count_and_show<F: FnOnce(&Plan) -> Result<Report, AllocError>, W: Write, E: W
 {
     if plan.is_too_much() {
         complain_of_plan(plan, err);
-        return USAGE;
+        return STATUS_USAGE;
     }
     match report_on(count, plan) {
         Ok(report) => show_report(alloc, &report, out, err),

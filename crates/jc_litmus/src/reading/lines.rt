@@ -1,9 +1,9 @@
 //! The lines of a program, by their words.
-ghost use Rattle.std.specs.Prelude.{◌≡◌, ◌||◌, map};
+ghost use Rattle.std.specs.Prelude.{◌≡◌, map};
 ghost use Rattle.jc_text.specs.Lines.{ok_with};
-ghost use Rattle.jc_litmus.specs.LineResults.{ReadsAs};
+ghost use Rattle.jc_litmus.specs.LineResults.{KeepsAtFault, ReadsAs};
 ghost use Rattle.jc_litmus.specs.Program.{after_call, after_expect, after_failing, after_invoke, after_line, after_other_line, after_own_line};
-ghost use Rattle.jc_litmus.specs.Program.{after_script_line, after_thread, invocation, is_outside};
+ghost use Rattle.jc_litmus.specs.Program.{after_script_line, after_thread, invocation};
 ghost use Rattle.jc_litmus.specs.Grammar.{quantifier_named};
 ghost use Rattle.jc_litmus.specs.declared.line_error.LineError.TheVariants as errors;
 ghost use Rattle.jc_litmus.specs.declared.program.LineFault.TheVariants as faults;
@@ -11,7 +11,7 @@ ghost use Rattle.jc_text.specs.declared.fault.Fault.TheVariants as script_faults
 
 use crate::atoms::{add_atoms, are_atoms};
 use crate::grammar::{
-    begin_line, entry_calls, may_fail, operation_in, quantifier_named, with_fault,
+    begin_line, entry_calls, is_outside, may_fail, operation_in, quantifier_named, with_fault,
 };
 use crate::line_error::LineError;
 use crate::program::{Expectation, LineFault, Quantifier, THREADS_MAX};
@@ -51,7 +51,8 @@ impl ProgramParts {
     /// Takes a line that a script may have, too.
     #[tactic(auto, unfolding(crate::specs::Program::after_script_line))]
     fn script_line(&mut self, line: &Line) -> Result<(), LineError>
-        ensures { ReadsAs (ok_with self.new result) (after_script_line self.old line.now) }
+        ensures read { ReadsAs (ok_with self.new result) (after_script_line self.old line.now) }
+        ensures kept { KeepsAtFault self.old self.new result }
     {
         match line {
             Line::Open(config) => Ok(self.open(config)?),
@@ -67,7 +68,8 @@ impl ProgramParts {
     /// Adds a thread.
     #[tactic(auto, unfolding(crate::specs::Program::after_thread))]
     fn thread(&mut self, alloc: Global, words: &[&[u8]]) -> Result<(), LineError>
-        ensures { ReadsAs (ok_with self.new result) (after_thread self.old (map (λ w. w.now) words.now)) }
+        ensures read { ReadsAs (ok_with self.new result) (after_thread self.old (map (λ w. w.now) words.now)) }
+        ensures kept { KeepsAtFault self.old self.new result }
     {
         if !words.is_empty() {
             return Err(bad_line());
@@ -89,7 +91,8 @@ impl ProgramParts {
         rest: &[&[u8]],
         line: &mut Line,
     ) -> Result<(), LineError>
-        ensures { ReadsAs (ok_with self.new result) (after_call self.old first.now (map (λ w. w.now) rest.now)) }
+        ensures read { ReadsAs (ok_with self.new result) (after_call self.old first.now (map (λ w. w.now) rest.now)) }
+        ensures kept { KeepsAtFault self.old self.new result }
     {
         begin_line(alloc, first, rest, line)?;
         self.check_open()?;
@@ -100,7 +103,8 @@ impl ProgramParts {
     /// Adds an entry processor on a key, with the calls that it makes there.
     #[tactic(auto, unfolding(crate::specs::Program::after_invoke))]
     fn invoke(&mut self, alloc: Global, words: &[&[u8]], line: &mut Line) -> Result<(), LineError>
-        ensures { ReadsAs (ok_with self.new result) (after_invoke self.old (map (λ w. w.now) words.now)) }
+        ensures read { ReadsAs (ok_with self.new result) (after_invoke self.old (map (λ w. w.now) words.now)) }
+        ensures kept { KeepsAtFault self.old self.new result }
     {
         let item = invocation(alloc, words, line)?;
         self.add(item)
@@ -109,7 +113,8 @@ impl ProgramParts {
     /// Adds a fault that may happen.
     #[tactic(auto, unfolding(crate::specs::Program::after_failing))]
     fn failing(&mut self, words: &[&[u8]]) -> Result<(), LineError>
-        ensures { ReadsAs (ok_with self.new result) (after_failing self.old (map (λ w. w.now) words.now)) }
+        ensures read { ReadsAs (ok_with self.new result) (after_failing self.old (map (λ w. w.now) words.now)) }
+        ensures kept { KeepsAtFault self.old self.new result }
     {
         let (failing, code) = may_fail(words)?;
         self.check_open()?;
@@ -126,7 +131,8 @@ impl ProgramParts {
         text: &[u8],
         words: &[&[u8]],
     ) -> Result<(), LineError>
-        ensures { ReadsAs (ok_with self.new result) (after_expect self.old quantifier text.now (map (λ w. w.now) words.now)) }
+        ensures read { ReadsAs (ok_with self.new result) (after_expect self.old quantifier text.now (map (λ w. w.now) words.now)) }
+        ensures kept { KeepsAtFault self.old self.new result }
     {
         if !are_atoms(words) {
             return Err(bad_line());
@@ -156,7 +162,8 @@ impl ProgramParts {
         words: &[&[u8]],
         line: &mut Line,
     ) -> Result<(), LineError>
-        ensures { ReadsAs (ok_with self.new result) (after_own_line self.old text.now first.now (map (λ w. w.now) words.now) (quantifier_named first.now)) }
+        ensures read { ReadsAs (ok_with self.new result) (after_own_line self.old text.now first.now (map (λ w. w.now) words.now) (quantifier_named first.now)) }
+        ensures kept { KeepsAtFault self.old self.new result }
     {
         match quantifier_named(first) {
             Some(quantifier) => self.expect(alloc, quantifier, text, words),
@@ -177,7 +184,8 @@ impl ProgramParts {
         words: &[&[u8]],
         line: &mut Line,
     ) -> Result<(), LineError>
-        ensures { ReadsAs (ok_with self.new result) (after_other_line self.old text.now (map (λ w. w.now) words.now)) }
+        ensures read { ReadsAs (ok_with self.new result) (after_other_line self.old text.now (map (λ w. w.now) words.now)) }
+        ensures kept { KeepsAtFault self.old self.new result }
     {
         if !none_empty(words) {
             return Err(bad_line());
@@ -195,25 +203,19 @@ impl ProgramParts {
         &mut self,
         alloc: Global,
         text: &'a [u8],
-        room: &mut ReadBuffers<'a>,
+        buffers: &mut ReadBuffers<'a>,
     ) -> Result<(), LineError>
-        ensures { ReadsAs (ok_with self.new result) (after_line self.old text.now) }
+        ensures read { ReadsAs (ok_with self.new result) (after_line self.old text.now) }
+        ensures kept { KeepsAtFault self.old self.new result }
     {
-        match read(alloc, text, &mut room.words, &mut room.line) {
+        match read(alloc, text, &mut buffers.words, &mut buffers.line) {
             Ok(false) => Ok(()),
-            Ok(true) => self.script_line(&room.line),
+            Ok(true) => self.script_line(&buffers.line),
             Err(ReadError::Fault(Fault::BadLine)) => {
-                split(text, &mut room.words)?;
-                self.other_line(alloc, text, &room.words, &mut room.line)
+                split(text, &mut buffers.words)?;
+                self.other_line(alloc, text, &buffers.words, &mut buffers.line)
             }
             Err(error) => Err(LineError::from(error)),
         }
     }
-}
-
-/// Whether a word names the loader, the writer or the processor.
-fn is_outside(word: &[u8]) -> bool
-    ensures { result ≡ is_outside word.now }
-{
-    is(word, "loader") || is(word, "writer") || is(word, "processor")
 }

@@ -1,6 +1,6 @@
 use Rattle.jc_shell.proofs.Common.{◌≡◌, ◌∷◌, [], ◌++◌, append_assoc, refl, rules, Quit, word_of, pieces_of, appends-then}
 use Rattle.jc_shell.proofs.Lines.{first_is_whole, line_and_rest}
-use Rattle.jc_shell.proofs.Turns.{calls_none, calls_then, quit_word}
+use Rattle.jc_shell.proofs.Turns.{calls_none, calls_then}
 use Rattle.jc_shell.proofs.Streams.{answered_one, answered_then, appends_none, left_of, read_one, read_then, written_then}
 use Rattle.jc_shell.proofs.run.answer_lines.Goals as goal
 
@@ -41,10 +41,9 @@ returns-then-eq-clause-ok g c =
     let after = c.in-Some.after.now in
     let is = line_and_rest rest line after c.in-Some.ensures.0 in
     let asked : word_of line ≡ Quit = search rules in
-    let quit = quit_word line asked in
     λ a h.
     let p = c.loop-line.invariant.0 a h in
-    (p.0, p.1, p.2, p.3, rest, p.4, p.5, p.6, p.7, (after, rw quit at is))
+    (p.0, p.1, p.2, p.3, rest, p.4, p.5, p.6, p.7, (line, after, asked, is))
 
 pub returns-in-Err-clause-err : goal.returns-in-Err-clause-err
 returns-in-Err-clause-err g c =

@@ -28,7 +28,7 @@ returns-in-Ok-None-clause-ran g c =
     let ok = rw c.in-Ok-None.field-0-is at c.in-Ok-None.ensures.ok in
     let r = ok t.b t.holds in
     ran_quit _ _ _ _ _ _ _ _ _ _ c.reads.input.items m.0 c.read_more.new.input.items c.reads.at _ _ _
-    r.0 r.1 r.2 r.4 r.9.0 r.3 t m.2 m.1 r.5 (rw (take_rest c.read_more.new.input.items c.reads.at) at (rw c.deref.ensures.value at r.6)) r.7 r.8 r.9.1
+    r.0 r.1 r.2 r.4 r.3 t m.2 m.1 r.5 (rw (take_rest c.read_more.new.input.items c.reads.at) at (rw c.deref.ensures.value at r.6)) r.7 r.8 r.9
 
 pub reads-preserved : goal.reads-preserved
 reads-preserved g c =
