@@ -1,3 +1,4 @@
+pub mod Forgetting
 pub mod Numbers
 pub mod Lists
 pub mod Mutations

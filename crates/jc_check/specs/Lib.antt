@@ -7,3 +7,4 @@ pub mod Laws
 pub mod States
 pub mod Exploring
 pub mod Verdict
+pub mod Parts

@@ -15,6 +15,7 @@ mod places;
 mod playing;
 mod record;
 mod sights;
+mod smallest;
 mod states;
 mod verdict;
 
@@ -22,5 +23,6 @@ pub use explaining::does_explain;
 pub use node::{Marks, Node};
 pub use places::Places;
 pub use record::{Act, EntrySight, Recorded, Role, Rules, Spot, Stored, Turn};
+pub use smallest::{Need, PartLimits, RefutedPart, smallest_part};
 pub use states::{States, Step};
 pub use verdict::{Verdict, check};
