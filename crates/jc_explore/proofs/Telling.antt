@@ -1,5 +1,5 @@
 -- What a watch is told of a search, call by call.
-use Rattle.jc_explore.proofs.Common.{◌≡◌, ℕ, ◌+◌, ◌<◌, ◌≤◌, List, [], ◌∷◌, ◌++◌, length, map, take, drop, Option, None, Some, slice_get, get_or, sym, refl, ap, ◌∙◌, subst, arith, inl, inr, append-nil, append_assoc, map-append, length-append, take-append-drop, take-append-le, take-length, length-take-le, get_or-take, slice_get_within, All-take, KnownState, Program, Finding, Seen, SceneState, AreWitnessed, IsWholeSchedule, Meets, RunsAreDetermined, final_of, AreStateProgress, AreProgress, Continues, CountsScenes, EndsSearch, HasOneSnapshot, IsSearchOf, IsStateProgress, IsToldOf, MeetsStates, OnStates, Progress, WatchCall, Tells}
+use Rattle.jc_explore.proofs.Common.{◌≡◌, ℕ, ◌+◌, ◌<◌, ◌≤◌, List, [], ◌∷◌, ◌++◌, length, map, take, drop, Option, None, Some, slice_get, get_or, sym, refl, ap, ◌∙◌, subst, arith, inl, inr, append-nil, append_assoc, map-append, length-append, take-append-drop, take-append-le, take-length, length-take-le, get_or-take, slice_get_within, All-take, KnownState, Program, Finding, Seen, SceneState, AreWitnessed, IsWholeSchedule, Meets, RunsAreDetermined, final_of, AreStateProgress, AreProgress, Continues, CountsScenes, EndsSearch, HasOneSnapshot, IsSearchOf, IsStateProgress, IsToldOf, MeetsStates, OUTCOMES_MAX, OnStates, Progress, WatchCall, Tells}
 use Rattle.std.specs.Global.{Vec}
 use Rattle.std.specs.Prelude.{Err, Ok}
 use Rattle.jc_explore.specs.declared.search.Explored.{Explored}
@@ -39,6 +39,7 @@ progress-on p was now before found row grown more h =
       followed_within = h.followed_within;
       known_within = omega (arith, h.known_within, grown-length was now grown);
       found_within = omega (arith, h.found_within, grown-length before found more);
+      few = h.few;
       meets = subst (λ (ks : List KnownState). MeetsStates p ks (take row.found found) row.followed) (sym (taken-on was now row.known grown h.known_within))
           (subst (λ (xs : List Finding). MeetsStates p (take row.known was) xs row.followed) (sym (taken-on before found row.found more h.found_within)) h.meets);
     }
@@ -52,8 +53,8 @@ progress-grown p was now before found rows grown more all k row at = let one = a
 
 -- the progress before one state more is followed
 pub progress-push : (p : Program) (known : List KnownState) (found : List Finding) (rows : List Progress) (place : ℕ) → AreStateProgress p known found rows → length rows ≡ place → place ≤ length known
-    → MeetsStates p known found place → AreStateProgress p known found (rows ++ record { followed = place; known = length known; found = length found } ∷ [])
-progress-push p known found rows place all many within meets k row at =
+    → length found ≤ OUTCOMES_MAX → MeetsStates p known found place → AreStateProgress p known found (rows ++ record { followed = place; known = length known; found = length found } ∷ [])
+progress-push p known found rows place all many within few meets k row at =
     let last : Progress = record { followed = place; known = length known; found = length found } in
     elim (lt_or_le k (length rows)) [
       | inl less ↦ all k row (slice-back rows (rows ++ last ∷ []) k row (last ∷ [], refl) less at)
@@ -64,6 +65,7 @@ progress-push p known found rows place all many within meets k row at =
             followed_within = within;
             known_within = omega arith;
             found_within = omega arith;
+            few = few;
             meets = subst (λ (ks : List KnownState). MeetsStates p ks (take (length found) found) place) (sym (take-length known))
                 (subst (λ (xs : List Finding). MeetsStates p known xs place) (sym (take-length found)) meets);
           } in
@@ -99,6 +101,7 @@ progress-scenes det p seen known scenes found rows are witnessed all k row at =
       record {
         known_within = many;
         found_within = h.found_within;
+        few = h.few;
         meets = subst (λ (ss : List SceneState). Meets p ss (take row.known scenes) (take row.found found)) (take-taken scenes row.followed row.known h.followed_within many)
             (scenes-meet det p seen (take row.known known) (take row.known scenes) (take row.found found) row.followed (scenes-taken p seen known scenes row.known are h.known_within)
             (omega (arith, h.followed_within, length-take-le row.known known h.known_within))

@@ -31,7 +31,7 @@
 --     HasNextMove         some move of a list is possible after a schedule
 --     Expands             each move of a list was followed after a schedule, and whether any is possible is known
 --     IsStateProgress     the numbers are those of a search that has followed the first so many of these known states: of the
---                         states that it knew then, and of the final states that it had found
+--                         states that it knew then, and of the final states that it had found, which are within the limit
 --     progress_of         the progress of a search that has followed so many states
 --     AreStateProgress    there is one for each of the first known states, in order: the progress before that state is followed
 --     NotesEnd            the final states of a scene are found, and those found before stay
@@ -222,6 +222,7 @@ pub record IsStateProgress (p : Program) (known : List KnownState) (found : List
   pub followed_within : row.followed ≤ row.known
   pub known_within : row.known ≤ length known
   pub found_within : row.found ≤ length found
+  pub few : row.found ≤ OUTCOMES_MAX
   pub meets : MeetsStates p (take row.known known) (take row.found found) row.followed
 
 abbrev pub progress_of : ℕ → Search → Progress

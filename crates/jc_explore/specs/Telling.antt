@@ -1,6 +1,6 @@
 -- What a watch is told of an exploration.
 --     IsProgress     the numbers are those of a search that has followed the first so many of these scenes: of the scenes that it
---                    has met, and of the final states that it has found
+--                    has met, and of the final states that it has found, which are within the limit: with more of them it follows none
 --     AreProgress    there is one for each of the first scenes, in order: the progress before that scene is followed
 --     IsToldOf       the progress of an exploration with this result: there is one for each scene that it followed
 --     IsToldAs       the calls of a watch for an exploration with this result. A program that is refused isn't searched
@@ -10,6 +10,7 @@ use Rattle.jc_explore.specs.declared.search.ExploreFault.{ExploreFault}
 use Rattle.jc_explore.specs.declared.search.ExploreFault.TheVariants as fault
 use Rattle.jc_explore.specs.declared.search.Explored.{Explored}
 use Rattle.jc_explore.specs.declared.search.Finding.{Finding}
+use Rattle.jc_explore.specs.declared.search.TheConstants.{OUTCOMES_MAX}
 use Rattle.jc_explore.specs.Explored.{CountsScenes, Meets}
 use Rattle.jc_explore.specs.Schedule.{SceneState}
 use Rattle.jc_explore.specs.Watching.{Progress, WatchCall, calls_of}
@@ -17,6 +18,7 @@ use Rattle.jc_explore.specs.Watching.{Progress, WatchCall, calls_of}
 pub record IsProgress (p : Program) (scenes : List SceneState) (found : List Finding) (row : Progress) : Type 0 where
   pub known_within : row.known ≤ length scenes
   pub found_within : row.found ≤ length found
+  pub few : row.found ≤ OUTCOMES_MAX
   pub meets : Meets p (take row.followed scenes) (take row.known scenes) (take row.found found)
 
 abbrev pub AreProgress : Program → List SceneState → List Finding → List Progress → Type 0

@@ -287,7 +287,8 @@ fn visit(
 
 /// Whether more final states were found than an exploration looks for.
 fn has_too_many(found: &[Finding]) -> bool
-    ensures { result ≡ true → OUTCOMES_MAX < length found.now }
+    ensures many { result ≡ true → OUTCOMES_MAX < length found.now }
+    ensures few { result ≡ false → length found.now ≤ OUTCOMES_MAX }
 {
     found.len() > OUTCOMES_MAX
 }

@@ -1,4 +1,4 @@
-use Rattle.jc_explore.proofs.Common.{◌≡◌, eqb, ◌<◌, List, [], ◌∷◌, ◌++◌, refl, Some, get_or, length, slice_get, ◌∙◌, ap, subst, arith, true≢false, sym, inl, inr, eqb-true, eqb-false, length-append, KnownState, Move, Finding, OUTCOMES_MAX, AreNew, AreNext, IsClosedSchedule, Progress, progress_of}
+use Rattle.jc_explore.proofs.Common.{◌≡◌, eqb, ◌<◌, List, [], ◌∷◌, ◌++◌, refl, ◌≤◌, Some, get_or, length, slice_get, ◌∙◌, ap, subst, arith, true≢false, sym, inl, inr, eqb-true, eqb-false, length-append, KnownState, Move, Finding, OUTCOMES_MAX, AreNew, AreNext, IsClosedSchedule, Progress, progress_of}
 use Rattle.std.proofs.lemmas.Result.{err_from_is_err_and}
 use Rattle.jc_explore.proofs.Meeting.{first-meets, more-meets}
 use Rattle.jc_explore.proofs.Searching.{same-at, there-at}
@@ -37,7 +37,7 @@ returns-then-has_too_many g c =
     let found = c.loop-place.search.found.items in
     let left : c.loop-place.place < length known =
     omega (arith, i.within, c.if-place-len.false, c.len-in-loop-place.ensures, c.loop-place.search.known.list.ok.0) in
-    let many : OUTCOMES_MAX < length found = subst (λ (xs : List Finding). OUTCOMES_MAX < length xs) c.deref.ensures.value (c.has_too_many.ensures c.if-has_too_many.true) in (
+    let many : OUTCOMES_MAX < length found = subst (λ (xs : List Finding). OUTCOMES_MAX < length xs) c.deref.ensures.value (c.has_too_many.ensures.many c.if-has_too_many.true) in (
       i.told.0,
       i.told.1,
       record {
@@ -89,6 +89,7 @@ loop-place-preserved g c =
     let here : slice_get was place ≡ Some one = there-at was place c.index.result.now h in
     let told = i.told in
     let row : Progress = progress_of place c.loop-place.search in
+    let few : length before ≤ OUTCOMES_MAX = subst (λ (xs : List Finding). length xs ≤ OUTCOMES_MAX) c.deref.ensures.value (c.has_too_many.ensures.few c.if-has_too_many.false) in
     let next = subst (λ (ms : List Move). AreNext ms was now) (followed one here) e.added in
     let fresh = subst (λ (ms : List Move). AreNew ms before found) (followed one here) e.fresh in
     record {
@@ -103,7 +104,7 @@ loop-place-preserved g c =
         told.0 ++ row ∷ [],
         tells-more _ _ _ told.0 row told.1 c.tell.ensures,
         omega (arith, told.2, length-append told.0 (row ∷ [])),
-        progress-grown p was now before found (told.0 ++ row ∷ []) e.known_kept e.found_kept (progress-push p was before told.0 place told.3 told.2 i.within i.meets),
+        progress-grown p was now before found (told.0 ++ row ∷ []) e.known_kept e.found_kept (progress-push p was before told.0 place told.3 told.2 i.within few i.meets),
       );
     }
 
@@ -149,13 +150,14 @@ returns-in_err-schedule g c =
     let i = c.loop-place.invariant in
     let s = c.loop-place.search in
     let row : Progress = progress_of c.loop-place.place s in
+    let few : length s.found.items ≤ OUTCOMES_MAX = subst (λ (xs : List Finding). length xs ≤ OUTCOMES_MAX) c.deref.ensures.value (c.has_too_many.ensures.few c.if-has_too_many.false) in
     let p = err_from_is_err_and c.from_residual-in_err-schedule.result c.from_residual-in_err-schedule.ensures.1 in
     rw p.1 (
       i.told.0 ++ row ∷ [],
       tells-more _ _ _ i.told.0 row i.told.1 c.tell.ensures,
       (
         omega (arith, i.told.2, length-append i.told.0 (row ∷ []), c.loop-place-test.true),
-        (s, i.search, progress-push c.args.program.now s.known.list.items s.found.items i.told.0 c.loop-place.place i.told.3 i.told.2 i.within i.meets),
+        (s, i.search, progress-push c.args.program.now s.known.list.items s.found.items i.told.0 c.loop-place.place i.told.3 i.told.2 i.within few i.meets),
       ),
     )
 
@@ -164,12 +166,13 @@ returns-in_err-visit g c =
     let i = c.loop-place.invariant in
     let s = c.loop-place.search in
     let row : Progress = progress_of c.loop-place.place s in
+    let few : length s.found.items ≤ OUTCOMES_MAX = subst (λ (xs : List Finding). length xs ≤ OUTCOMES_MAX) c.deref.ensures.value (c.has_too_many.ensures.few c.if-has_too_many.false) in
     let p = err_from_is_err_and c.from_residual-in_err-visit.result c.from_residual-in_err-visit.ensures.1 in
     rw p.1 (
       i.told.0 ++ row ∷ [],
       tells-more _ _ _ i.told.0 row i.told.1 c.tell.ensures,
       (
         omega (arith, i.told.2, length-append i.told.0 (row ∷ []), c.loop-place-test.true),
-        (s, i.search, progress-push c.args.program.now s.known.list.items s.found.items i.told.0 c.loop-place.place i.told.3 i.told.2 i.within i.meets),
+        (s, i.search, progress-push c.args.program.now s.known.list.items s.found.items i.told.0 c.loop-place.place i.told.3 i.told.2 i.within few i.meets),
       ),
     )
