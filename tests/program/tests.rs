@@ -383,7 +383,8 @@ fn shows_a_line_of_progress(rt: HostRuntime) {
 }
 
 /// What standard error says of an item before the first thread.
-const NO_THREAD: &str = "jcache: line 3, column 1: no thread 'get' (a line thread begins the first thread, and items follow it)\n";
+const NO_THREAD: &str =
+    "jcache: line 3, column 1: no thread 'get' (a line thread begins the first thread, and items follow it)\n";
 
 #[test]
 fn warns_of_values_that_nobody_writes(rt: HostRuntime) {
