@@ -8,7 +8,7 @@
 --     Inserts                 the case of an answer
 use Rattle.std.specs.Prelude.{◌≡◌, ◌||◌, nat_lt, Bool, true, false, Option, None, Some, IsSome, is_some, List, ◌∷◌, length, if◌then◌else◌}
 use Rattle.std.specs.FinMap as finite
-use Rattle.jc_model.specs.declared.event.Cause.TheVariants.{Full, Memory}
+use Rattle.jc_model.specs.declared.event.Cause.TheVariants.{Full, Memory, Invalidated}
 use Rattle.jc_model.specs.Cache.{Bytes, key_cmp}
 use Rattle.jc_model.specs.Listed.{others}
 use Rattle.jc_entries.specs.ByUse.{ByUse, lru_victim, after_eviction}
@@ -50,3 +50,4 @@ Inserts old new key value pinned Kept = InsertsInRoom old new key value
 Inserts old new key value pinned (KeptAfter victim) = InsertsAfterEviction old new key value pinned victim
 Inserts old new key value pinned (NotKept Full evicted) = FindsAllPinned old new key pinned evicted
 Inserts old new key value pinned (NotKept Memory evicted) = FindsNoMemory old new key pinned evicted
+Inserts old new key value pinned (NotKept Invalidated evicted) = ⊥

@@ -24,7 +24,7 @@ use Rattle.jc_model.specs.declared.event.Effect.TheVariants as effect
 use Rattle.jc_model.specs.declared.event.Out.{Out}
 use Rattle.jc_model.specs.declared.event.Reply.{Reply}
 use Rattle.jc_model.specs.declared.event.Reply.TheVariants as reply
-use Rattle.jc_model.specs.declared.event.Cause.TheVariants.{Full, Memory}
+use Rattle.jc_model.specs.declared.event.Cause.TheVariants.{Full, Memory, Invalidated}
 use Rattle.jc_model.specs.declared.event.Event.{Event}
 use Rattle.jc_model.specs.declared.event.Event.TheVariants.{Step, Evict}
 use Rattle.jc_model.specs.Cache.{Bytes}
@@ -190,3 +190,4 @@ decode_event-event_bytes (Step caller op key out shared_with answer) rest h =
     ) refl
 decode_event-event_bytes (Evict key Full) rest h = rw (decode_key-text_bytes key rest h) refl
 decode_event-event_bytes (Evict key Memory) rest h = rw (decode_key-text_bytes key rest h) refl
+decode_event-event_bytes (Evict key Invalidated) rest h = rw (decode_key-text_bytes key rest h) refl

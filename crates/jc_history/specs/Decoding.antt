@@ -43,7 +43,7 @@ use Rattle.jc_model.specs.declared.event.Effect.TheVariants as effect
 use Rattle.jc_model.specs.declared.event.Out.{Out}
 use Rattle.jc_model.specs.declared.event.Reply.{Reply}
 use Rattle.jc_model.specs.declared.event.Reply.TheVariants as reply
-use Rattle.jc_model.specs.declared.event.Cause.TheVariants.{Full, Memory}
+use Rattle.jc_model.specs.declared.event.Cause.TheVariants.{Full, Memory, Invalidated}
 use Rattle.jc_model.specs.declared.event.Event.{Event}
 use Rattle.jc_model.specs.declared.event.Event.TheVariants.{Step, Evict}
 use Rattle.jc_model.specs.Table.{value_count, numbered_op}
@@ -202,4 +202,5 @@ decode_event = do
   tag ← byte
   if tag == 0 then decode_step
       else if tag == 1 then (decode_key >>= λ key. give (Evict key Full))
-      else (decode_key >>= λ key. give (Evict key Memory))
+      else if tag == 2 then (decode_key >>= λ key. give (Evict key Memory))
+      else (decode_key >>= λ key. give (Evict key Invalidated))

@@ -30,7 +30,7 @@ use Rattle.jc_model.specs.declared.event.Effect.TheVariants as effect
 use Rattle.jc_model.specs.declared.event.Out.{Out}
 use Rattle.jc_model.specs.declared.event.Reply.{Reply}
 use Rattle.jc_model.specs.declared.event.Reply.TheVariants as reply
-use Rattle.jc_model.specs.declared.event.Cause.TheVariants.{Full, Memory}
+use Rattle.jc_model.specs.declared.event.Cause.TheVariants.{Full, Memory, Invalidated}
 use Rattle.jc_model.specs.declared.event.Event.{Event}
 use Rattle.jc_model.specs.declared.event.Event.TheVariants.{Step, Evict}
 use Rattle.jc_model.specs.Table.{op_number, op_values}
@@ -114,3 +114,4 @@ event_bytes (Step caller op key out shared_with reply) =
     ++ optional_bytes (to_le_bytes w32) shared_with)))))
 event_bytes (Evict key Full) = 1 ∷ text_bytes key
 event_bytes (Evict key Memory) = 2 ∷ text_bytes key
+event_bytes (Evict key Invalidated) = 3 ∷ text_bytes key

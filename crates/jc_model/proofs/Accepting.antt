@@ -1,7 +1,7 @@
 -- What a reader accepts is what can be read.
-use Rattle.std.proofs.Common.{◌≡◌, ◌==◌, ◌&&◌, ◌||◌, inl, inr, ℕ, ◌+◌, ◌-◌, ◌≤◌, List, [], ◌∷◌, ◌++◌, length, Bool, true, false, cond, if◌then◌else◌, is_none, is_some, Option, None, Some, refl, sym, ap, ◌∙◌, subst, arith, nat_le, add-zero}
+use Rattle.std.proofs.Common.{◌≡◌, ◌==◌, ◌&&◌, ◌||◌, inl, inr, IsTrue, ℕ, ◌+◌, ◌-◌, ◌≤◌, List, [], ◌∷◌, ◌++◌, length, Bool, true, false, cond, if◌then◌else◌, is_none, is_some, Option, None, Some, refl, sym, ap, ◌∙◌, subst, arith, nat_le, add-zero}
 use Rattle.std.proofs.lemmas.List.{length-append}
-use Rattle.std.proofs.lemmas.Bool.{leb-true, le-leb, eqb-true, and_parts, and_from, false_from_ne_true}
+use Rattle.std.proofs.lemmas.Bool.{leb-true, le-leb, eqb-true, and_parts, and_from, and_right, false_from_ne_true}
 use Rattle.std.proofs.lemmas.Cmp.{nat_list_cmp_total, nat_list_eq_equiv}
 use Rattle.std.specs.Cmp.Lexicographic.{pointwise, texts_ties}
 use Rattle.std.specs.Ordering.{eq_by_cmp}
@@ -9,7 +9,7 @@ use Rattle.std.specs.FinMap.{len, insert, remove, get-remove, get-insert, len-in
 use Rattle.jc_types.specs.declared.config.Config.{Config}
 use Rattle.jc_types.specs.declared.caller.Caller.{Caller}
 use Rattle.jc_model.specs.declared.event.Cause.{Cause}
-use Rattle.jc_model.specs.declared.event.Cause.TheVariants.{Full, Memory}
+use Rattle.jc_model.specs.declared.event.Cause.TheVariants.{Full, Memory, Invalidated}
 use Rattle.jc_model.specs.declared.event.Event.{Event}
 use Rattle.jc_model.specs.declared.event.Event.TheVariants.{Step, Evict}
 use Rattle.jc_model.specs.declared.reader.Opened.{Opened}
@@ -20,7 +20,7 @@ use Rattle.jc_model.specs.Table.{NewStep, seq_entry, seq_cache}
 use Rattle.jc_model.specs.Group.{Group, events_of, step_place, shared_event, cache_after_group, without_own, without_victim, cache_before_step, cache_after_step}
 use Rattle.jc_model.specs.Lawful.{inserts, is_joinable, joined_fits, evicted_fits, IsLawfulStep, IsLawful}
 use Rattle.jc_model.proofs.Reading.{Phase, Between, Chosen, Open, with_joined, with_evicted, behind, Reads}
-use Rattle.jc_model.specs.Reader.{read_group, opened_group, own_goes, is_full_cause, Accepts}
+use Rattle.jc_model.specs.Reader.{read_group, opened_group, own_goes, starts_part, started_stage, started_cache, Accepts}
 use Rattle.jc_model.proofs.CallerLemmas.{none_is, same_cache, same_key, shadowed}
 use Rattle.jc_model.proofs.Readings.{joined_so_far, evicted_so_far}
 
@@ -88,7 +88,8 @@ pub starts_from : (config : Config) (p : ℕ) (c : Cache) (g : Group) (es : List
 starts_from config p c g [] r = r.step
 starts_from config p c g (e ∷ es) (inl a) = step_joined config c g a.0 (starts_from config p c (with_joined g a.0) es a.2)
 starts_from config p c g (e ∷ es) (inr (inl b)) = step_same config c g b.0 b.2.step
-starts_from config p c g (e ∷ es) (inr (inr d)) = d.2.step
+starts_from config p c g (e ∷ es) (inr (inr (inl d))) = d.2.step
+starts_from config p c g (e ∷ es) (inr (inr (inr d))) = d.2.step
 
 joined_last : (config : Config) (c : Cache) (g : Group) (callers : List Caller) (caller : Caller) → joined_fits config c g (callers ++ caller ∷ []) ≡ true → is_joinable config c g ≡ true
 joined_last config c g [] caller h = h
@@ -105,7 +106,8 @@ joined_from : (config : Config) (p : ℕ) (c : Cache) (g : Group) (es : List Eve
 joined_from config p c g [] r = r.joined
 joined_from config p c g (e ∷ es) (inl a) = joined_before config c g g.joined a.0 (joined_from config p c (with_joined g a.0) es a.2)
 joined_from config p c g (e ∷ es) (inr (inl b)) = b.2.joined
-joined_from config p c g (e ∷ es) (inr (inr d)) = d.2.joined
+joined_from config p c g (e ∷ es) (inr (inr (inl d))) = d.2.joined
+joined_from config p c g (e ∷ es) (inr (inr (inr d))) = d.2.joined
 
 -- 3. The reader's state in a phase.
 
@@ -155,7 +157,15 @@ behind_evicted p g cause e =
 
 -- 4. The step's own eviction.
 
+-- an invalidated key is never the step's own
+not_own : (config : Config) (place : ℕ) (c : Cache) (g : Group) (key : Bytes) → own_goes (opened_group config c place g) key Invalidated ≡ false
+not_own config place c g key = and_right (pointwise ◌==◌ key g.step.key && inserts c g) false refl
+
+no_own : (config : Config) (place : ℕ) (c : Cache) (g : Group) (key : Bytes) → own_goes (opened_group config c place g) key Invalidated ≡ true → ⊥
+no_own config place c g key h = let e = sym (not_own config place c g key) ∙ h in cc
+
 own_fits : (config : Config) (place : ℕ) (c : Cache) (g : Group) (cause : Cause) → evicted_fits config c g (Some cause) ≡ true → own_goes (opened_group config c place g) g.step.key cause ≡ true
+own_fits config place c g Invalidated h = cc
 own_fits config place c g Memory h = and_from _ _ (and_from _ _ (nat_list_eq_equiv.refl g.step.key) h) refl
 own_fits config place c g Full h =
     let a = and_parts (inserts c g && (len c == config.capacity)) (is_none g.victim) h in
@@ -163,6 +173,7 @@ own_fits config place c g Full h =
     and_from _ _ (and_from _ _ (nat_list_eq_equiv.refl g.step.key) b.0) (and_from _ _ b.1 a.1)
 
 fits_own : (config : Config) (place : ℕ) (c : Cache) (g : Group) (key : Bytes) (cause : Cause) → own_goes (opened_group config c place g) key cause ≡ true → (key ≡ g.step.key) × (evicted_fits config c g (Some cause) ≡ true)
+fits_own config place c g key Invalidated h = absurd (no_own config place c g key h)
 fits_own config place c g key Memory h =
     let a = and_parts (pointwise ◌==◌ key g.step.key && inserts c g) true h in
     let b = and_parts (pointwise ◌==◌ key g.step.key) (inserts c g) a.0 in
@@ -205,22 +216,23 @@ unstarted : (config : Config) (p : ℕ) (c : Cache) (g : Group) (place : ℕ) (e
 unstarted config p c g place es e b a = moved config _ _ _ _ _ _ es (sym b) refl (ap (λ q. Inside (opened_group config c q g)) e) a
 
 evicted_next : (config : Config) (place : ℕ) (c : Cache) (kept : Opened) (key : Bytes) (cause : Cause) (es : List Event) (b : Bool) → own_goes kept key cause ≡ b
-    → Accepts config place (if b then remove c key else c) (if b then Outside else Picked key) es
-    → Accepts config place (if own_goes kept key cause then remove c key else c) (if own_goes kept key cause then Outside else Picked key) es
+    → Accepts config place (if b then remove c key else started_cache c key cause) (if b then Outside else started_stage key cause) es
+    → Accepts config place (if own_goes kept key cause then remove c key else started_cache c key cause) (if own_goes kept key cause then Outside else started_stage key cause) es
 evicted_next config place c kept key cause es b e a =
-    let P : Bool → Type 0 = λ b. Accepts config place (if b then remove c key else c) (if b then Outside else Picked key) es in subst P (sym e) a
+    let P : Bool → Type 0 = λ b. Accepts config place (if b then remove c key else started_cache c key cause) (if b then Outside else started_stage key cause) es in subst P (sym e) a
 
 next_evicted : (config : Config) (place : ℕ) (c : Cache) (kept : Opened) (key : Bytes) (cause : Cause) (es : List Event) (b : Bool) → own_goes kept key cause ≡ b
-    → Accepts config place (if own_goes kept key cause then remove c key else c) (if own_goes kept key cause then Outside else Picked key) es
-    → Accepts config place (if b then remove c key else c) (if b then Outside else Picked key) es
+    → Accepts config place (if own_goes kept key cause then remove c key else started_cache c key cause) (if own_goes kept key cause then Outside else started_stage key cause) es
+    → Accepts config place (if b then remove c key else started_cache c key cause) (if b then Outside else started_stage key cause) es
 next_evicted config place c kept key cause es b e a =
-    let P : Bool → Type 0 = λ b. Accepts config place (if b then remove c key else c) (if b then Outside else Picked key) es in subst P e a
+    let P : Bool → Type 0 = λ b. Accepts config place (if b then remove c key else started_cache c key cause) (if b then Outside else started_stage key cause) es in subst P e a
 
 pub to : (config : Config) (phase : Phase) (es : List Event) → Tested config phase → Reads config phase es → Accepts config (place_now phase) (cache_now phase) (stage_now config phase) es
 to config (Between p c) [] t r = refl
 to config (Chosen p c key) [] t r = absurd r
 to config (Open p c g) [] t r = le-leb _ _ (within_now config c g t.1 r)
-to config (Between p c) (Step who op key out None reply ∷ es) t r =
+to config (Between p c) (Step who op key out shared reply ∷ es) t (inr d) = let is = d.1 in cc
+to config (Between p c) (Step who op key out None reply ∷ es) t (inl r) =
     let g = read_group None who op key out reply in
     let P : Phase → Type 0 = λ phase. Reads config phase es in
     let is : Some (Open p c g) ≡ Some r.0 = r.1 in
@@ -228,13 +240,23 @@ to config (Between p c) (Step who op key out None reply ∷ es) t r =
     let rest = subst P same r.2 in
     let starts = starts_from config p c g es rest in
     ((refl, starts), started config p c g p es (sym (add-zero p)) (omega arith) (to config (Open p c g) es (t, refl, starts, refl) rest))
-to config (Between p c) (Step who op key out (Some other) reply ∷ es) t r = absurd (some_not r.0 r.1)
-to config (Between p c) (Evict key Full ∷ es) t r =
+to config (Between p c) (Step who op key out (Some other) reply ∷ es) t (inl r) = absurd (some_not r.0 r.1)
+to config (Between p c) (Evict key Full ∷ es) t (inr d) = let is = d.1 in cc
+to config (Between p c) (Evict key Full ∷ es) t (inl r) =
     let P : Phase → Type 0 = λ phase. Reads config phase es in
     let is : Some (Chosen p c key) ≡ Some r.0 = r.1 in
     let same : r.0 ≡ Chosen p c key = cc in
     (refl, to config (Chosen p c key) es t (subst P same r.2))
-to config (Between p c) (Evict key Memory ∷ es) t r = absurd (some_not r.0 r.1)
+to config (Between p c) (Evict key Memory ∷ es) t (inl r) = absurd (some_not r.0 r.1)
+to config (Between p c) (Evict key Memory ∷ es) t (inr d) = let is = d.1 in cc
+to config (Between p c) (Evict key Invalidated ∷ es) t (inl r) = absurd (some_not r.0 r.1)
+to config (Between p c) (Evict key Invalidated ∷ es) t (inr d) =
+    let is = d.1 in
+    let same : d.0 ≡ key = cc in
+    let P : Bytes → Type 0 = λ k. IsTrue (is_some (entry_at c k)) in
+    let Q : Bytes → Type 0 = λ k. Reads config (Between (p + 1) (remove c k)) es in
+    let shorter : len (remove c key) ≤ config.capacity = let a = len_remove_most c key in omega arith in
+    (subst P same d.2, to config (Between (p + 1) (remove c key)) es shorter (subst Q same d.3))
 to config (Chosen p c v) (Step who op key out None reply ∷ es) t r =
     let g = read_group (Some v) who op key out reply in
     let P : Phase → Type 0 = λ phase. Reads config phase es in
@@ -247,7 +269,8 @@ to config (Chosen p c v) (Step who op key out (Some other) reply ∷ es) t r = a
 to config (Chosen p c v) (Evict key cause ∷ es) t r = absurd (some_not r.0 r.1)
 to config (Open p c g) (Step who op key out None reply ∷ es) t (inl a) = let is = a.1 in cc
 to config (Open p c g) (Step who op key out None reply ∷ es) t (inr (inl b)) = let is = b.1 in cc
-to config (Open p c g) (Step who op key out None reply ∷ es) t (inr (inr d)) =
+to config (Open p c g) (Step who op key out None reply ∷ es) t (inr (inr (inr d))) = let is = d.1 in cc
+to config (Open p c g) (Step who op key out None reply ∷ es) t (inr (inr (inl d))) =
     let h = read_group None who op key out reply in
     let q = behind p g in
     let P : Phase → Type 0 = λ phase. Reads config phase es in
@@ -267,7 +290,8 @@ to config (Open p c g) (Step who op key out (Some other) reply ∷ es) t (inl a)
           (to config (Open p c (with_joined g a.0)) es (t.0, t.1, joined_step config c g a.0 t.2, joined_any config c g (g.joined ++ a.0 ∷ []) joins) a.2),
     )
 to config (Open p c g) (Step who op key out (Some other) reply ∷ es) t (inr (inl b)) = let is = b.1 in cc
-to config (Open p c g) (Step who op key out (Some other) reply ∷ es) t (inr (inr d)) = absurd (some_not d.0 d.1)
+to config (Open p c g) (Step who op key out (Some other) reply ∷ es) t (inr (inr (inl d))) = absurd (some_not d.0 d.1)
+to config (Open p c g) (Step who op key out (Some other) reply ∷ es) t (inr (inr (inr d))) = let is = d.1 in cc
 to config (Open p c g) (Evict key cause ∷ es) t (inl a) = let is = a.1 in cc
 to config (Open p c g) (Evict key cause ∷ es) t (inr (inl b)) =
     let kept = opened_group config c (step_place p g) g in
@@ -276,11 +300,31 @@ to config (Open p c g) (Evict key cause ∷ es) t (inr (inl b)) =
     let shorter : len (remove (cache_after_step c g) g.step.key) ≤ config.capacity = let a = len_own c g in let d = t.0 in omega arith in
     let rest = to config (Between (behind p (with_evicted g b.0)) (cache_after_group c (with_evicted g b.0))) es shorter b.3 in
     subst P (sym b.1) (
-      ap (λ x. x || (is_full_cause b.0 && nat_le (len (cache_after_step c g)) config.capacity)) own,
+      ap (λ x. x || (starts_part (cache_after_step c g) g.step.key b.0 && nat_le (len (cache_after_step c g)) config.capacity)) own,
       evicted_next config (behind p g + 1) (cache_after_step c g) kept g.step.key b.0 es true own (moved config _ _ _ _ _ _ es (behind_evicted p g b.0 t.1) refl refl rest),
     )
-to config (Open p c g) (Evict key Memory ∷ es) t (inr (inr d)) = absurd (some_not d.0 d.1)
-to config (Open p c g) (Evict key Full ∷ es) t (inr (inr d)) =
+to config (Open p c g) (Evict key Memory ∷ es) t (inr (inr (inl d))) = absurd (some_not d.0 d.1)
+to config (Open p c g) (Evict key Memory ∷ es) t (inr (inr (inr d))) = let is = d.1 in cc
+to config (Open p c g) (Evict key Invalidated ∷ es) t (inr (inr (inl d))) = absurd (some_not d.0 d.1)
+to config (Open p c g) (Evict key Invalidated ∷ es) t (inr (inr (inr d))) =
+    let kept = opened_group config c (step_place p g) g in
+    let q = behind p g in
+    let after = cache_after_step c g in
+    let within = within_now config c g t.1 d.2 in
+    let own = not_own config (step_place p g) c g key in
+    let is = d.1 in
+    let same : d.0 ≡ key = cc in
+    let back = left_stepped c g t.1 in
+    let there : is_some (entry_at after key) ≡ true = ap (λ m. is_some (entry_at m key)) (sym back) ∙ ap (λ k. is_some (entry_at (cache_after_group c g) k)) (sym same) ∙ d.3 in
+    let P : Bytes → Type 0 = λ k. Reads config (Between (q + 1) (remove (cache_after_group c g) k)) es in
+    let Q : Cache → Type 0 = λ m. Reads config (Between (q + 1) (remove m key)) es in
+    let shorter : len (remove after key) ≤ config.capacity = let a = len_remove_most after key in omega arith in
+    let rest = to config (Between (q + 1) (remove after key)) es shorter (subst Q back (subst P same d.4)) in (
+      ap (λ x. x || (starts_part after key Invalidated && nat_le (len after) config.capacity)) own ∙ and_from _ _ there (le-leb _ _ within),
+      evicted_next config (q + 1) after kept key Invalidated es false own rest,
+    )
+to config (Open p c g) (Evict key Full ∷ es) t (inr (inr (inr d))) = let is = d.1 in cc
+to config (Open p c g) (Evict key Full ∷ es) t (inr (inr (inl d))) =
     let kept = opened_group config c (step_place p g) g in
     let q = behind p g in
     let within = within_now config c g t.1 d.2 in
@@ -326,10 +370,13 @@ from config (Chosen p c key) [] t a = absurd (no_true a)
 from config (Open p c g) [] t a = lawful_now config p c g t (leb-true _ _ a)
 from config (Between p c) (Step who op key out None reply ∷ es) t a =
     let g = read_group None who op key out reply in
-    (Open p c g, refl, from config (Open p c g) es (t, refl, a.0.1, refl) (unstarted config p c g p es (sym (add-zero p)) (omega arith) a.1))
+    inl (Open p c g, refl, from config (Open p c g) es (t, refl, a.0.1, refl) (unstarted config p c g p es (sym (add-zero p)) (omega arith) a.1))
 from config (Between p c) (Step who op key out (Some other) reply ∷ es) t a = absurd a.0
-from config (Between p c) (Evict key Full ∷ es) t a = (Chosen p c key, refl, from config (Chosen p c key) es t a.1)
+from config (Between p c) (Evict key Full ∷ es) t a = inl (Chosen p c key, refl, from config (Chosen p c key) es t a.1)
 from config (Between p c) (Evict key Memory ∷ es) t a = absurd (no_true a.0)
+from config (Between p c) (Evict key Invalidated ∷ es) t a =
+    let shorter : len (remove c key) ≤ config.capacity = let l = len_remove_most c key in omega arith in
+    inr (key, refl, a.0, from config (Between (p + 1) (remove c key)) es shorter a.1)
 from config (Chosen p c v) (Step who op key out None reply ∷ es) t a =
     let g = read_group (Some v) who op key out reply in
     (Open p c g, refl, from config (Open p c g) es (t, refl, a.0.1, refl) (unstarted config p c g (p + 1) es refl (omega arith) a.1))
@@ -342,7 +389,7 @@ from config (Open p c g) (Step who op key out None reply ∷ es) t a =
     let back = sym (left_stepped c g t.1) in
     let Q : Cache → Type 0 = λ c. Reads config (Open q c h) es in
     let rest = from config (Open q (cache_after_step c g) h) es (within, refl, a.0.1, refl) (unstarted config q (cache_after_step c g) h q es (sym (add-zero q)) (omega arith) a.1) in
-    inr (inr (Open q (cache_after_group c g) h, refl, lawful_now config p c g t within, subst Q back rest))
+    inr (inr (inl (Open q (cache_after_group c g) h, refl, lawful_now config p c g t within, subst Q back rest)))
 from config (Open p c g) (Step who op key out (Some other) reply ∷ es) t a =
     inl (
       who,
@@ -355,6 +402,18 @@ from config (Open p c g) (Evict key Memory ∷ es) t a =
     let own : own_goes kept key Memory ≡ true = or_true (own_goes kept key Memory) a.0 in
     let rest = next_evicted config (behind p g + 1) (cache_after_step c g) kept key Memory es true own a.1 in
     gone config p c g key Memory es t own (λ shorter. from config (Between (behind p (with_evicted g Memory)) (cache_after_group c (with_evicted g Memory))) es shorter (gone_moved config p c g key Memory es t own rest))
+from config (Open p c g) (Evict key Invalidated ∷ es) t a =
+    let kept = opened_group config c (step_place p g) g in
+    let q = behind p g in
+    let after = cache_after_step c g in
+    let own = not_own config (step_place p g) c g key in
+    let parts = and_parts (is_some (entry_at after key)) (nat_le (len after) config.capacity) (or_false (own_goes kept key Invalidated) _ own a.0) in
+    let within = leb-true _ _ parts.1 in
+    let rest = next_evicted config (q + 1) after kept key Invalidated es false own a.1 in
+    let back = sym (left_stepped c g t.1) in
+    let Q : Cache → Type 0 = λ m. Reads config (Between (q + 1) (remove m key)) es in
+    let shorter : len (remove after key) ≤ config.capacity = let l = len_remove_most after key in omega arith in
+    inr (inr (inr (key, refl, lawful_now config p c g t within, ap (λ m. is_some (entry_at m key)) (left_stepped c g t.1) ∙ parts.0, subst Q back (from config (Between (q + 1) (remove after key)) es shorter rest))))
 from config (Open p c g) (Evict key Full ∷ es) t a =
     let kept = opened_group config c (step_place p g) g in
     elim (own_goes kept key Full) as (λ b. own_goes kept key Full ≡ b → Reads config (Open p c g) (Evict key Full ∷ es)) [
@@ -367,7 +426,7 @@ from config (Open p c g) (Evict key Full ∷ es) t a =
           let rest = next_evicted config (q + 1) (cache_after_step c g) kept key Full es false own a.1 in
           let back = sym (left_stepped c g t.1) in
           let Q : Cache → Type 0 = λ c. Reads config (Chosen q c key) es in
-          inr (inr (Chosen q (cache_after_group c g) key, refl, lawful_now config p c g t within, subst Q back (from config (Chosen q (cache_after_step c g) key) es within rest)))
+          inr (inr (inl (Chosen q (cache_after_group c g) key, refl, lawful_now config p c g t within, subst Q back (from config (Chosen q (cache_after_step c g) key) es within rest))))
     ] refl
 
 -- a whole history, from between two groups

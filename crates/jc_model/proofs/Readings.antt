@@ -1,13 +1,14 @@
 -- What is read event by event is what groups spell, and nothing else.
-use Rattle.std.proofs.Common.{◌≡◌, inl, inr, ℕ, List, [], ◌∷◌, ◌++◌, map, Option, None, Some, refl, sym, ap, ◌∙◌, subst, append_assoc, append-nil}
+use Rattle.std.proofs.Common.{◌≡◌, inl, inr, ⊎_elim, ◌+◌, ℕ, List, [], ◌∷◌, ◌++◌, map, Option, None, Some, refl, sym, ap, ◌∙◌, subst, append_assoc, append-nil}
+use Rattle.std.specs.FinMap.{remove}
 use Rattle.jc_types.specs.declared.config.Config.{Config}
 use Rattle.jc_types.specs.declared.caller.Caller.{Caller}
 use Rattle.jc_model.specs.declared.event.Cause.{Cause}
-use Rattle.jc_model.specs.declared.event.Cause.TheVariants.{Full, Memory}
+use Rattle.jc_model.specs.declared.event.Cause.TheVariants.{Full, Memory, Invalidated}
 use Rattle.jc_model.specs.declared.event.Event.{Event}
 use Rattle.jc_model.specs.declared.event.Event.TheVariants.{Step, Evict}
 use Rattle.jc_model.specs.Cache.{Bytes, Cache}
-use Rattle.jc_model.specs.Group.{Group, events_of, victim_events, step_event, evicted_events, step_place, shared_event, history_of, cache_after_group}
+use Rattle.jc_model.specs.Group.{Group, Part, Made, Dropped, events_of, victim_events, step_event, evicted_events, step_place, shared_event, history_of, cache_after_group}
 use Rattle.jc_model.specs.Lawful.{IsLawful, AreLawful}
 use Rattle.jc_model.specs.Table.{NewStep}
 use Rattle.jc_model.specs.Reader.{read_group}
@@ -37,9 +38,9 @@ IsFresh (Open place cache group) = group.evicted ≡ None
 
 -- groups that spell the events, from a place and a cache on
 pub record Spells (config : Config) (place : ℕ) (cache : Cache) (events : List Event) : Type 0 where
-  pub groups : List Group
-  pub spelled : events ≡ history_of place groups
-  pub lawful : AreLawful config cache groups
+  pub parts : List Part
+  pub spelled : events ≡ history_of place parts
+  pub lawful : AreLawful config cache parts
 
 -- a phase reached by one event from between two groups
 begun_so_far : (place : ℕ) (cache : Cache) (e : Event) (phase : Phase) → begun place cache e ≡ Some phase → (so_far phase ≡ e ∷ []) × (start_of phase ≡ place) × (cache_of phase ≡ cache) × IsFresh phase
@@ -51,6 +52,7 @@ begun_so_far place cache (Evict key Full) phase h =
     let P : Phase → Type 0 = λ p. (so_far p ≡ Evict key Full ∷ []) × (start_of p ≡ place) × (cache_of p ≡ cache) × IsFresh p in
     let is : Chosen place cache key ≡ phase = cc in subst P is (refl, refl, refl, tt)
 begun_so_far place cache (Evict key Memory) phase h = cc
+begun_so_far place cache (Evict key Invalidated) phase h = cc
 
 chosen_so_far : (place : ℕ) (cache : Cache) (key : Bytes) (e : Event) (phase : Phase) → chosen_begun place cache key e ≡ Some phase → (so_far phase ≡ Evict key Full ∷ e ∷ []) × (start_of phase ≡ place) × (cache_of phase ≡ cache) × IsFresh phase
 chosen_so_far place cache victim (Step who op key out None reply) phase h =
@@ -88,12 +90,15 @@ moved config p q c d xs ys e f g s =
 
 -- what can be read is spelled by lawful groups
 pub sound : (config : Config) (phase : Phase) (es : List Event) → IsFresh phase → Reads config phase es → Spells config (start_of phase) (cache_of phase) (so_far phase ++ es)
-sound config (Between p c) [] fresh r = record { groups = []; spelled = refl; lawful = tt }
+sound config (Between p c) [] fresh r = record { parts = []; spelled = refl; lawful = tt }
 sound config (Chosen p c key) [] fresh r = absurd r
-sound config (Open p c g) [] fresh r = record { groups = g ∷ []; spelled = refl; lawful = (r, tt) }
-sound config (Between p c) (e ∷ es) fresh r =
+sound config (Open p c g) [] fresh r = record { parts = Made g ∷ []; spelled = refl; lawful = (r, tt) }
+sound config (Between p c) (e ∷ es) fresh (inl r) =
     let k = begun_so_far p c e r.0 r.1 in
     moved config _ _ _ _ _ _ k.1 k.2 (ap (λ x. x ++ es) k.0) (sound config r.0 es k.3 r.2)
+sound config (Between p c) (e ∷ es) fresh (inr d) =
+    let rest = sound config (Between (p + 1) (remove c d.0)) es tt d.3 in
+    record { parts = Dropped d.0 ∷ rest.parts; spelled = ap (λ x. x ∷ es) d.1 ∙ ap (λ h. Evict d.0 Invalidated ∷ h) rest.spelled; lawful = (d.2, rest.lawful) }
 sound config (Chosen p c key) (e ∷ es) fresh r =
     let k = chosen_so_far p c key e r.0 r.1 in
     moved config _ _ _ _ _ _ k.1 k.2 (ap (λ x. x ++ es) k.0) (sound config r.0 es k.3 r.2)
@@ -105,14 +110,21 @@ sound config (Open p c g) (e ∷ es) fresh (inr (inl b)) =
     let whole = with_evicted g b.0 in
     let rest = sound config (Between (behind p whole) (cache_after_group c whole)) es tt b.3 in
     record {
-      groups = whole ∷ rest.groups;
+      parts = Made whole ∷ rest.parts;
       spelled = ap (λ y. events_of p g ++ y ∷ es) b.1 ∙ sym (append_assoc (events_of p g) (Evict g.step.key b.0 ∷ []) es) ∙ ap (λ x. x ++ es) (sym (evicted_so_far p g b.0 fresh)) ∙ ap (λ h. events_of p whole ++ h) rest.spelled;
       lawful = (b.2, rest.lawful);
     }
-sound config (Open p c g) (e ∷ es) fresh (inr (inr d)) =
+sound config (Open p c g) (e ∷ es) fresh (inr (inr (inl d))) =
     let k = begun_so_far (behind p g) (cache_after_group c g) e d.0 d.1 in
     let rest = moved config _ (behind p g) _ (cache_after_group c g) _ (e ∷ es) k.1 k.2 (ap (λ x. x ++ es) k.0) (sound config d.0 es k.3 d.3) in
-    record { groups = g ∷ rest.groups; spelled = ap (λ h. events_of p g ++ h) rest.spelled; lawful = (d.2, rest.lawful) }
+    record { parts = Made g ∷ rest.parts; spelled = ap (λ h. events_of p g ++ h) rest.spelled; lawful = (d.2, rest.lawful) }
+sound config (Open p c g) (e ∷ es) fresh (inr (inr (inr d))) =
+    let rest = sound config (Between (behind p g + 1) (remove (cache_after_group c g) d.0)) es tt d.4 in
+    record {
+      parts = Made g ∷ Dropped d.0 ∷ rest.parts;
+      spelled = ap (λ x. events_of p g ++ x ∷ es) d.1 ∙ ap (λ h. events_of p g ++ Evict d.0 Invalidated ∷ h) rest.spelled;
+      lawful = (d.2, (d.3, rest.lawful));
+    }
 
 -- what is left of a group, and what follows it, can be read
 complete_joined : (config : Config) (place : ℕ) (cache : Cache) (g : Group) (js : List Caller) (ev : Option Cause) (rest : List Event) (whole : Group) → whole ≡ record g { joined = g.joined ++ js; evicted = ev } → g.evicted ≡ None
@@ -133,8 +145,8 @@ complete_joined config place cache g [] None (e ∷ es) whole is fresh lawful re
     let same : whole ≡ g = is ∙ (λ i. record g { joined = append-nil g.joined i; evicted = sym fresh i }) in
     let P : Group → Type 0 = λ w. IsLawful config cache w in
     let Q : Group → Type 0 = λ w. Reads config (Between (behind place w) (cache_after_group cache w)) (e ∷ es) in
-    let next = subst Q same reads in
-    inr (inr (next.0, next.1, subst P same lawful, next.2))
+    let whole_lawful = subst P same lawful in
+    ⊎_elim (λ next. inr (inr (inl (next.0, next.1, whole_lawful, next.2)))) (λ d. inr (inr (inr (d.0, d.1, whole_lawful, d.2, d.3)))) (subst Q same reads)
 
 complete_group : (config : Config) (place : ℕ) (cache : Cache) (victim : Option Bytes) (who : Caller) (made : NewStep) (joined : List Caller) (ev : Option Cause) (rest : List Event)
     → IsLawful config cache (record { victim = victim; caller = who; step = made; joined = joined; evicted = ev })
@@ -142,20 +154,21 @@ complete_group : (config : Config) (place : ℕ) (cache : Cache) (victim : Optio
     → Reads config (Between place cache) (events_of place (record { victim = victim; caller = who; step = made; joined = joined; evicted = ev }) ++ rest)
 complete_group config place cache None who made joined ev rest lawful reads =
     let g = read_group None who made.op made.key made.out made.reply in
-    (Open place cache g, refl, complete_joined config place cache g joined ev rest _ refl refl lawful reads)
+    inl (Open place cache g, refl, complete_joined config place cache g joined ev rest _ refl refl lawful reads)
 complete_group config place cache (Some v) who made joined ev rest lawful reads =
     let g = read_group (Some v) who made.op made.key made.out made.reply in
-    (Chosen place cache v, refl, (Open place cache g, refl, complete_joined config place cache g joined ev rest _ refl refl lawful reads))
+    inl (Chosen place cache v, refl, (Open place cache g, refl, complete_joined config place cache g joined ev rest _ refl refl lawful reads))
 
--- what lawful groups spell can be read
-pub complete : (config : Config) (place : ℕ) (cache : Cache) (groups : List Group) → AreLawful config cache groups → Reads config (Between place cache) (history_of place groups)
+-- what lawful parts spell can be read
+pub complete : (config : Config) (place : ℕ) (cache : Cache) (parts : List Part) → AreLawful config cache parts → Reads config (Between place cache) (history_of place parts)
 complete config place cache [] lawful = tt
-complete config place cache (g ∷ gs) lawful =
-    complete_group config place cache g.victim g.caller g.step g.joined g.evicted (history_of (behind place g) gs) lawful.0 (complete config (behind place g) (cache_after_group cache g) gs lawful.1)
+complete config place cache (Made g ∷ ps) lawful =
+    complete_group config place cache g.victim g.caller g.step g.joined g.evicted (history_of (behind place g) ps) lawful.0 (complete config (behind place g) (cache_after_group cache g) ps lawful.1)
+complete config place cache (Dropped key ∷ ps) lawful = inr (key, refl, lawful.0, complete config (place + 1) (remove cache key) ps lawful.1)
 
 -- to be read is to be spelled
 pub reads_iff : (config : Config) (cache : Cache) (es : List Event) → (Reads config (Between 0 cache) es → Spells config 0 cache es) × (Spells config 0 cache es → Reads config (Between 0 cache) es)
 reads_iff config cache es = (
   λ r. sound config (Between 0 cache) es tt r,
-  λ s. let P : List Event → Type 0 = λ es. Reads config (Between 0 cache) es in subst P (sym s.spelled) (complete config 0 cache s.groups s.lawful),
+  λ s. let P : List Event → Type 0 = λ es. Reads config (Between 0 cache) es in subst P (sym s.spelled) (complete config 0 cache s.parts s.lawful),
 )

@@ -10,7 +10,7 @@ use Rattle.jc_model.specs.declared.event.Event.{Event}
 use Rattle.jc_model.specs.declared.reader.Stage.TheVariants.{Outside}
 use Rattle.jc_model.specs.Cache.{Bytes}
 use Rattle.jc_model.specs.Listed.{has_distinct_keys}
-use Rattle.jc_model.specs.Group.{cache_after_groups}
+use Rattle.jc_model.specs.Group.{cache_after_parts}
 use Rattle.jc_model.specs.Legal.{Legal, is_of_stripe, in_order}
 use Rattle.jc_model.specs.Reader.{first_stripe, are_of_one_stripe, Accepts}
 use Rattle.jc_model.proofs.CallerLemmas.{opening_of}
@@ -32,15 +32,15 @@ to_legal config opening events fits once few stripe order accepted =
       stripe = first;
       opens = opens;
       own = own.1;
-      next = cache_after_groups cache spells.groups;
-      history = record { groups = spells.groups; spelled = spells.spelled; lawful = spells.lawful; left = refl; order = order };
+      next = cache_after_parts cache spells.parts;
+      history = record { parts = spells.parts; spelled = spells.spelled; lawful = spells.lawful; left = refl; order = order };
     }
 
 pub from_legal : (config : Config) (opening : List (Bytes × Bytes)) (events : List Event) → Legal config opening events → Accepts config 0 (from_entries opening) Outside events
 from_legal config opening events h =
     let cache = from_entries opening in
     (accepts_iff config cache events h.opens.few).1
-    ((reads_iff config cache events).1 (record { groups = h.history.groups; spelled = h.history.spelled; lawful = h.history.lawful }))
+    ((reads_iff config cache events).1 (record { parts = h.history.parts; spelled = h.history.spelled; lawful = h.history.lawful }))
 
 pub legal_few : (config : Config) (opening : List (Bytes × Bytes)) (events : List Event) → Legal config opening events → length opening ≤ config.capacity
 legal_few config opening events h = opening_few config h.stripe opening h.once h.opens

@@ -10,13 +10,16 @@
 --                              reply is what its loader answered
 --     step_place               the place of a group's step, from the place at which the group begins
 --     events_of                the events of a group that begins at a place
---     history_of               the events of a list of groups that begins at a place
+--     Part                     a part of a history: a group, or the eviction of an invalidated key
+--     part_events              the events of a part that begins at a place
+--     history_of               the events of a list of parts that begins at a place
 --     without_victim           a cache without the key that is evicted, if one is
 --     cache_before_step        the cache in which a group's step is made: without the group's victim
 --     cache_after_step         the cache after the step of a group
 --     without_own              a cache without the step's own key, if that key is evicted
 --     cache_after_group        the cache after a whole group
---     cache_after_groups       the cache after a list of groups
+--     cache_after_part         the cache after a part
+--     cache_after_parts        the cache after a list of parts
 use Rattle.std.specs.Prelude.{ℕ, ◌+◌, List, [], ◌∷◌, ◌++◌, length, map, Option, None, Some}
 use Rattle.std.specs.FinMap.{remove}
 use Rattle.jc_types.specs.declared.caller.Caller.{Caller}
@@ -28,7 +31,7 @@ use Rattle.jc_model.specs.declared.event.WriteAnswer.{WriteAnswer}
 use Rattle.jc_model.specs.declared.event.WriteAnswer.TheVariants as write
 use Rattle.jc_model.specs.declared.event.ProcessAnswer.TheVariants as process
 use Rattle.jc_model.specs.declared.event.Cause.{Cause}
-use Rattle.jc_model.specs.declared.event.Cause.TheVariants.{Full}
+use Rattle.jc_model.specs.declared.event.Cause.TheVariants.{Full, Invalidated}
 use Rattle.jc_model.specs.declared.event.Event.{Event}
 use Rattle.jc_model.specs.declared.event.Event.TheVariants.{Step, Evict}
 use Rattle.jc_model.specs.Cache.{Bytes, Cache}
@@ -82,9 +85,17 @@ events_of place group =
     victim_events group.victim ++ step_event group
     ∷ map (shared_event (step_place place group) group.step.key group.step.out.load) group.joined ++ evicted_events group.step.key group.evicted
 
-abbrev pub history_of : ℕ → List Group → List Event
+pub data Part : Type 0 where
+  Made : (group : Group) → Part
+  Dropped : (key : Bytes) → Part
+
+abbrev pub part_events : ℕ → Part → List Event
+part_events place (Made group) = events_of place group
+part_events place (Dropped key) = Evict key Invalidated ∷ []
+
+abbrev pub history_of : ℕ → List Part → List Event
 history_of place [] = []
-history_of place (group ∷ groups) = events_of place group ++ history_of (place + length (events_of place group)) groups
+history_of place (part ∷ parts) = part_events place part ++ history_of (place + length (part_events place part)) parts
 
 -- 3. The cache that a group leaves.
 
@@ -105,6 +116,10 @@ without_own cache key (Some cause) = remove cache key
 abbrev pub cache_after_group : Cache → Group → Cache
 cache_after_group cache group = without_own (cache_after_step cache group) group.step.key group.evicted
 
-abbrev pub cache_after_groups : Cache → List Group → Cache
-cache_after_groups cache [] = cache
-cache_after_groups cache (group ∷ groups) = cache_after_groups (cache_after_group cache group) groups
+abbrev pub cache_after_part : Cache → Part → Cache
+cache_after_part cache (Made group) = cache_after_group cache group
+cache_after_part cache (Dropped key) = remove cache key
+
+abbrev pub cache_after_parts : Cache → List Part → Cache
+cache_after_parts cache [] = cache
+cache_after_parts cache (part ∷ parts) = cache_after_parts (cache_after_part cache part) parts

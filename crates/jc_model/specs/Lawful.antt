@@ -10,7 +10,8 @@
 --     IsLawfulStep    holds when the step is made: it is a sequential step, and its victim is lawful
 --     IsLawful        holds when the group ends: its step, those that share its load, and its eviction are lawful, and no more
 --                     entries than fit are left
---     AreLawful       each group is lawful in the cache that those before it leave
+--     IsLawfulPart    a group is lawful, or an invalidated key that is evicted has an entry
+--     AreLawful       each part is lawful in the cache that those before it leave
 use Rattle.std.specs.Prelude.{◌==◌, ◌≤◌, List, [], ◌∷◌, Bool, true, false, not, ◌&&◌, IsTrue, Option, None, Some, is_some, is_none}
 use Rattle.std.specs.Cmp.Lexicographic.{pointwise}
 use Rattle.std.specs.FinMap.{len}
@@ -19,10 +20,10 @@ use Rattle.jc_types.specs.declared.config.Config.{Config}
 use Rattle.jc_model.specs.declared.event.Op.{Op}
 use Rattle.jc_model.specs.declared.event.OpKind.TheVariants as kind
 use Rattle.jc_model.specs.declared.event.Cause.{Cause}
-use Rattle.jc_model.specs.declared.event.Cause.TheVariants.{Full, Memory}
+use Rattle.jc_model.specs.declared.event.Cause.TheVariants.{Full, Memory, Invalidated}
 use Rattle.jc_model.specs.Cache.{Bytes, Cache, entry_at}
 use Rattle.jc_model.specs.Table.{Seq, seq_entry, is_load_given, op_kind}
-use Rattle.jc_model.specs.Group.{Group, cache_before_step, cache_after_step, cache_after_group}
+use Rattle.jc_model.specs.Group.{Group, Part, Made, Dropped, cache_before_step, cache_after_step, cache_after_group, cache_after_part}
 
 abbrev pub inserts : Cache → Group → Bool
 inserts cache group = is_none (entry_at (cache_before_step cache group) group.step.key) && is_some (seq_entry (cache_before_step cache group) group.step)
@@ -35,6 +36,7 @@ victim_fits config cache group (Some key) =
 abbrev pub evicted_fits : Config → Cache → Group → Option Cause → Bool
 evicted_fits config cache group None = true
 evicted_fits config cache group (Some Memory) = inserts cache group
+evicted_fits config cache group (Some Invalidated) = false
 evicted_fits config cache group (Some Full) = inserts cache group && (len cache == config.capacity) && is_none group.victim
 
 -- the operations that load a key whole, so that a `Get` may join them
@@ -66,6 +68,10 @@ pub record IsLawful (config : Config) (cache : Cache) (group : Group) : Type 0 w
   pub evicted : IsTrue (evicted_fits config cache group group.evicted)
   pub within : len (cache_after_group cache group) ≤ config.capacity
 
-abbrev pub AreLawful : Config → Cache → List Group → Type 0
+abbrev pub IsLawfulPart : Config → Cache → Part → Type 0
+IsLawfulPart config cache (Made group) = IsLawful config cache group
+IsLawfulPart config cache (Dropped key) = IsTrue (is_some (entry_at cache key))
+
+abbrev pub AreLawful : Config → Cache → List Part → Type 0
 AreLawful config cache [] = Unit {0}
-AreLawful config cache (group ∷ groups) = IsLawful config cache group × AreLawful config (cache_after_group cache group) groups
+AreLawful config cache (part ∷ parts) = IsLawfulPart config cache part × AreLawful config (cache_after_part cache part) parts

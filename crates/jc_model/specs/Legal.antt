@@ -7,7 +7,7 @@
 --     is_of_stripe       whether an event's key is of a stripe
 --     of_stripe          the events whose key is of a stripe
 --     IsOpening          the cache that a stripe's history may begin with: at most `capacity` entries, and only keys of the stripe
---     IsHistory          the events are lawful groups from a cache, in the callers' order, and leave another cache
+--     IsHistory          the events are lawful parts from a cache, in the callers' order, and leave another cache
 --     Legal              a legal history of one stripe: of a lawful configuration, from an opening of the stripe, as `legal`
 --                        checks it
 --     IsWholeHistory     a legal history over all stripes: of a lawful configuration, from an opening of each stripe, and the part
@@ -24,7 +24,7 @@ use Rattle.jc_model.specs.declared.event.Event.{Event}
 use Rattle.jc_model.specs.declared.event.Event.TheVariants.{Step, Evict}
 use Rattle.jc_model.specs.Cache.{Bytes, Cache}
 use Rattle.jc_model.specs.Listed.{has_distinct_keys}
-use Rattle.jc_model.specs.Group.{Group, history_of, cache_after_groups}
+use Rattle.jc_model.specs.Group.{Part, history_of, cache_after_parts}
 use Rattle.jc_model.specs.Lawful.{AreLawful}
 
 -- 1. The callers' order.
@@ -63,10 +63,10 @@ pub record IsOpening (config : Config) (stripe : ℕ) (cache : Cache) : Type 0 w
 -- 3. Histories.
 
 pub record IsHistory (config : Config) (cache : Cache) (events : List Event) (next : Cache) : Type 0 where
-  pub groups : List Group
-  pub spelled : events ≡ history_of 0 groups
-  pub lawful : AreLawful config cache groups
-  pub left : next ≡ cache_after_groups cache groups
+  pub parts : List Part
+  pub spelled : events ≡ history_of 0 parts
+  pub lawful : AreLawful config cache parts
+  pub left : next ≡ cache_after_parts cache parts
   pub order : IsTrue (in_order events)
 
 pub record Legal (config : Config) (opening : List (Bytes × Bytes)) (events : List Event) : Type 0 where

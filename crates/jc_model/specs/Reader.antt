@@ -8,7 +8,9 @@
 --     opened_group      what is kept of a group whose step is at a place
 --     cause_fits        the step's own key may go for this cause
 --     own_goes          this key, for this cause, is the step's own and may go
---     is_full_cause     a cause is `Full`
+--     starts_part       an eviction of this key, for this cause, may begin a part: of a victim, or of an invalidated key that has an
+--                       entry
+--     started_stage,    started_cache    the stage and the cache after such an eviction
 --     picked_victim     the victim of the group that comes next, if it was read
 --     group_at          the group of a step that is read at a stage
 --     is_within         if a group ends here, no more entries are left than fit
@@ -20,7 +22,7 @@
 --     may_stop          the history may end
 --     Accepts           each of the events fits after those before it
 --     comes_before      an event is a step of the same session with a lower number than another
-use Rattle.std.specs.Prelude.{◌≡◌, ◌==◌, ◌&&◌, ◌||◌, ℕ, ◌+◌, List, [], ◌∷◌, Bool, true, false, IsTrue, Option, None, Some, is_none, nat_le, nat_lt, if◌then◌else◌}
+use Rattle.std.specs.Prelude.{◌≡◌, ◌==◌, ◌&&◌, ◌||◌, ℕ, ◌+◌, List, [], ◌∷◌, Bool, true, false, IsTrue, Option, None, Some, is_none, is_some, nat_le, nat_lt, if◌then◌else◌}
 use Rattle.std.specs.List.{list_all}
 use Rattle.std.specs.Cmp.Lexicographic.{pointwise}
 use Rattle.std.specs.FinMap.{len, remove}
@@ -31,13 +33,13 @@ use Rattle.jc_model.specs.declared.event.Op.{Op}
 use Rattle.jc_model.specs.declared.event.Out.{Out}
 use Rattle.jc_model.specs.declared.event.Reply.{Reply}
 use Rattle.jc_model.specs.declared.event.Cause.{Cause}
-use Rattle.jc_model.specs.declared.event.Cause.TheVariants.{Full, Memory}
+use Rattle.jc_model.specs.declared.event.Cause.TheVariants.{Full, Memory, Invalidated}
 use Rattle.jc_model.specs.declared.event.Event.{Event}
 use Rattle.jc_model.specs.declared.event.Event.TheVariants.{Step, Evict}
 use Rattle.jc_model.specs.declared.reader.Opened.{Opened}
 use Rattle.jc_model.specs.declared.reader.Stage.{Stage}
 use Rattle.jc_model.specs.declared.reader.Stage.TheVariants.{Outside, Picked, Inside}
-use Rattle.jc_model.specs.Cache.{Bytes, Cache}
+use Rattle.jc_model.specs.Cache.{Bytes, Cache, entry_at}
 use Rattle.jc_model.specs.Group.{Group, shared_event, cache_after_step}
 use Rattle.jc_model.specs.Legal.{event_key, is_of_stripe}
 use Rattle.jc_model.specs.Lawful.{is_joinable, inserts, IsLawfulStep}
@@ -76,14 +78,28 @@ opened_group config cache place group =
 abbrev pub cause_fits : Opened → Cause → Bool
 cause_fits kept Full = kept.was_full
 cause_fits kept Memory = true
+cause_fits kept Invalidated = false
 
 -- the step's own key may go
 abbrev pub own_goes : Opened → Bytes → Cause → Bool
 own_goes kept key cause = pointwise ◌==◌ key kept.key && kept.is_inserted && cause_fits kept cause
 
-abbrev pub is_full_cause : Cause → Bool
-is_full_cause Full = true
-is_full_cause Memory = false
+-- an eviction may begin a part
+abbrev pub starts_part : Cache → Bytes → Cause → Bool
+starts_part cache key Full = true
+starts_part cache key Memory = false
+starts_part cache key Invalidated = is_some (entry_at cache key)
+
+abbrev pub started_stage : Bytes → Cause → Stage
+started_stage key Full = Picked key
+started_stage key Memory = Picked key
+started_stage key Invalidated = Outside
+
+-- a victim goes with the step
+abbrev pub started_cache : Cache → Bytes → Cause → Cache
+started_cache cache key Full = cache
+started_cache cache key Memory = cache
+started_cache cache key Invalidated = remove cache key
 
 abbrev pub picked_victim : Stage → Option Bytes
 picked_victim Outside = None
@@ -106,11 +122,11 @@ FitsShared (Inside kept) (Evict key cause) = ⊥
 FitsShared Outside event = ⊥
 FitsShared (Picked key) event = ⊥
 
--- a victim is named between two groups, or the step's own key
+-- a victim or an invalidated key is named between two groups, or the step's own key
 abbrev pub fits_evict : Config → Cache → Stage → Bytes → Cause → Bool
-fits_evict config cache Outside key cause = is_full_cause cause
+fits_evict config cache Outside key cause = starts_part cache key cause
 fits_evict config cache (Picked victim) key cause = false
-fits_evict config cache (Inside kept) key cause = own_goes kept key cause || (is_full_cause cause && nat_le (len cache) config.capacity)
+fits_evict config cache (Inside kept) key cause = own_goes kept key cause || (starts_part cache key cause && nat_le (len cache) config.capacity)
 
 -- an event may come next
 abbrev pub Fits : Config → Cache → Stage → Event → Type 0
@@ -120,14 +136,14 @@ Fits config cache stage (Step caller op key out (Some place) reply) = FitsShared
 Fits config cache stage (Evict key cause) = IsTrue (fits_evict config cache stage key cause)
 
 abbrev pub evict_stage : Stage → Bytes → Cause → Stage
-evict_stage Outside key cause = Picked key
+evict_stage Outside key cause = started_stage key cause
 evict_stage (Picked victim) key cause = Picked key
-evict_stage (Inside kept) key cause = if own_goes kept key cause then Outside else Picked key
+evict_stage (Inside kept) key cause = if own_goes kept key cause then Outside else started_stage key cause
 
 abbrev pub evict_cache : Cache → Stage → Bytes → Cause → Cache
-evict_cache cache Outside key cause = cache
+evict_cache cache Outside key cause = started_cache cache key cause
 evict_cache cache (Picked victim) key cause = cache
-evict_cache cache (Inside kept) key cause = if own_goes kept key cause then remove cache key else cache
+evict_cache cache (Inside kept) key cause = if own_goes kept key cause then remove cache key else started_cache cache key cause
 
 -- the stage after an event at a place
 abbrev pub then_stage : Config → Cache → ℕ → Stage → Event → Stage

@@ -28,6 +28,7 @@ use Rattle.jc_model.specs.declared.event.ProcessAnswer.TheVariants as process
 use Rattle.jc_model.specs.declared.event.Effect.TheVariants as effect
 use Rattle.jc_model.specs.declared.event.Reply.{Reply}
 use Rattle.jc_model.specs.declared.event.Reply.TheVariants as reply
+use Rattle.jc_model.specs.declared.event.Cause.TheVariants.{Full, Memory, Invalidated}
 use Rattle.jc_model.specs.declared.event.Event.{Event}
 use Rattle.jc_model.specs.declared.event.Event.TheVariants.{Step, Evict}
 use Rattle.jc_model.specs.declared.statistics.Statistics.{Statistics}
@@ -168,7 +169,9 @@ event_removes (Step caller op key out shared_with answer) = step_removes op out 
 event_removes (Evict key cause) = false
 
 abbrev pub event_evicts : Event → Bool
-event_evicts (Evict key cause) = true
+event_evicts (Evict key Full) = true
+event_evicts (Evict key Memory) = true
+event_evicts (Evict key Invalidated) = false
 event_evicts (Step caller op key out shared_with answer) = false
 
 abbrev pub is_hit : Occurrence → Bool

@@ -279,6 +279,8 @@ pub enum Cause {
     Full,
     /// An allocation for the entry failed.
     Memory,
+    /// The key was invalidated: somebody else may have written it.
+    Invalidated,
 }
 
 /// One event of a stripe's history.

@@ -2,7 +2,7 @@
 ghost use Rattle.std.specs.Prelude.{◌≡◌, ◌↔◌, IsTrue, IfOk};
 ghost use Rattle.std.specs.FinMap.{from_entries};
 ghost use Rattle.jc_model.specs.Listed.{has_distinct_keys};
-ghost use Rattle.jc_model.specs.Reader.{own_goes, picked_victim, is_within, fits_evict, may_stop, Accepts};
+ghost use Rattle.jc_model.specs.Reader.{own_goes, starts_part, picked_victim, is_within, fits_evict, may_stop, Accepts};
 
 mod fits;
 mod follows;
@@ -49,8 +49,20 @@ impl Opened {
         let does_cause_fit = match cause {
             Cause::Full => self.was_full,
             Cause::Memory => true,
+            Cause::Invalidated => false,
         };
         *key == self.key && self.is_inserted && does_cause_fit
+    }
+}
+
+/// Whether an eviction of this key may begin a part of a history.
+fn does_start_part(contents: &Contents, key: &Key, cause: Cause) -> bool
+    ensures { result ≡ starts_part contents.now key.now cause }
+{
+    match cause {
+        Cause::Full => true,
+        Cause::Memory => false,
+        Cause::Invalidated => contents.get(key).is_some(),
     }
 }
 
@@ -79,15 +91,12 @@ impl Stage {
     fn does_evict_fit(&self, config: &Config, contents: &Contents, key: &Key, cause: Cause) -> bool
         ensures { result ≡ fits_evict config.now contents.now self.now key.now cause }
     {
-        let is_full = match cause {
-            Cause::Full => true,
-            Cause::Memory => false,
-        };
+        let starts = does_start_part(contents, key, cause);
         match self {
-            Stage::Outside => is_full,
+            Stage::Outside => starts,
             Stage::Picked(_) => false,
             Stage::Inside(kept) => {
-                kept.does_own_go(key, cause) || (is_full && contents.len() <= config.capacity)
+                kept.does_own_go(key, cause) || (starts && contents.len() <= config.capacity)
             }
         }
     }

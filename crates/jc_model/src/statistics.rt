@@ -6,7 +6,7 @@ ghost use Rattle.jc_model.specs.Statistics.{has_value, has_none, has_flag, has_n
 ghost use Rattle.jc_model.specs.Statistics.{step_puts, step_removes, capped, statistics_of, more_if, with_event, together, StatisticsLaws};
 ghost use Rattle.jc_model.specs.declared.event.Event.TheVariants.{Step};
 
-use crate::event::{Effect, Event, Op, Out, ProcessAnswer, Reply};
+use crate::event::{Cause, Effect, Event, Op, Out, ProcessAnswer, Reply};
 
 /// How often a cache was asked and changed. A count that has reached `u64::MAX` stays there.
 ///
@@ -169,9 +169,12 @@ impl Statistics {
     {
         match event {
             Event::Step { op, out, reply, .. } => self.with_step(found, op, out, reply),
-            Event::Evict { .. } => Statistics {
-                evictions: self.evictions.saturating_add(1),
-                ..*self
+            Event::Evict { cause, .. } => match cause {
+                Cause::Full | Cause::Memory => Statistics {
+                    evictions: self.evictions.saturating_add(1),
+                    ..*self
+                },
+                Cause::Invalidated => *self,
             },
         }
     }

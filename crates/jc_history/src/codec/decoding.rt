@@ -313,9 +313,14 @@ pub(crate) fn decode_event(bytes: &[u8]) -> Event
             let cause = Cause::Full;
             Event::Evict { key, cause }
         }
-        _ => {
+        2 => {
             let key = decode_key(&mut input);
             let cause = Cause::Memory;
+            Event::Evict { key, cause }
+        }
+        _ => {
+            let key = decode_key(&mut input);
+            let cause = Cause::Invalidated;
             Event::Evict { key, cause }
         }
     }

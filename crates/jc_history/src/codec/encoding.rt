@@ -369,6 +369,7 @@ pub(crate) fn encode_event(out: &mut Vec<u8>, event: &Event)
             out.push_reserved(match cause {
                 Cause::Full => 1,
                 Cause::Memory => 2,
+                Cause::Invalidated => 3,
             });
             encode_key(out, key);
         }

@@ -1,10 +1,10 @@
 //! How the reader goes over an event: its stage afterwards, and the cache.
 ghost use Rattle.std.specs.Prelude.{◌≡◌, IfOk, OnOk};
 ghost use Rattle.jc_model.specs.Group.{cache_after_step};
-ghost use Rattle.jc_model.specs.Reader.{read_group, opened_group, then_stage, then_cache};
+ghost use Rattle.jc_model.specs.Reader.{read_group, opened_group, started_stage, started_cache, then_stage, then_cache};
 
 use crate::contents::Contents;
-use crate::event::Event;
+use crate::event::{Cause, Event};
 use crate::reader::fits::{ReadStep, does_insert, entry_before};
 use crate::reader::{Opened, Stage};
 use jc_types::{Config, Key};
@@ -88,7 +88,24 @@ pub(super) fn go_over(
                 contents.remove(key);
                 return Ok(Stage::Outside);
             }
-            Ok(Stage::Picked(*key))
+            if let Stage::Picked(_) = stage {
+                return Ok(Stage::Picked(*key));
+            }
+            Ok(start_part(contents, key, *cause))
+        }
+    }
+}
+
+/// Goes over an eviction that begins a part: a victim goes with its step, and an invalidated key goes now.
+fn start_part(contents: &mut Contents, key: &Key, cause: Cause) -> Stage
+    ensures stage { result ≡ started_stage key.now cause }
+    ensures cache { contents.new ≡ started_cache contents.old key.now cause }
+{
+    match cause {
+        Cause::Full | Cause::Memory => Stage::Picked(*key),
+        Cause::Invalidated => {
+            contents.remove(key);
+            Stage::Outside
         }
     }
 }
