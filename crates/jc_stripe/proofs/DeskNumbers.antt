@@ -18,7 +18,8 @@ use Rattle.jc_model.specs.Cache.{Bytes}
 use Rattle.jc_stripe.specs.State.{State, is_of}
 use Rattle.jc_stripe.specs.OnePhase.{own_steps, IsUniform, IsPhaseOf, OnePhase}
 use Rattle.jc_stripe.specs.OwnSteps.{is_before_call, CallerNumbers, OwnNumbers, OwnSteps}
-use Rattle.jc_stripe.specs.Phases.{MayBegin, Begins, Commits, PicksUp, is_other_call, is_other_join}
+use Rattle.jc_stripe.specs.Phases.{MayBegin, Begins, PicksUp, is_other_call, is_other_join}
+use Rattle.jc_stripe.specs.Invalidating.{Ends}
 use Rattle.jc_stripe.specs.Reached.{IsReached}
 use Rattle.jc_stripe.specs.Tickets.{JoinClaim}
 use Rattle.jc_stripe.specs.declared.ticket.Reservation.{Reservation}
@@ -90,13 +91,13 @@ below : (n m : ℕ) → n < m → nat_lt n m ≡ true
 below n m low = grind (arith, nat_tests)
 
 pub committed : (steps : OwnSteps) (one : OnePhase) (old new : State) (r : Reservation) (out : Out) (done : StepDone) (next : ℕ) → r.caller.call < next
-    → IsReached old → HasStepsBefore old next → Commits old r out done new → IsPhaseOf r.caller.session old new → HasStepsBefore new next
-committed steps one old new r out done next low reached before commits phase =
+    → IsReached old → HasStepsBefore old next → Ends old r out done new → IsPhaseOf r.caller.session old new → HasStepsBefore new next
+committed steps one old new r out done next low reached before ends phase =
     let who = r.caller in
     let event : Event = Step who r.op r.key out None done.reply in
     behind who.session next next old new (omega arith) (one who.session old new reached phase) before
     (all_one_more (is_before_call who.session next) event (own_steps who.session old) (own_steps who.session new)
-    (adds_one who.session old new event done.place (steps.commits old new r out done reached commits)) (or_last (not (who.session == who.session)) (nat_lt who.call next) (below who.call next low)) (before who.session))
+    (adds_one who.session old new event done.place (steps.ends old new r out done reached ends)) (or_last (not (who.session == who.session)) (nat_lt who.call next) (below who.call next low)) (before who.session))
 
 pub picked : (steps : OwnSteps) (one : OnePhase) (old new : State) (join : JoinClaim) (reply : Reply) (place shared_with next : ℕ) → join.caller.call < next
     → IsReached old → HasStepsBefore old next → PicksUp old join (polled.Answer reply place shared_with) new → IsPhaseOf join.caller.session old new → HasStepsBefore new next

@@ -5,8 +5,8 @@ use Rattle.std.proofs.lemmas.List.{length-append}
 use Rattle.std.proofs.lemmas.List.Elements.{All-push, All-filter}
 use Rattle.jc_types.specs.declared.caller.Caller.{Caller}
 use Rattle.jc_types.specs.declared.limits.TheConstants.{LAST_NUMBER}
-use Rattle.jc_model.specs.Cache.{Bytes}
-use Rattle.std.proofs.Common.{Option, None, find, nat_lt, ◌==◌, ◌&&◌, ◌-◌, cond, slice_get}
+use Rattle.jc_model.specs.Cache.{Bytes, entry_at}
+use Rattle.std.proofs.Common.{Option, None, is_some, if◌then◌else◌, find, nat_lt, ◌==◌, ◌&&◌, ◌-◌, cond, slice_get}
 use Rattle.std.proofs.lemmas.Bool.{and_parts, and_from, eqb-true}
 use Rattle.std.proofs.lemmas.Bool.Decides.{nat_tests}
 use Rattle.std.proofs.lemmas.List.Folds.{list_all-append}
@@ -26,8 +26,9 @@ use Rattle.jc_stripe.specs.State.{State, IsJoined, is_key, with_reservation, wit
 use Rattle.jc_stripe.specs.Tests.{is_clear}
 use Rattle.jc_stripe.specs.Generations.{after_renewal}
 use Rattle.jc_stripe.specs.Renewal.{RenewsIfFull, is_renewable}
-use Rattle.jc_stripe.specs.DeskState.{DeskState, HasStepsBefore, IsDesk, is_joined_before, next_caller, may_call_next}
-use Rattle.jc_stripe.specs.DeskPhases.{newest}
+use Rattle.jc_stripe.specs.DeskState.{DeskState, HasStepsBefore, IsDesk, is_joined_before, next_caller, may_call_next, awaits_end, renewed_if_full}
+use Rattle.jc_stripe.specs.DeskPhases.{newest, hits_next}
+use Rattle.jc_stripe.specs.Refusals.{may_hit}
 use Rattle.jc_stripe.proofs.OwnNumbers.{below_next}
 
 -- Joiners whose calls are before a number.
@@ -173,3 +174,31 @@ last_pushed xs r =
 
 pub newest_reserved : (old new : State) (r : Reservation) → new ≡ with_reservation old r → newest new ≡ Some r
 newest_reserved old new r with = ap newest with ∙ last_pushed old.reservations r
+
+-- no hit where the call may not hit, or finds no entry
+renewed_is : (old new : State) → RenewsIfFull old new → new ≡ renewed_if_full old
+renewed_is old new r = go (is_renewable old) refl
+  where
+    go : (b : Bool) → is_renewable old ≡ b → new ≡ (if b then after_renewal old else old)
+    go true e = (r.0 e).after
+    go false e = r.1 e
+
+same_entries : (old : State) → (renewed_if_full old).cache ≡ old.cache
+same_entries old = go (is_renewable old)
+  where
+    go : (b : Bool) → (if b then after_renewal old else old).cache ≡ old.cache
+    go true = refl
+    go false = refl
+
+third_not : (x m e : Bool) → m ≡ false → (x && m && e) ≡ false
+third_not true true e h = cc
+third_not true false e h = refl
+third_not false m e h = refl
+
+pub no_hit : (desk : DeskState) (session : ℕ) (key : Bytes) (new : State) → RenewsIfFull desk.stripe new → (may_hit new desk.next key ≡ false) ⊎ (entry_at new.cache key ≡ None) → false ≡ hits_next desk session key
+no_hit desk session key new r (inl blocked) =
+    sym (third_not (may_call_next desk session key && not (awaits_end desk)) (may_hit (renewed_if_full desk.stripe) desk.next key) (is_some (entry_at desk.stripe.cache key))
+    (ap (λ s. may_hit s desk.next key) (sym (renewed_is desk.stripe new r)) ∙ blocked))
+no_hit desk session key new r (inr missing) =
+    sym (never_both (may_call_next desk session key && not (awaits_end desk) && may_hit (renewed_if_full desk.stripe) desk.next key) (is_some (entry_at desk.stripe.cache key))
+    (ap (λ c. is_some (entry_at c key)) (sym (ap (λ (s : State). s.cache) (renewed_is desk.stripe new r) ∙ same_entries desk.stripe)) ∙ ap is_some missing))

@@ -17,7 +17,7 @@ use Rattle.jc_inflight.specs.Joining.{callers_of, waits_for, waits}
 use Rattle.jc_inflight.specs.Resolving.{after_resolve}
 use Rattle.jc_stripe.specs.declared.ticket.First.TheVariants.{Nobody}
 use Rattle.jc_stripe.specs.declared.stripe.Stripe.TheInside.{Inside}
-use Rattle.jc_stripe.specs.State.{State, IsOut, without_key}
+use Rattle.jc_stripe.specs.State.{State, IsOut, without_key, without_mark}
 use Rattle.jc_model.specs.Statistics.{StatisticsLaws, statistics_of}
 use Rattle.jc_stripe.specs.OrderOfUse.{by_use, pinned}
 use Rattle.jc_stripe.specs.Occurrences.{occurrences}
@@ -98,8 +98,8 @@ done_storable i caller key op made nobody is = storable_made (state_of i) caller
 -- 2. A commit.
 
 -- the stripe after it
-abbrev pub committed_at : Inside → ByUse → Table Reservation → List Joiner → Past → ℕ → Inside
-committed_at i entries table js history boxes = record i { entries = entries; reservations = table; joiners = js; history = history; boxes = boxes }
+abbrev pub committed_at : Inside → ByUse → Table Reservation → List Joiner → Past → ℕ → List Bytes → Inside
+committed_at i entries table js history boxes marks = record i { entries = entries; reservations = table; joiners = js; history = history; boxes = boxes; marks = marks }
 
 -- others may share the load of what is out
 may_share_claimed : (i : Inside) (r : Reservation) (out : Out) (place : ℕ) (callers : List Caller) → IsStripe i → IsOut (state_of i) r → AnswersFirst i.config r.first out → callers_of r.number i.joiners ≡ callers
@@ -110,10 +110,11 @@ may_share_claimed i r out place (c ∷ cs) sound found said same =
     (known.read_through, known.whole, known.missing, said_given i.config r.first out known.first said)
 
 -- what is known of a commit
-pub record IsCommit (i : Inside) (r : Reservation) (out : Out) (entries : ByUse) (table : Table Reservation) (js : List Joiner) (history : Past) (boxes : ℕ) (keys : List Bytes) (made : NewGroup) (done : StepDone) (kept : ℕ) : Type 0 where
+pub record IsCommit (i : Inside) (r : Reservation) (out : Out) (entries : ByUse) (table : Table Reservation) (js : List Joiner) (history : Past) (boxes : ℕ) (marks keys : List Bytes) (made : NewGroup) (done : StepDone) (kept : ℕ) : Type 0 where
   pub sound : IsStripe i
   pub found : IsOut (state_of i) r
   pub said : AnswersFirst i.config r.first out
+  pub unmarked : marks ≡ without_mark r.key i.marks
   pub released : table ≡ reserving.table_without (λ (x : Reservation). x.key) i.reservations r.key
   pub keys_are : keys ≡ pinned table.held
   pub is : IsMade (state_of i) r.caller r.key r.op out made
@@ -141,23 +142,23 @@ commit_entries i r place table keys sound released keys_are =
 made_after : (i : Inside) (r : Reservation) (place : ℕ) (out : Out) (made : NewGroup) → IsMade (state_of i) r.caller r.key r.op out made → IsMade (after_commit (state_of i) r place) r.caller r.key r.op out made
 made_after i r place out made is = record { caller_is = is.caller_is; key_is = is.key_is; op_is = is.op_is; out_is = is.out_is; reply_is = is.reply_is; found_is = is.found_is }
 
-pub commit_steps : (i : Inside) (r : Reservation) (out : Out) (entries : ByUse) (table : Table Reservation) (js : List Joiner) (history : Past) (boxes : ℕ) (keys : List Bytes) (made : NewGroup) (done : StepDone) (kept : ℕ)
-    → IsCommit i r out entries table js history boxes keys made done kept
-    → Steps (after_commit (state_of i) r done.place) r.caller r.key r.op out (callers_of r.number i.joiners) done (state_of (committed_at i entries table js history boxes))
-commit_steps i r out entries table js history boxes keys made done kept c =
+pub commit_steps : (i : Inside) (r : Reservation) (out : Out) (entries : ByUse) (table : Table Reservation) (js : List Joiner) (history : Past) (boxes : ℕ) (marks keys : List Bytes) (made : NewGroup) (done : StepDone) (kept : ℕ)
+    → IsCommit i r out entries table js history boxes marks keys made done kept
+    → Steps (after_commit (state_of i) r done.place) r.caller r.key r.op out (callers_of r.number i.joiners) done (state_of (committed_at i entries table js history boxes marks))
+commit_steps i r out entries table js history boxes marks keys made done kept c =
     let m : State = after_commit (state_of i) r done.place in
     let callers = callers_of r.number i.joiners in
-    steps_put m (state_of (committed_at i entries table js history boxes)) i.entries entries keys r.caller r.key r.op out callers made done
+    steps_put m (state_of (committed_at i entries table js history boxes marks)) i.entries entries keys r.caller r.key r.op out callers made done
     (commit_entries i r done.place table keys c.sound c.released c.keys_are) c.sound.state.few_entries
     (said_fits i.config r.op (entry_at (state_of i).cache r.key) r.first out (claim_asks (state_of i) r c.sound.state c.found) c.said)
     (may_share_claimed i r out done.place callers c.sound c.found c.said refl)
     (made_after i r done.place out made c.is) c.keeps c.told
-    ((λ k. state_of (committed_at i entries (c.released k) (c.joiners k) (c.put k) boxes))
-    ∙ (λ k. record (state_of i) { cache = from_entries entries.list; reservations = without_key r.key i.reservations.held; joiners = after_resolve r.number done.place i.joiners; history = i.history.events ++ group_events (length i.history.events) made callers }))
+    ((λ k. state_of (committed_at i entries (c.released k) (c.joiners k) (c.put k) boxes (c.unmarked k)))
+    ∙ (λ k. record (state_of i) { cache = from_entries entries.list; reservations = without_key r.key i.reservations.held; joiners = after_resolve r.number done.place i.joiners; history = i.history.events ++ group_events (length i.history.events) made callers; marked = without_mark r.key i.marks }))
 
-pub commit_sound : (i : Inside) (r : Reservation) (out : Out) (entries : ByUse) (table : Table Reservation) (js : List Joiner) (history : Past) (boxes : ℕ) (keys : List Bytes) (made : NewGroup) (done : StepDone) (kept : ℕ)
-    → IsCommit i r out entries table js history boxes keys made done kept → IsStripe (committed_at i entries table js history boxes)
-commit_sound i r out entries table js history boxes keys made done kept c =
+pub commit_sound : (i : Inside) (r : Reservation) (out : Out) (entries : ByUse) (table : Table Reservation) (js : List Joiner) (history : Past) (boxes : ℕ) (marks keys : List Bytes) (made : NewGroup) (done : StepDone) (kept : ℕ)
+    → IsCommit i r out entries table js history boxes marks keys made done kept → IsStripe (committed_at i entries table js history boxes marks)
+commit_sound i r out entries table js history boxes marks keys made done kept c =
     let m : State = after_commit (state_of i) r done.place in
     let callers = callers_of r.number i.joiners in
     let after : history.events ≡ i.history.events ++ group_events (length i.history.events) made callers = ap (λ (p : Past). p.events) c.put in
@@ -181,7 +182,7 @@ commit_sound i r out entries table js history boxes keys made done kept c =
           ∙ counted_put c.laws m i.entries entries keys r.caller r.key r.op out callers made i.history.statistics (commit_entries i r done.place table keys c.sound c.released c.keys_are) (made_after i r done.place out made c.is) c.keeps c.sound.counted
           ∙ ap (λ es. statistics_of (occurrences i.life.opening es)) (sym after);
       boxes = omega arith;
-      state = reached_commits (state_of i) (state_of (committed_at i entries table js history boxes)) r out done c.sound.state (c.found, commit_steps i r out entries table js history boxes keys made done kept c);
+      state = reached_commits (state_of i) (state_of (committed_at i entries table js history boxes marks)) r out done c.sound.state (c.found, commit_steps i r out entries table js history boxes marks keys made done kept c);
     }
 
 -- what a commit appends fits into the room that was kept for it

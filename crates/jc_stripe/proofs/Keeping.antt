@@ -7,7 +7,7 @@ use Rattle.std.proofs.lemmas.Cmp.{nat_list_eq_equiv}
 use Rattle.jc_model.specs.declared.event.Op.{Op}
 use Rattle.jc_model.specs.declared.event.Out.{Out}
 use Rattle.jc_model.specs.declared.event.Cause.{Cause}
-use Rattle.jc_model.specs.declared.event.Cause.TheVariants.{Full, Memory}
+use Rattle.jc_model.specs.declared.event.Cause.TheVariants.{Full, Memory, Invalidated}
 use Rattle.jc_model.specs.Cache.{Bytes, key_cmp}
 use Rattle.jc_model.specs.Listed.{others, with_entry_first}
 use Rattle.jc_model.specs.Table.{entry_after}
@@ -149,6 +149,7 @@ pub not_kept : (old new : ByUse) (key value : Bytes) (pinned : List Bytes) (caus
     → AppliesStep old pinned key op out evicted (Some cause) new
 not_kept old new key value pinned Full evicted op out uses h = pinned_out old new key value pinned evicted op out uses h
 not_kept old new key value pinned Memory evicted op out uses h = out_of_memory old new key value pinned evicted op out uses h
+not_kept old new key value pinned Invalidated evicted op out uses h = absurd h
 
 -- a test that was made
 pub use_is : {A : Type 0} (fault fault_is : Option A) (used used_is : Bool) → fault ≡ fault_is → used ≡ used_is → is_some fault ≡ false → used ≡ true → (is_none fault_is && used_is) ≡ true

@@ -15,9 +15,9 @@ use Rattle.jc_model.specs.declared.event.Op.{Op}
 use Rattle.jc_model.specs.declared.event.Out.{Out}
 use Rattle.jc_model.specs.Cache.{Bytes, Cache, key_cmp, entry_at, with_entry}
 use Rattle.jc_model.specs.Table.{entry_after, reply_after, answers_fit, is_load_given}
-use Rattle.jc_model.specs.Group.{Group, events_of, history_of, cache_after_group, cache_after_groups, without_own}
+use Rattle.jc_model.specs.Group.{Group, events_of, history_of, cache_after_group, without_own, Part, part_events, cache_after_part, cache_after_parts}
 use Rattle.jc_model.specs.Group as group
-use Rattle.jc_model.specs.Lawful.{IsLawful, AreLawful, evicted_fits, victim_fits, inserts, joined_fits, loads_whole}
+use Rattle.jc_model.specs.Lawful.{IsLawful, IsLawfulPart, AreLawful, evicted_fits, victim_fits, inserts, joined_fits, loads_whole}
 use Rattle.jc_model.proofs.CallerLemmas.{same_cache, none_is, same_key, get-with_entry, insert-remove}
 use Rattle.jc_entries.proofs.CallerLemmas.{lru_victim-found}
 use Rattle.jc_stripe.specs.State.{State}
@@ -29,23 +29,23 @@ use Rattle.jc_stripe.specs.Phases as phases
 use Rattle.jc_types.specs.declared.caller.Caller.{Caller}
 use Rattle.jc_stripe.proofs.Keeping.{none_both}
 
--- 1. A history of groups, and one more.
+-- 1. A history of parts, and one more.
 
-pub history-push : (place : ℕ) (groups : List Group) (g : Group) → history_of place (groups ++ g ∷ []) ≡ history_of place groups ++ events_of (place + length (history_of place groups)) g
-history-push place [] g = rw (append-nil, add-zero) refl
-history-push place (x ∷ xs) g =
-    ap (λ es. events_of place x ++ es) (history-push (place + length (events_of place x)) xs g)
-    ∙ sym (append_assoc (events_of place x) _ _)
-    ∙ ap (λ n. (events_of place x ++ history_of (place + length (events_of place x)) xs) ++ events_of n g)
-    (omega (arith, length-append (events_of place x) (history_of (place + length (events_of place x)) xs)))
+pub history-push : (place : ℕ) (parts : List Part) (p : Part) → history_of place (parts ++ p ∷ []) ≡ history_of place parts ++ part_events (place + length (history_of place parts)) p
+history-push place [] p = rw (append-nil, add-zero) refl
+history-push place (x ∷ xs) p =
+    ap (λ es. part_events place x ++ es) (history-push (place + length (part_events place x)) xs p)
+    ∙ sym (append_assoc (part_events place x) _ _)
+    ∙ ap (λ n. (part_events place x ++ history_of (place + length (part_events place x)) xs) ++ part_events n p)
+    (omega (arith, length-append (part_events place x) (history_of (place + length (part_events place x)) xs)))
 
-pub lawful-push : (config : Config) (cache : Cache) (groups : List Group) (g : Group) → AreLawful config cache groups → IsLawful config (cache_after_groups cache groups) g → AreLawful config cache (groups ++ g ∷ [])
-lawful-push config cache [] g all one = (one, tt)
-lawful-push config cache (x ∷ xs) g all one = (all.0, lawful-push config (cache_after_group cache x) xs g all.1 one)
+pub lawful-push : (config : Config) (cache : Cache) (parts : List Part) (p : Part) → AreLawful config cache parts → IsLawfulPart config (cache_after_parts cache parts) p → AreLawful config cache (parts ++ p ∷ [])
+lawful-push config cache [] p all one = (one, tt)
+lawful-push config cache (x ∷ xs) p all one = (all.0, lawful-push config (cache_after_part cache x) xs p all.1 one)
 
-pub cache_after-push : (cache : Cache) (groups : List Group) (g : Group) → cache_after_groups cache (groups ++ g ∷ []) ≡ cache_after_group (cache_after_groups cache groups) g
-cache_after-push cache [] g = refl
-cache_after-push cache (x ∷ xs) g = cache_after-push (cache_after_group cache x) xs g
+pub cache_after-push : (cache : Cache) (parts : List Part) (p : Part) → cache_after_parts cache (parts ++ p ∷ []) ≡ cache_after_part (cache_after_parts cache parts) p
+cache_after-push cache [] p = refl
+cache_after-push cache (x ∷ xs) p = cache_after-push (cache_after_part cache x) xs p
 
 -- 2. How many entries there are.
 

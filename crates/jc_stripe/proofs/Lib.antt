@@ -22,6 +22,12 @@ pub mod Sharing
 pub mod Stepped
 pub mod Stepping
 pub mod Tables
+pub mod MarkedKeys
+pub mod Settling
+pub mod Dropping
+pub mod Ending
+pub mod Core
+pub mod Forgetting
 pub mod Uniform
 pub mod Used
 pub mod ParkedSteps
@@ -44,3 +50,4 @@ pub mod DeskTickets
 pub mod DeskStates
 pub mod ValuesMoved
 pub mod DeskAnswers
+pub mod DeskForgetting

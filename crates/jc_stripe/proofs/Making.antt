@@ -22,7 +22,7 @@ use Rattle.jc_inflight.specs.Dissolving.{after_dissolve}
 use Rattle.jc_stripe.specs.declared.ticket.First.{First}
 use Rattle.jc_stripe.specs.declared.stripe.Stripe.TheInside.{Inside}
 use Rattle.jc_stripe.specs.Tickets.{JoinClaim}
-use Rattle.jc_stripe.specs.State.{State, is_key, is_reserved, promised, new_reservation, with_reservation, without_key}
+use Rattle.jc_stripe.specs.State.{State, is_key, is_reserved, promised, new_reservation, with_reservation, without_key, without_mark}
 use Rattle.jc_stripe.specs.OrderOfUse.{by_use}
 use Rattle.jc_stripe.specs.Refusals.{first_refusal, first_asked, needs_reservation, load_joined, needs_free_key, places_needed}
 use Rattle.jc_stripe.specs.Phases.{MayBegin, is_other_join, with_joiner, after_withdrawal}
@@ -129,16 +129,16 @@ one_exactly key (x ∷ xs) r once h =
     ] refl h
 
 -- the state with the reservation given back
-pub state-withdrawn : (i : Inside) (r : Reservation) (table : Table Reservation) (js : List Joiner) (history : Past) (boxes n : ℕ) → table ≡ reserving.table_without (λ (x : Reservation). x.key) i.reservations r.key → js ≡ after_dissolve r.number i.joiners
-    → history ≡ unpromise n i.history → state_of (record i { reservations = table; joiners = js; history = history; boxes = boxes }) ≡ after_withdrawal (state_of i) r
-state-withdrawn i r table js history boxes n t j h =
-    λ k. state_of (record i { reservations = t k; joiners = j k; history = h k; boxes = boxes })
+pub state-withdrawn : (i : Inside) (r : Reservation) (table : Table Reservation) (js : List Joiner) (history : Past) (boxes n : ℕ) (marks : List Bytes) → table ≡ reserving.table_without (λ (x : Reservation). x.key) i.reservations r.key → js ≡ after_dissolve r.number i.joiners
+    → history ≡ unpromise n i.history → marks ≡ without_mark r.key i.marks → state_of (record i { reservations = table; joiners = js; history = history; boxes = boxes; marks = marks }) ≡ after_withdrawal (state_of i) r
+state-withdrawn i r table js history boxes n marks t j h m =
+    λ k. state_of (record i { reservations = t k; joiners = j k; history = h k; boxes = boxes; marks = m k })
 
-pub sound-withdrawn : (i : Inside) (r : Reservation) (table : Table Reservation) (js : List Joiner) (history : Past) (boxes waiting : ℕ) → IsStripe i → boxes ≡ i.boxes + 1 → find (is_key r.key) (state_of i).reservations ≡ Some r
-    → waiting ≡ count_by (waits_for r.number) i.joiners → table ≡ reserving.table_without (λ (x : Reservation). x.key) i.reservations r.key → js ≡ after_dissolve r.number i.joiners → history ≡ unpromise (STEP_PLACES + waiting) i.history
-    → IsReached (after_withdrawal (state_of i) r) → IsStripe (record i { reservations = table; joiners = js; history = history; boxes = boxes })
-sound-withdrawn i r table js history boxes waiting sound b found w t j h reached =
-    let state = state-withdrawn i r table js history boxes (STEP_PLACES + waiting) t j h in
+pub sound-withdrawn : (i : Inside) (r : Reservation) (table : Table Reservation) (js : List Joiner) (history : Past) (boxes waiting : ℕ) (marks : List Bytes) → IsStripe i → boxes ≡ i.boxes + 1 → find (is_key r.key) (state_of i).reservations ≡ Some r
+    → waiting ≡ count_by (waits_for r.number) i.joiners → table ≡ reserving.table_without (λ (x : Reservation). x.key) i.reservations r.key → js ≡ after_dissolve r.number i.joiners → history ≡ unpromise (STEP_PLACES + waiting) i.history → marks ≡ without_mark r.key i.marks
+    → IsReached (after_withdrawal (state_of i) r) → IsStripe (record i { reservations = table; joiners = js; history = history; boxes = boxes; marks = marks })
+sound-withdrawn i r table js history boxes waiting marks sound b found w t j h m reached =
+    let state = state-withdrawn i r table js history boxes (STEP_PLACES + waiting) marks t j h m in
     let shorter : length table.held ≡ length (without_key r.key (state_of i).reservations) = ap (λ (x : Table Reservation). length x.held) t in
     let were = sound.boxes in
     let one = one_exactly r.key (state_of i).reservations r sound.state.numbered.once found in

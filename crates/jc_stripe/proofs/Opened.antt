@@ -55,4 +55,5 @@ opened_opens config origin entries n fits once = record {
   reservations = refl;
   joiners = refl;
   history = refl;
+  marked = refl;
 }

@@ -1,6 +1,6 @@
 -- What each kind of phase leaves of its own session's own steps.
 --     own_left     the law
-use Rattle.std.proofs.Common.{◌≡◌, ◌==◌, ◌&&◌, ◌||◌, ◌+◌, ℕ, List, [], ◌∷◌, ◌++◌, map, length, filter, Bool, true, false, cond, not, None, Some, refl, sym, ap, ◌∙◌, arith, append_assoc, slice_get, find, option_map}
+use Rattle.std.proofs.Common.{subst, ◌≡◌, ◌==◌, ◌&&◌, ◌||◌, ◌+◌, ℕ, List, [], ◌∷◌, ◌++◌, map, length, filter, Bool, true, false, cond, not, None, Some, refl, sym, ap, ◌∙◌, arith, append_assoc, slice_get, find, option_map}
 use Rattle.std.proofs.lemmas.Bool.{eqb-true, and_parts}
 use Rattle.std.proofs.lemmas.Cmp.{nat_eq_equiv}
 use Rattle.std.proofs.lemmas.List.{length-append}
@@ -12,6 +12,7 @@ use Rattle.jc_model.specs.declared.event.Event.{Event}
 use Rattle.jc_model.specs.declared.event.Event.TheVariants.{Step, Evict}
 use Rattle.jc_model.specs.declared.event.Op.{Op}
 use Rattle.jc_model.specs.declared.event.Out.{Out}
+use Rattle.jc_model.specs.declared.event.Reply.{Reply}
 use Rattle.jc_model.specs.Cache.{Bytes}
 use Rattle.jc_model.specs.Group.{Group, victim_events, step_event, step_place, shared_event, evicted_events, events_of, nothing_said}
 use Rattle.jc_inflight.specs.declared.joiner.Joiner.{Joiner}
@@ -32,6 +33,9 @@ use Rattle.jc_stripe.proofs.Beside.{belongs_to_no_other}
 use Rattle.jc_stripe.proofs.OwnPick.{none_parked, parked_other, picks_own}
 use Rattle.jc_stripe.proofs.Settled.{keyed_callers}
 use Rattle.jc_stripe.proofs.ParkedSteps.{joiners_call, own-parked, own-answered, own-victim, own-evicted, own-shared, filter-append, all_parked, parked-callers, parked-joined, parked-dissolved}
+use Rattle.jc_stripe.specs.Invalidating.{Ends}
+use Rattle.jc_stripe.proofs.Settling.{quiet_forgetting, there_before}
+use Rattle.jc_stripe.proofs.Ending.{ended, given_back}
 use Rattle.jc_stripe.proofs.SharedSteps.{stands_at}
 
 -- 1. A call of its own has nothing parked.
@@ -134,10 +138,28 @@ own_again c k js (Step c' op k' out shared reply ∷ events) free =
     λ i. cond ((c'.session == c.session) && not (same i)) (Step c' op k' out shared reply ∷ rest i) (rest i)
 own_again c k js (Evict k' cause ∷ events) free = own_again c k js events free
 
+-- what follows a commit leaves its step where it is
+ends_own : (old new : State) (r : Reservation) (out : Out) (done : StepDone) → IsReached old → Ends old r out done new → AddsOwn r.caller.session old new (Step r.caller r.op r.key out None done.reply) done.place
+ends_own old new r out done reached h =
+    let e = ended old new r out done reached h in
+    let a = commits_own old e.mid r out e.step reached e.commits in
+    let P : Reply × ℕ → Type 0 = λ x. AddsOwn r.caller.session old new (Step r.caller r.op r.key out None x.0) x.1 in
+    subst P (λ i. (sym e.reply i, sym e.place i)) (record {
+      behind = a.behind;
+      there = ap (λ h. slice_get h e.step.place) e.quiet.grows.history ∙ there_before e.mid.history e.quiet.grows.more e.step.place _ a.there;
+      own = e.quiet.own r.caller.session ∙ a.own;
+    })
+
 pub own_left : OwnSteps
 own_left = record {
   done = λ old new caller key op done may h. adds old new caller key op nothing_said [] done h.2 (unparked caller key old.joiners may.apart) refl;
   commits = λ old new r out done reached h. commits_own old new r out done reached h;
+  ends = ends_own;
+  gives_back = λ old new session r reached h.
+      let e = given_back old new r reached h in
+      e.2.own session ∙ ap (λ (s : State). own_steps session s) e.1.1
+      ∙ own-parked session old.joiners (after_dissolve r.number old.joiners) old.history (λ c k e. parked-dissolved r.number old.joiners c k);
+  forgets = λ old new session reached h. (quiet_forgetting old new reached h).own session;
   refused = λ old new caller key op refusal h. ap (λ (s : State). own_steps caller.session s) h.1;
   reserves = λ old new caller key op ticket h. ap (λ (s : State). own_steps caller.session s) h.5;
   joins = λ old new caller key op join h.

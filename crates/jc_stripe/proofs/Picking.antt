@@ -17,7 +17,6 @@ use Rattle.jc_inflight.specs.Taking as taking
 use Rattle.jc_inflight.proofs.CallerLemmas.{belongs_to_same, after_take_over, after_take_waiting, count-cons}
 use Rattle.jc_stripe.specs.Tickets.{JoinClaim}
 use Rattle.jc_stripe.specs.State.{State, IsJoined}
-use Rattle.jc_stripe.specs.Polled as polled
 use Rattle.jc_stripe.specs.declared.stripe.Stripe.TheInside.{Inside}
 use Rattle.jc_stripe.specs.Inside.{IsStripe, state_of}
 use Rattle.jc_stripe.specs.Phases.{is_other_join, told_to, IsSharedStep}

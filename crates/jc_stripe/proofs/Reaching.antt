@@ -95,6 +95,7 @@ begins_done old new caller key op done reached may none nobody steps =
       shares = shares_on old.history (length old.history) g old.joiners reached.shares aside (all_empty (λ j (c : Caller). not (waits j) || is_other_join c key j) old.joiners);
       apart = reached.apart;
       between = reached.between;
+      marks = reached.marks;
     } in
     subst IsReached (sym steps.after) next
 
@@ -147,6 +148,7 @@ commits_found old new r out done reached found steps =
       shares = shares_on old.history (length old.history) g js remains.shares (claim_left_waiting old r place reached found) waiting;
       apart = remains.apart;
       between = remains.between;
+      marks = remains.marks;
     } in
     subst IsReached (sym steps.after) next
 

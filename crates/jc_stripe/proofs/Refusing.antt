@@ -17,7 +17,7 @@ use Rattle.jc_model.specs.Table.{entry_after, always_if}
 use Rattle.jc_model.specs.Group.{nothing_said}
 use Rattle.jc_stripe.specs.declared.ticket.First.{First}
 use Rattle.jc_stripe.specs.declared.ticket.First.TheVariants.{Nobody, Loader}
-use Rattle.jc_stripe.specs.State.{State, is_key, is_reserved, reservation_of, promised}
+use Rattle.jc_stripe.specs.State.{State, is_key, is_reserved, is_barred, reservation_of, promised}
 use Rattle.jc_stripe.specs.Refusals.{first_asked, first_by, first_refusal, full_refusal, needs_free_key, may_join, has_room, last_number, load_at, load_joined, needs_reservation, answers_at_once, places_needed, reserves}
 use Rattle.jc_stripe.specs.Tickets.{writer_for}
 use Rattle.jc_types.proofs.CallerLemmas.{found_any}
@@ -27,49 +27,63 @@ use Rattle.jc_stripe.specs.declared.ticket.Reservation.{Reservation}
 
 pub record IsFree (state : State) (caller : Caller) (key : Bytes) (op : Op) : Type 0 where
   pub room : has_room state caller.call (places_needed (needs_free_key state key op)) ≡ true
+  pub unbarred : is_barred state key ≡ false
   pub free : is_reserved state key ≡ true → needs_free_key state key op ≡ false
   pub few : needs_reservation state key op ≡ true → nat_le RESERVATIONS_MAX (length state.reservations) ≡ false
   pub few_joined : is_some (load_joined state key op) ≡ true → nat_le JOINERS_MAX (length state.joiners) ≡ false
 
-pick : (why : Refusal) (room there free needs full joins crowded : Bool)
-    → (if not room then Some why else (if there && free then Some refusal.Busy else (if needs && full then Some refusal.TooManyInFlight else (if joins && crowded then Some refusal.TooManyJoiners else None)))) ≡ None
-    → (room ≡ true) × (there ≡ true → free ≡ false) × (needs ≡ true → full ≡ false) × (joins ≡ true → crowded ≡ false)
-pick why false there free needs full joins crowded h = cc
-pick why true true true needs full joins crowded h = cc
-pick why true true false true true joins crowded h = cc
-pick why true true false true false true true h = cc
-pick why true true false true false true false h = (refl, λ t. refl, λ t. refl, λ t. refl)
-pick why true true false true false false crowded h = (refl, λ t. refl, λ t. refl, λ t. cc)
-pick why true true false false full true true h = cc
-pick why true true false false full true false h = (refl, λ t. refl, λ t. cc, λ t. refl)
-pick why true true false false full false crowded h = (refl, λ t. refl, λ t. cc, λ t. cc)
-pick why true false free true true joins crowded h = cc
-pick why true false free true false true true h = cc
-pick why true false free true false true false h = (refl, λ t. cc, λ t. refl, λ t. refl)
-pick why true false free true false false crowded h = (refl, λ t. cc, λ t. refl, λ t. cc)
-pick why true false free false full true true h = cc
-pick why true false free false full true false h = (refl, λ t. cc, λ t. cc, λ t. refl)
-pick why true false free false full false crowded h = (refl, λ t. cc, λ t. cc, λ t. cc)
+pick : (why : Refusal) (room busy needs full joins crowded : Bool)
+    → (if not room then Some why else (if busy then Some refusal.Busy else (if needs && full then Some refusal.TooManyInFlight else (if joins && crowded then Some refusal.TooManyJoiners else None)))) ≡ None
+    → (room ≡ true) × (busy ≡ false) × (needs ≡ true → full ≡ false) × (joins ≡ true → crowded ≡ false)
+pick why false busy needs full joins crowded h = cc
+pick why true true needs full joins crowded h = cc
+pick why true false true true joins crowded h = cc
+pick why true false true false true true h = cc
+pick why true false true false true false h = (refl, refl, λ t. refl, λ t. refl)
+pick why true false true false false crowded h = (refl, refl, λ t. refl, λ t. cc)
+pick why true false false full true true h = cc
+pick why true false false full true false h = (refl, refl, λ t. cc, λ t. refl)
+pick why true false false full false crowded h = (refl, refl, λ t. cc, λ t. cc)
+
+not_busy : (barred there free : Bool) → (barred || (there && free)) ≡ false → (barred ≡ false) × (there ≡ true → free ≡ false)
+not_busy true there free h = cc
+not_busy false true free h = (refl, λ t. h)
+not_busy false false free h = (refl, λ t. cc)
+
+-- neither of two
+pub or_neither : (a b : Bool) → (a || b) ≡ false → (a ≡ false) × (b ≡ false)
+or_neither true b h = cc
+or_neither false b h = (refl, h)
 
 pub not_refused : (state : State) (caller : Caller) (key : Bytes) (op : Op) → first_refusal state caller key op ≡ None → IsFree state caller key op
 not_refused state caller key op h =
-    let known = pick (full_refusal state caller.call) (has_room state caller.call (places_needed (needs_free_key state key op))) (is_reserved state key) (needs_free_key state key op) (needs_reservation state key op) (nat_le RESERVATIONS_MAX (length state.reservations))
-    (is_some (load_joined state key op)) (nat_le JOINERS_MAX (length state.joiners)) h in
-    record { room = known.0; free = known.1; few = known.2; few_joined = known.3 }
+    let known = pick (full_refusal state caller.call) (has_room state caller.call (places_needed (needs_free_key state key op))) (is_barred state key || (is_reserved state key && needs_free_key state key op)) (needs_reservation state key op)
+    (nat_le RESERVATIONS_MAX (length state.reservations)) (is_some (load_joined state key op)) (nat_le JOINERS_MAX (length state.joiners)) h in
+    let idle = not_busy (is_barred state key) (is_reserved state key) (needs_free_key state key op) known.1 in
+    record { room = known.0; unbarred = idle.0; free = idle.1; few = known.2; few_joined = known.3 }
+
+-- what room is
+pub record IsRoom (state : State) (call needed : ℕ) : Type 0 where
+  pub places : nat_le (length state.history + promised state + needed) state.config.history ≡ true
+  pub early : nat_lt call last_number ≡ true
+  pub next : nat_lt state.next last_number ≡ true
+
+pub room_parts : (state : State) (call needed : ℕ) → has_room state call needed ≡ true → IsRoom state call needed
+room_parts state call needed h =
+    let places = nat_le (length state.history + promised state + needed) state.config.history in
+    let below = and_parts (places && nat_lt call last_number) (nat_lt state.next last_number) h in
+    let fits = and_parts places (nat_lt call last_number) below.0 in
+    record { places = fits.0; early = fits.1; next = below.1 }
 
 -- the places are free
 pub roomy : (state : State) (call needed : ℕ) → has_room state call needed ≡ true → length state.history + promised state + needed ≤ state.config.history
-roomy state call needed h =
-    let first = and_parts (nat_le (length state.history + promised state + needed) state.config.history && nat_lt call last_number) (nat_lt state.next last_number) h in
-    let fits = and_parts (nat_le (length state.history + promised state + needed) state.config.history) (nat_lt call last_number) first.0 in
-    le_of _ _ fits.0
+roomy state call needed h = le_of _ _ (room_parts state call needed h).places
   where
     le_of : (m n : ℕ) → nat_le m n ≡ true → m ≤ n
     le_of m n h = grind (arith, nat_tests)
 
 pub next_below : (state : State) (call needed : ℕ) → has_room state call needed ≡ true → state.next < last_number
-next_below state call needed h =
-    lt_of _ _ (and_parts (nat_le (length state.history + promised state + needed) state.config.history && nat_lt call last_number) (nat_lt state.next last_number) h).1
+next_below state call needed h = lt_of _ _ (room_parts state call needed h).next
   where
     lt_of : (m n : ℕ) → nat_lt m n ≡ true → m < n
     lt_of m n h = grind (arith, nat_tests)
@@ -260,11 +274,7 @@ lacks_room state caller key op is = by_other _ (full_refusal state caller.call) 
 
 -- a call that is not refused is not the last one
 pub call_below : (state : State) (caller : Caller) (key : Bytes) (op : Op) → first_refusal state caller key op ≡ None → nat_lt caller.call last_number ≡ true
-call_below state caller key op none =
-    let needed = places_needed (needs_free_key state key op) in
-    let room = (not_refused state caller key op none).room in
-    (and_parts (nat_le (length state.history + promised state + needed) state.config.history) (nat_lt caller.call last_number)
-    (and_parts (nat_le (length state.history + promised state + needed) state.config.history && nat_lt caller.call last_number) (nat_lt state.next last_number) room).0).1
+call_below state caller key op none = (room_parts state caller.call (places_needed (needs_free_key state key op)) (not_refused state caller key op none).room).early
 
 -- where a full history may end, only a number's end is a full history
 pub ends_numbers : (state : State) (caller : Caller) (key : Bytes) (op : Op) → state.lives ≡ true → first_refusal state caller key op ≡ Some refusal.HistoryFull → (nat_lt caller.call last_number && nat_lt state.next last_number) ≡ false

@@ -107,7 +107,7 @@ reached_renewed old new reached renews =
       one_life = λ alone. absurd (clash old.lives may.0 alone);
       opened_once = reached.used.once;
       opens = opening_of old.config old.stripe entries reached.used.once few_entries reached.used.own;
-      legal = record { groups = []; spelled = refl; lawful = tt; left = reached.used.cache; order = refl };
+      legal = record { parts = []; spelled = refl; lawful = tt; left = reached.used.cache; order = refl };
       used = record { once = reached.used.once; own = reached.used.own; cache = reached.used.cache };
       own = refl;
       keys = reached.keys;
@@ -123,6 +123,7 @@ reached_renewed old new reached renews =
       shares = all_left (may_share []) old.joiners (λ j. share_left (waits j));
       apart = reached.apart;
       between = reached.between;
+      marks = reached.marks;
     })
 
 own_renewed : (old : State) (session : ℕ) → can_renew old ≡ true → all_own_steps session (after_renewal old) ≡ all_own_steps session old
@@ -210,6 +211,7 @@ living_reached state reached = record {
   shares = reached.shares;
   apart = reached.apart;
   between = reached.between;
+  marks = reached.marks;
 }
 
 at_end : (a b c d : ℕ) → (nat_lt a b && nat_lt c d) ≡ false → (b ≤ a) ⊎ (d ≤ c)

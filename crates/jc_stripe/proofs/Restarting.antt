@@ -6,6 +6,7 @@ use Rattle.std.proofs.Common.{◌≡◌, ◌+◌, ◌*◌, ℕ, List, [], false,
 use Rattle.jc_types.specs.declared.config.Config.{Config}
 use Rattle.jc_types.specs.declared.limits.TheConstants.{STEP_PLACES, HIT_PLACES}
 use Rattle.jc_types.specs.Limits.{check}
+use Rattle.jc_model.specs.Cache.{Bytes}
 use Rattle.jc_model.specs.Statistics.{statistics_of}
 use Rattle.jc_entries.specs.ByUse.{ByUse}
 use Rattle.jc_history.specs.Past.{Past}
@@ -34,6 +35,7 @@ reached_empty config origin number fits = reached_start (opened_stripe config or
   reservations = refl;
   joiners = refl;
   history = refl;
+  marked = refl;
 })
 
 -- what each part of it is then
@@ -47,15 +49,15 @@ pub record IsEmptied (i : Inside) (entries : ByUse) (table : Table Reservation) 
 life_from : (i : Inside) (entries : ByUse) (life : Life) → entries ≡ record { capacity = i.entries.capacity; list = [] } → life ≡ record { opening = entries.list; ended = [] } → life ≡ record { opening = []; ended = [] }
 life_from i entries life e l = l ∙ ap (λ (x : ByUse). record { opening = x.list; ended = [] }) e
 
-pub state-restarted : (i : Inside) (entries : ByUse) (table : Table Reservation) (joiners : List Joiner) (history : Past) (life : Life) → IsEmptied i entries table joiners history life
-    → state_of (record i { entries = entries; reservations = table; joiners = joiners; history = history; lives = false; life = life }) ≡ opened_stripe i.config i.origin i.number []
-state-restarted i entries table joiners history life is =
+pub state-restarted : (i : Inside) (entries : ByUse) (table : Table Reservation) (joiners : List Joiner) (history : Past) (life : Life) (marks : List Bytes) → marks ≡ [] → IsEmptied i entries table joiners history life
+    → state_of (record i { entries = entries; reservations = table; joiners = joiners; history = history; lives = false; life = life; marks = marks; is_shut = false }) ≡ opened_stripe i.config i.origin i.number []
+state-restarted i entries table joiners history life marks none is =
     let l : life ≡ record { opening = []; ended = [] } = life_from i entries life is.entries_are is.life_is in
-    λ k. state_of (record i { entries = is.entries_are k; reservations = is.table_is k; joiners = is.joiners_are k; history = is.history_is k; lives = false; life = l k })
+    λ k. state_of (record i { entries = is.entries_are k; reservations = is.table_is k; joiners = is.joiners_are k; history = is.history_is k; lives = false; life = l k; marks = none k; is_shut = false })
 
-pub sound-restarted : (i : Inside) (entries : ByUse) (table : Table Reservation) (joiners : List Joiner) (history : Past) (life : Life) → IsStripe i → i.reservations.held ≡ [] → IsEmptied i entries table joiners history life
-    → IsStripe (record i { entries = entries; reservations = table; joiners = joiners; history = history; lives = false; life = life })
-sound-restarted i entries table joiners history life sound none is =
+pub sound-restarted : (i : Inside) (entries : ByUse) (table : Table Reservation) (joiners : List Joiner) (history : Past) (life : Life) (marks : List Bytes) → marks ≡ [] → IsStripe i → i.reservations.held ≡ [] → IsEmptied i entries table joiners history life
+    → IsStripe (record i { entries = entries; reservations = table; joiners = joiners; history = history; lives = false; life = life; marks = marks; is_shut = false })
+sound-restarted i entries table joiners history life marks unmarked sound none is =
     let l : life ≡ record { opening = []; ended = [] } = life_from i entries life is.entries_are is.life_is in
     record {
       capacity = ap (λ (e : ByUse). e.capacity) is.entries_are ∙ sound.capacity;
@@ -64,5 +66,5 @@ sound-restarted i entries table joiners history life sound none is =
       promised = ap (λ (p : Past). p.promised) is.history_is ∙ sym (λ k. STEP_PLACES * length (is.table_is k).held + HIT_PLACES * count_by waits (is.joiners_are k));
       counted = ap (λ (p : Past). p.statistics) is.history_is ∙ sym (λ k. statistics_of (occurrences ((l k).opening) ((is.history_is k).events)));
       boxes = ap (λ (t : Table Reservation). i.boxes + length t.held) is.table_is ∙ sym (ap (λ (rs : List Reservation). i.boxes + length rs) none) ∙ sound.boxes;
-      state = subst IsReached (sym (state-restarted i entries table joiners history life is)) (reached_empty i.config i.origin i.number sound.state.config_fits);
+      state = subst IsReached (sym (state-restarted i entries table joiners history life marks unmarked is)) (reached_empty i.config i.origin i.number sound.state.config_fits);
     }

@@ -30,11 +30,12 @@ use Rattle.jc_inflight.specs.Joining.{is_waiting, waits_for, callers_of, waits}
 use Rattle.jc_inflight.specs.Resolving.{with_answer, answered_from, after_resolve}
 use Rattle.jc_inflight.proofs.CallerLemmas.{calls-answered_from, count-cons}
 use Rattle.jc_stripe.specs.declared.ticket.First.TheVariants.{Loader}
-use Rattle.jc_stripe.specs.State.{State, is_key, is_of, IsOut, without_key}
+use Rattle.jc_stripe.specs.State.{State, is_key, is_of, IsOut, without_key, without_mark}
 use Rattle.jc_stripe.specs.Refusals.{first_asked}
 use Rattle.jc_stripe.specs.Phases.{MayBegin, after_commit, is_other_call, is_other_join}
-use Rattle.jc_stripe.specs.Reached.{IsReached, AreNumbered, AllAsk, FindsLoad, JoinFits, AllJoin, may_end, may_share, are_beside, are_apart, all_apart}
+use Rattle.jc_stripe.specs.Reached.{IsReached, AreReserved, AreNumbered, AllAsk, FindsLoad, JoinFits, AllJoin, may_end, may_share, are_beside, are_apart, all_apart}
 use Rattle.jc_stripe.proofs.Numbering.{one_number, key_found, numbered-left}
+use Rattle.jc_stripe.proofs.MarkedKeys.{marks_left}
 use Rattle.jc_stripe.proofs.Beside.{all_both, beside_turned, all_left, beside_left, ask_left, ask_found, one_less, apart_turned, between_left, between_first, between_others, one_apart-alike, apart-alike, between-alike, length-alike}
 use Rattle.jc_stripe.proofs.Joining.{loaded_at, fits_on, join_on, finds_on, still_there}
 use Rattle.jc_types.specs.declared.caller.Caller.{Caller}
@@ -312,7 +313,7 @@ pub claim_asks : (old : State) (r : Reservation) → IsReached old → IsOut old
 claim_asks old r reached found = ask_found old.config old.cache (is_key r.key) old.reservations r found reached.asks
 
 -- the tables that a commit leaves
-pub record Remains (old : State) (rs : List Reservation) (js : List Joiner) : Type 0 where
+pub record Remains (old : State) (key : Bytes) (rs : List Reservation) (js : List Joiner) : Type 0 where
   pub keys : list_all (λ x. is_of old x.key) rs ≡ true
   pub numbered : AreNumbered old.next rs
   pub asks : AllAsk old.config old.cache rs
@@ -321,8 +322,9 @@ pub record Remains (old : State) (rs : List Reservation) (js : List Joiner) : Ty
   pub shares : list_all (may_share old.history) js ≡ true
   pub apart : are_apart js ≡ true
   pub between : all_apart rs js ≡ true
+  pub marks : AreReserved rs (without_mark key old.marked)
 
-pub remains_settled : (old : State) (r : Reservation) (place : ℕ) → IsReached old → Remains old (without_key r.key old.reservations) (after_resolve r.number place old.joiners)
+pub remains_settled : (old : State) (r : Reservation) (place : ℕ) → IsReached old → Remains old r.key (without_key r.key old.reservations) (after_resolve r.number place old.joiners)
 remains_settled old r place reached = record {
   keys = all_left (λ x. is_of old x.key) r.key old.reservations reached.keys;
   numbered = numbered-left old.next old.reservations r.key reached.numbered;
@@ -332,6 +334,7 @@ remains_settled old r place reached = record {
   shares = shares_left old r.number place reached;
   apart = apart_left r.number place old.joiners reached.apart;
   between = between_resolved r.key r.number place old.reservations old.joiners reached.between;
+  marks = marks_left r.key old.reservations old.marked reached.marks;
 }
 
 -- 6. The joiners behind a commit.

@@ -17,7 +17,7 @@ use Rattle.jc_model.specs.declared.event.Cause.{Cause}
 use Rattle.jc_model.specs.declared.event.LoadAnswer.{LoadAnswer}
 use Rattle.jc_model.specs.Cache.{Bytes, Cache, key_cmp, entry_at, with_entry}
 use Rattle.jc_model.specs.Table.{entry_after, reply_after}
-use Rattle.jc_model.specs.Group.{Group, victim_events, step_event, step_place, shared_event, evicted_events, events_of, history_of, cache_after_group, without_own}
+use Rattle.jc_model.specs.Group.{Group, Made, victim_events, step_event, step_place, shared_event, evicted_events, events_of, history_of, cache_after_group, without_own}
 use Rattle.jc_model.specs.Group as group
 use Rattle.jc_model.specs.Lawful.{IsLawful}
 use Rattle.jc_model.specs.Legal.{IsHistory, in_order}
@@ -45,10 +45,10 @@ use Rattle.jc_stripe.proofs.Refusing.{clash}
 pub legal_on : (m : State) (start : Cache) (g : Group) → IsHistory m.config start m.history m.cache → IsLawful m.config m.cache g → in_order (m.history ++ events_of (length m.history) g) ≡ true
     → IsHistory m.config start (after_group m g).history (after_group m g).cache
 legal_on m start g legal lawful order = record {
-  groups = legal.groups ++ g ∷ [];
-  spelled = ap (λ h. h ++ events_of (length h) g) legal.spelled ∙ sym (history-push 0 legal.groups g ∙ ap (λ n. history_of 0 legal.groups ++ events_of n g) (zero-add (length (history_of 0 legal.groups))));
-  lawful = lawful-push m.config start legal.groups g legal.lawful (let P : Cache → Type 0 = λ c. IsLawful m.config c g in subst P legal.left lawful);
-  left = ap (λ c. cache_after_group c g) legal.left ∙ sym (cache_after-push start legal.groups g);
+  parts = legal.parts ++ Made g ∷ [];
+  spelled = ap (λ h. h ++ events_of (length h) g) legal.spelled ∙ sym (history-push 0 legal.parts (Made g) ∙ ap (λ n. history_of 0 legal.parts ++ events_of n g) (zero-add (length (history_of 0 legal.parts))));
+  lawful = lawful-push m.config start legal.parts (Made g) legal.lawful (let P : Cache → Type 0 = λ c. IsLawful m.config c g in subst P legal.left lawful);
+  left = ap (λ c. cache_after_group c g) legal.left ∙ sym (cache_after-push start legal.parts (Made g));
   order = order;
 }
 
@@ -75,7 +75,7 @@ own_on m caller key op out callers short used own k =
 -- 2. The entries of other keys, and of reserved ones.
 
 -- a reserved key isn't the victim
-pinned_key : (q : Bytes) (rs : List Reservation) → list_any (is_key q) rs ≡ true → is_pinned (pinned rs) q ≡ true
+pub pinned_key : (q : Bytes) (rs : List Reservation) → list_any (is_key q) rs ≡ true → is_pinned (pinned rs) q ≡ true
 pinned_key q [] h = cc
 pinned_key q (r ∷ rs) h =
     elim (is_key q r) as (λ b. is_key q r ≡ b → (b || list_any (is_key q) rs) ≡ true → (pointwise ◌==◌ r.key q || is_pinned (pinned rs) q) ≡ true) [
@@ -205,6 +205,22 @@ few_events place g =
     let n = length-shared (step_place place g) g.step.key g.step.out.load g.joined in
     let few = length-victim g.victim g.step.key g.evicted in
     omega arith
+
+-- two, and one for each that shares its load, where its own key isn't evicted
+pub two_events : (place : ℕ) (g : Group) → g.evicted ≡ None → length (events_of place g) ≤ 2 + length g.joined
+two_events place g none =
+    let shared : List Event = map (shared_event (step_place place g) g.step.key g.step.out.load) g.joined in
+    let own : List Event = evicted_events g.step.key g.evicted in
+    let all : length (events_of place g) ≡ length (victim_events g.victim) + length (step_event g ∷ shared) + length own =
+    length-append (victim_events g.victim ++ step_event g ∷ shared) own ∙ ap (λ n. n + length own) (length-append (victim_events g.victim) (step_event g ∷ shared)) in
+    let n = length-shared (step_place place g) g.step.key g.step.out.load g.joined in
+    let no_own : length own ≡ 0 = ap (λ e. length (evicted_events g.step.key e)) none in
+    let one = at_most g.victim in
+    omega arith
+  where
+    at_most : (victim : Option Bytes) → length (victim_events victim) ≤ 1
+    at_most None = omega arith
+    at_most (Some v) = omega arith
 
 -- one, where the step leaves its entry and nobody shares its load
 pub one_event : (m : State) (caller : Caller) (key : Bytes) (op : Op) (out : Out) (short : Bool) (place : ℕ) → entry_after op (entry_at m.cache key) out ≡ entry_at m.cache key

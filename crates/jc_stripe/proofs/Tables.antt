@@ -7,7 +7,7 @@
 use Rattle.std.proofs.Common.{◌≡◌, ◌≤◌, ◌<◌, ◌+◌, ◌*◌, ◌&&◌, ℕ, List, [], ◌∷◌, ◌++◌, length, IsTrue, Bool, true, false, cond, not, Some, filter, refl, sym, ap, ◌∙◌, subst, arith, append-nil}
 use Rattle.std.proofs.lemmas.List.{length-append}
 use Rattle.std.proofs.lemmas.List.Sums.{length-filter, count_by-le-length}
-use Rattle.std.specs.List.{list_all, count_by}
+use Rattle.std.specs.List.{list_all, list_any, count_by}
 use Rattle.std.specs.FinMap.{len, from_entries}
 use Rattle.std.proofs.lemmas.Bool.{and_parts, and_from}
 use Rattle.jc_types.proofs.CallerLemmas.{all_filter, found_more}
@@ -26,15 +26,16 @@ use Rattle.jc_stripe.specs.Polled.{Polled}
 use Rattle.jc_stripe.specs.Polled as polled
 use Rattle.jc_stripe.specs.declared.ticket.First.{First}
 use Rattle.jc_stripe.specs.Tickets.{JoinClaim}
-use Rattle.jc_stripe.specs.State.{State, is_of as is_own_key, is_reserved, new_reservation, with_reservation, without_key, promised, IsOut}
+use Rattle.jc_stripe.specs.State.{State, is_of as is_own_key, is_key, is_reserved, new_reservation, with_reservation, without_key, without_mark, promised, IsOut}
 use Rattle.jc_stripe.specs.Refusals.{first_asked, load_joined}
 use Rattle.jc_stripe.specs.OrderOfUse.{by_use}
 use Rattle.jc_stripe.specs.Phases.{MayBegin, with_joiner, Withdraws, after_withdrawal, PicksUp, without_joiner, is_other_join}
 use Rattle.jc_stripe.specs.Generations.{IsChain}
-use Rattle.jc_stripe.specs.Reached.{IsReached, IsOpened, AreNumbered, AllAsk, AllJoin, FindsLoad, may_end, may_share, are_beside, are_apart, all_apart, is_own}
+use Rattle.jc_stripe.specs.Reached.{IsReached, IsOpened, AreReserved, AreNumbered, AllAsk, AllJoin, FindsLoad, may_end, may_share, are_beside, are_apart, all_apart, is_own}
 use Rattle.jc_types.specs.declared.limits.TheConstants.{STEP_PLACES, HIT_PLACES, RESERVATIONS_MAX, JOINERS_MAX}
 use Rattle.jc_stripe.proofs.Refusing.{joins_known}
 use Rattle.jc_stripe.proofs.Numbering.{numbered-push, numbered-left}
+use Rattle.jc_stripe.proofs.MarkedKeys.{marks_more, marks_left}
 use Rattle.jc_stripe.proofs.Beside.{all-push, beside-push, all_left, beside_left, ask-push, ask_left, fewer_left, apart-push, apart_kept, between-push, between_kept, between_left, apart-alike, between-alike, length-alike}
 use Rattle.jc_stripe.proofs.Joining.{fits_on, join_on, finds_on, join-push, join_kept, still_there, count-push, count_kept}
 use Rattle.jc_types.specs.declared.caller.Caller.{Caller}
@@ -59,7 +60,7 @@ reached_start state start =
       opened_once = start.once;
       opens = opens;
       legal = record {
-        groups = [];
+        parts = [];
         spelled = history;
         lawful = tt;
         left = start.cache;
@@ -84,6 +85,7 @@ reached_start state start =
       shares = ap (list_all (may_share state.history)) joiners;
       apart = ap are_apart joiners;
       between = ap (λ (rs : List Reservation). all_apart rs state.joiners) reservations;
+      marks = ap (list_all (λ (key : Bytes). list_any (is_key key) state.reservations)) start.marked;
     }
   where
     nothing_numbered : (next : ℕ) → AreNumbered next []
@@ -95,11 +97,11 @@ reached_start state start =
 
 -- 2. Other tables.
 
-abbrev tabled : State → List Reservation → List Joiner → ℕ → State
-tabled state rs js next = record state { reservations = rs; joiners = js; next = next }
+abbrev tabled : State → List Reservation → List Joiner → ℕ → List Bytes → State
+tabled state rs js next marked = record state { reservations = rs; joiners = js; next = next; marked = marked }
 
 -- what the tables of a reached state are
-record Tabled (state : State) (rs : List Reservation) (js : List Joiner) (next : ℕ) : Type 0 where
+record Tabled (state : State) (rs : List Reservation) (js : List Joiner) (next : ℕ) (marked : List Bytes) : Type 0 where
   pub keys : IsTrue (list_all (λ r. is_own_key state r.key) rs)
   pub few_reservations : length rs ≤ RESERVATIONS_MAX
   pub few_joiners : length js ≤ JOINERS_MAX
@@ -108,13 +110,14 @@ record Tabled (state : State) (rs : List Reservation) (js : List Joiner) (next :
   pub asks : AllAsk state.config state.cache rs
   pub ends : IsTrue (list_all (may_end state.history) rs)
   pub beside : IsTrue (are_beside rs)
-  pub joins : AllJoin (tabled state rs js next) js
+  pub joins : AllJoin (tabled state rs js next marked) js
   pub shares : IsTrue (list_all (may_share state.history) js)
   pub apart : IsTrue (are_apart js)
   pub between : IsTrue (all_apart rs js)
+  pub marks : AreReserved rs marked
 
-reached_tabled : (state : State) (rs : List Reservation) (js : List Joiner) (next : ℕ) → IsReached state → Tabled state rs js next → IsReached (tabled state rs js next)
-reached_tabled state rs js next old new = record {
+reached_tabled : (state : State) (rs : List Reservation) (js : List Joiner) (next : ℕ) (marked : List Bytes) → IsReached state → Tabled state rs js next marked → IsReached (tabled state rs js next marked)
+reached_tabled state rs js next marked old new = record {
   config_fits = old.config_fits;
   chain = old.chain;
   one_life = old.one_life;
@@ -136,6 +139,7 @@ reached_tabled state rs js next old new = record {
   shares = new.shares;
   apart = new.apart;
   between = new.between;
+  marks = new.marks;
 }
 
 -- a history grows by nothing
@@ -149,9 +153,9 @@ pub reached_reserved : (state : State) (caller : Caller) (key : Bytes) (op : Op)
 reached_reserved state caller key op first old begins few places asks free =
     let r : Reservation = new_reservation state caller key op first in
     let rs : List Reservation = state.reservations ++ r ∷ [] in
-    let new : State = tabled state rs state.joiners (state.next + 1) in
+    let new : State = tabled state rs state.joiners (state.next + 1) state.marked in
     let long : length rs ≡ length state.reservations + 1 = length-append state.reservations (r ∷ []) in
-    reached_tabled state rs state.joiners (state.next + 1) old (record {
+    reached_tabled state rs state.joiners (state.next + 1) state.marked old (record {
       keys = all-push (λ (x : Reservation). is_own_key state x.key) state.reservations r old.keys begins.of_stripe;
       few_reservations = omega arith;
       few_joiners = old.few_joiners;
@@ -164,6 +168,7 @@ reached_reserved state caller key op first old begins few places asks free =
       shares = old.shares;
       apart = old.apart;
       between = all-push (λ (x : Reservation). list_all (is_other_join x.caller x.key) state.joiners) state.reservations r old.between begins.apart;
+      marks = marks_more state.reservations r state.marked old.marks;
     })
 
 -- 4. A joiner more.
@@ -173,11 +178,11 @@ pub reached_joined : (state : State) (caller : Caller) (key : Bytes) (op : Op) (
 reached_joined state caller key op load old begins tells few places =
     let j : Joiner = record { caller = caller; key = key; load = load; state = Waiting } in
     let js : List Joiner = state.joiners ++ j ∷ [] in
-    let new : State = tabled state state.reservations js state.next in
+    let new : State = tabled state state.reservations js state.next state.marked in
     let known = joins_known state key op load tells in
     let long : length js ≡ length state.joiners + 1 = length-append state.joiners (j ∷ []) in
     let more : count_by waits js ≡ count_by waits state.joiners + 1 = count-push waits state.joiners j refl in
-    reached_tabled state state.reservations js state.next old (record {
+    reached_tabled state state.reservations js state.next state.marked old (record {
       keys = old.keys;
       few_reservations = old.few_reservations;
       few_joiners = omega arith;
@@ -192,6 +197,7 @@ reached_joined state caller key op load old begins tells few places =
       shares = all-push (may_share state.history) state.joiners j old.shares begins.behind;
       apart = apart-push state.joiners j old.apart begins.apart;
       between = between-push state.reservations state.joiners j old.between begins.beside;
+      marks = old.marks;
     })
 
 -- 5. A reservation given back.
@@ -205,7 +211,7 @@ share-dissolved history load (j ∷ js) h =
       | false ↦ λ h. and_from _ _ (and_parts _ _ h).0 (rest (and_parts _ _ h).1)
     ] h
 
-count-dissolved : (load : ℕ) (js : List Joiner) → count_by waits (after_dissolve load js) ≤ count_by waits js
+pub count-dissolved : (load : ℕ) (js : List Joiner) → count_by waits (after_dissolve load js) ≤ count_by waits js
 count-dissolved load [] = omega arith
 count-dissolved load (j ∷ js) =
     let less : count_by waits (after_dissolve load js) ≤ count_by waits js = count-dissolved load js in
@@ -228,12 +234,13 @@ reached_dissolved : (state : State) (r : Reservation) → IsReached state → Is
 reached_dissolved state r old found =
     let rs : List Reservation = without_key r.key state.reservations in
     let js : List Joiner = after_dissolve r.number state.joiners in
-    let new : State = tabled state rs js state.next in
+    let marked : List Bytes = without_mark r.key state.marked in
+    let new : State = tabled state rs js state.next marked in
     let calls = sym (calls-after_dissolve r.number state.joiners) in
     let fewer : length rs ≤ length state.reservations = fewer_left r.key state.reservations in
     let long : length state.joiners ≡ length js = length-alike state.joiners js calls in
     let less : count_by waits js ≤ count_by waits state.joiners = count-dissolved r.number state.joiners in
-    reached_tabled state rs js state.next old (record {
+    reached_tabled state rs js state.next marked old (record {
       keys = all_left (λ x. is_own_key state x.key) r.key state.reservations old.keys;
       few_reservations = let few = old.few_reservations in omega arith;
       few_joiners = let few = old.few_joiners in omega arith;
@@ -247,6 +254,7 @@ reached_dissolved state r old found =
       shares = share-dissolved state.history r.number state.joiners old.shares;
       apart = sym (apart-alike state.joiners js calls) ∙ old.apart;
       between = between-alike rs state.joiners js calls (between_left r.key state.reservations state.joiners old.between);
+      marks = marks_left r.key state.reservations state.marked old.marks;
     })
 
 pub reached_withdrawn : (old new : State) (r : Reservation) → IsReached old → Withdraws old r new → IsReached new
@@ -258,10 +266,10 @@ pub reached_left : (state : State) (join : JoinClaim) → IsReached state → Is
 reached_left state join old =
     let stays : Joiner → Bool = λ j. not (belongs_to join.caller join.key j) in
     let js : List Joiner = filter stays state.joiners in
-    let new : State = tabled state state.reservations js state.next in
+    let new : State = tabled state state.reservations js state.next state.marked in
     let fewer : length js ≤ length state.joiners = omega (arith, length-filter stays state.joiners, count_by-le-length stays state.joiners) in
     let less : count_by waits js ≤ count_by waits state.joiners = count_kept waits stays state.joiners in
-    reached_tabled state state.reservations js state.next old (record {
+    reached_tabled state state.reservations js state.next state.marked old (record {
       keys = old.keys;
       few_reservations = old.few_reservations;
       few_joiners = let few = old.few_joiners in omega arith;
@@ -274,6 +282,7 @@ reached_left state join old =
       shares = all_filter (may_share state.history) stays state.joiners old.shares;
       apart = apart_kept stays state.joiners old.apart;
       between = between_kept state.reservations stays state.joiners old.between;
+      marks = old.marks;
     })
 
 pub reached_picked : (old new : State) (join : JoinClaim) (p : Polled) → IsReached old → PicksUp old join p new → IsReached new

@@ -1,6 +1,8 @@
 -- At most one phase of a session keeps the state reached, and leaves the own steps of the others.
 --     one_uniform                  the law
-use Rattle.std.proofs.Common.{◌≡◌, ◌≤◌, ◌==◌, ◌+◌, ⊎_elim, ℕ, List, [], length, true, false, refl, sym, ap, ◌∙◌, subst, arith}
+use Rattle.std.proofs.Common.{◌≡◌, ◌≤◌, ◌==◌, ◌+◌, ◌⊎◌, ⊎_elim, inl, inr, ℕ, List, [], map, filter, length, true, false, slice_get, refl, sym, ap, ◌∙◌, subst, arith}
+use Rattle.std.specs.List.{list_any}
+use Rattle.jc_model.specs.declared.event.Event.{Event}
 use Rattle.std.proofs.lemmas.Bool.{eqb-true}
 use Rattle.std.proofs.lemmas.Cmp.{nat_eq_equiv}
 use Rattle.jc_model.specs.declared.event.Op.{Op}
@@ -17,17 +19,19 @@ use Rattle.jc_stripe.specs.Polled.{Polled}
 use Rattle.jc_stripe.specs.Outcomes as first
 use Rattle.jc_stripe.specs.Polled as last
 use Rattle.jc_stripe.specs.Tickets.{JoinClaim}
-use Rattle.jc_stripe.specs.State.{State}
+use Rattle.jc_stripe.specs.State.{State, is_key, is_reserved}
 use Rattle.jc_stripe.specs.Phases.{new_group, after_commit, Begins, PicksUp, Steps, without_joiner}
 use Rattle.jc_stripe.specs.Reached.{IsReached}
 use Rattle.jc_stripe.specs.Laws.{Extends, KeepsReserved}
-use Rattle.jc_stripe.specs.OnePhase.{FirstPhase, LastPhase, Withdrawal, PickUp, IsPhaseOf, OnePhase, own_steps}
+use Rattle.jc_stripe.specs.OnePhase.{FirstPhase, PickUp, GainsOwn, IsUniform, OnePhase, own_steps, is_of_others, join_claim}
 use Rattle.jc_stripe.proofs.Settled.{keyed_callers}
 use Rattle.jc_stripe.proofs.Reaching.{reached_begins, reached_commits}
 use Rattle.jc_stripe.proofs.Tables.{reached_withdrawn, reached_picked}
 use Rattle.jc_stripe.proofs.Laws.{same_on, begins_on, commits_on, withdraws_on, picks_up_on, begins_keeps, commits_keeps, withdraws_keeps, picks_up_keeps}
 use Rattle.jc_types.specs.declared.caller.Caller.{Caller}
 use Rattle.jc_stripe.specs.declared.ticket.Reservation.{Reservation}
+use Rattle.jc_stripe.proofs.Core.{Committed, Withdrawn, IsCore, core_of}
+use Rattle.jc_stripe.proofs.Settling.{IsQuiet, extends_both, there_before}
 use Rattle.jc_stripe.proofs.ParkedSteps.{own-parked, parked-joined, parked-dissolved, parked-without, own-answered, all_parked, own-grown, parked-callers}
 use Rattle.jc_stripe.proofs.Own.{own_left}
 use Rattle.jc_stripe.proofs.UniformParts.{uniform_own, uniform_reservations, uniform_joins, uniform_entries}
@@ -84,7 +88,7 @@ uniform_begun session old new reached b = record {
 }
 
 -- a last phase
-uniform_committed : (session : ℕ) (old new : State) → IsReached old → LastPhase session old new → KeepsOthers session old new
+uniform_committed : (session : ℕ) (old new : State) → IsReached old → Committed session old new → KeepsOthers session old new
 uniform_committed session old new reached b =
     let r : Reservation = b.reservation in
     let place : ℕ = b.done.place in
@@ -104,7 +108,7 @@ uniform_committed session old new reached b =
     }
 
 -- a reservation that is given back
-uniform_withdrawn : (session : ℕ) (old new : State) → IsReached old → Withdrawal session old new → KeepsOthers session old new
+uniform_withdrawn : (session : ℕ) (old new : State) → IsReached old → Withdrawn session old new → KeepsOthers session old new
 uniform_withdrawn session old new reached b =
     let load : ℕ = b.reservation.number in
     record {
@@ -142,7 +146,7 @@ uniform_picked session old new reached b = record {
 }
 
 -- at most one of them
-keeps_others : (session : ℕ) (old new : State) → IsReached old → IsPhaseOf session old new → KeepsOthers session old new
+keeps_others : (session : ℕ) (old new : State) → IsReached old → IsCore session old new → KeepsOthers session old new
 keeps_others session old new reached phase =
     ⊎_elim (λ same. uniform_same session old new reached same)
     (λ rest. ⊎_elim (λ b. uniform_begun session old new reached b)
@@ -152,8 +156,8 @@ keeps_others session old new reached phase =
 keeps_reserved : KeepsReserved
 keeps_reserved = record { begins = begins_keeps; commits = commits_keeps; withdraws = withdraws_keeps; picks_up = picks_up_keeps }
 
-pub one_uniform : OnePhase
-one_uniform session old new reached phase =
+core_uniform : (session : ℕ) (old new : State) → IsReached old → IsCore session old new → IsUniform session old new
+core_uniform session old new reached phase =
     let kept = keeps_others session old new reached phase in
     record {
       reached = kept.reached;
@@ -165,3 +169,41 @@ one_uniform session old new reached phase =
       joins = uniform_joins session old new phase;
       entries = λ key before after. uniform_entries keeps_reserved session old new key reached phase before after;
     }
+
+-- 3. What no session sees follows.
+
+own_quiet : (session : ℕ) (old mid new : State) → IsQuiet mid new → (own_steps session mid ≡ own_steps session old) ⊎ ((event : Event) × (place : ℕ) × GainsOwn session old mid event place)
+    → (own_steps session new ≡ own_steps session old) ⊎ ((event : Event) × (place : ℕ) × GainsOwn session old new event place)
+own_quiet session old mid new q (inl same) = inl (q.own session ∙ same)
+own_quiet session old mid new q (inr g) =
+    inr (
+      g.0,
+      g.1,
+      record {
+        there = ap (λ h. slice_get h g.1) q.grows.history ∙ there_before mid.history q.grows.more g.1 g.0 g.2.there;
+        before = g.2.before;
+        after = g.2.after;
+        was = g.2.was;
+        own = q.own session ∙ g.2.own;
+      },
+    )
+
+uniform_quiet : (session : ℕ) (old mid new : State) → IsUniform session old mid → IsQuiet mid new → IsUniform session old new
+uniform_quiet session old mid new u q = record {
+  reached = q.reached;
+  grows = extends_both old mid new u.grows q.grows;
+  next = let n = q.next in let m = u.next in omega arith;
+  own = own_quiet session old mid new q u.own;
+  others = λ other differs. q.own other ∙ u.others other differs;
+  reservations = ap (λ (rs : List Reservation). filter (λ (r : Reservation). is_of_others session r.caller) rs) q.reservations ∙ u.reservations;
+  joins = ap (λ (js : List Joiner). filter (λ j. is_of_others session j.caller) (map join_claim js)) q.joiners ∙ u.joins;
+  entries = λ key before after.
+      let between : is_reserved mid key ≡ true = ap (list_any (is_key key)) (sym q.reservations) ∙ after in
+      q.entries key between ∙ u.entries key before between;
+}
+
+pub one_uniform : OnePhase
+one_uniform session old new reached phase =
+    let c = core_of session old new reached phase in
+    let u = core_uniform session old c.mid reached c.core in
+    uniform_quiet session old c.mid new u (c.quiet u.reached)

@@ -30,9 +30,10 @@ use Rattle.jc_stripe.specs.State.{State, is_key, is_reserved, without_key}
 use Rattle.jc_stripe.specs.Phases.{MayBegin, Begins, PicksUp}
 use Rattle.jc_stripe.specs.Reached.{IsReached}
 use Rattle.jc_stripe.specs.Laws.{KeepsReserved}
-use Rattle.jc_stripe.specs.OnePhase.{FirstPhase, LastPhase, Withdrawal, PickUp, IsPhaseOf, own_steps, GainsOwn, is_of_others, join_claim}
+use Rattle.jc_stripe.specs.OnePhase.{FirstPhase, PickUp, own_steps, GainsOwn, is_of_others, join_claim}
 use Rattle.jc_stripe.specs.OwnSteps.{AddsOwn, OwnSteps}
 use Rattle.jc_stripe.proofs.Numbering.{later_pairs, first_pairs}
+use Rattle.jc_stripe.proofs.Core.{Committed, Withdrawn, IsCore}
 use Rattle.jc_stripe.proofs.ParkedSteps.{joiners_call, filter-append}
 
 -- 1. Own steps.
@@ -54,13 +55,13 @@ own_picked law old new join (polled.Answer reply place shared) reached h = let g
 own_picked law old new join polled.Again reached h = inl (law.again old new join reached h)
 own_picked law old new join (polled.NotYet back) reached h = inl (law.not_yet old new join back h)
 
-pub uniform_own : OwnSteps → (session : ℕ) (old new : State) → IsReached old → IsPhaseOf session old new → Own session old new
+pub uniform_own : OwnSteps → (session : ℕ) (old new : State) → IsReached old → IsCore session old new → Own session old new
 uniform_own law session old new reached phase =
     let P : ℕ → Type 0 = λ s. Own s old new in
     ⊎_elim (λ same. inl (ap (λ (s : State). own_steps session s) same))
     (λ rest. ⊎_elim (λ (b : FirstPhase session old new). subst P b.own (own_begun law old new b.caller b.key b.op b.begun b.may b.begins))
-    (λ rest. ⊎_elim (λ (b : LastPhase session old new). subst P b.own (gains b.reservation.caller.session old new _ _ (law.commits old new b.reservation b.out b.done reached b.commits)))
-    (λ rest. ⊎_elim (λ (b : Withdrawal session old new). inl (law.withdraws old new session b.reservation b.withdraws))
+    (λ rest. ⊎_elim (λ (b : Committed session old new). subst P b.own (gains b.reservation.caller.session old new _ _ (law.commits old new b.reservation b.out b.done reached b.commits)))
+    (λ rest. ⊎_elim (λ (b : Withdrawn session old new). inl (law.withdraws old new session b.reservation b.withdraws))
     (λ (b : PickUp session old new). subst P b.own (own_picked law old new b.join b.picked reached b.picks_up)) rest) rest) rest) phase
 
 -- 2. Other sessions' reservations.
@@ -134,14 +135,14 @@ held_picked session old new join (polled.Answer reply place shared) h = ap (λ (
 held_picked session old new join polled.Again h = ap (λ (s : State). others_held session s.reservations) h.2
 held_picked session old new join (polled.NotYet back) h = ap (λ (s : State). others_held session s.reservations) h.3
 
-pub uniform_reservations : (session : ℕ) (old new : State) → IsReached old → IsPhaseOf session old new → others_held session new.reservations ≡ others_held session old.reservations
+pub uniform_reservations : (session : ℕ) (old new : State) → IsReached old → IsCore session old new → others_held session new.reservations ≡ others_held session old.reservations
 uniform_reservations session old new reached phase =
     ⊎_elim (λ same. ap (λ (s : State). others_held session s.reservations) same)
     (λ rest. ⊎_elim (λ (b : FirstPhase session old new). held_begun session old new b.caller b.key b.op b.begun b.own b.begins)
-    (λ rest. ⊎_elim (λ (b : LastPhase session old new).
+    (λ rest. ⊎_elim (λ (b : Committed session old new).
     ap (λ (s : State). others_held session s.reservations) b.commits.1.after
     ∙ held_without session b.reservation.key old.reservations (only_found session b.reservation.key old.reservations b.reservation reached.numbered.once b.commits.0 b.own))
-    (λ rest. ⊎_elim (λ (b : Withdrawal session old new).
+    (λ rest. ⊎_elim (λ (b : Withdrawn session old new).
     ap (λ (s : State). others_held session s.reservations) b.withdraws.1
     ∙ held_without session b.reservation.key old.reservations (only_found session b.reservation.key old.reservations b.reservation reached.numbered.once b.withdraws.0 b.own))
     (λ (b : PickUp session old new). held_picked session old new b.join b.picked b.picks_up) rest) rest) rest) phase
@@ -195,24 +196,24 @@ joins_picked session old new join (polled.Answer reply place shared) own h = ap 
 joins_picked session old new join polled.Again own h = ap (λ (s : State). others_joined session s.joiners) h.2 ∙ joined_without session join.caller join.key old.joiners own
 joins_picked session old new join (polled.NotYet back) own h = ap (λ (s : State). others_joined session s.joiners) h.3
 
-pub uniform_joins : (session : ℕ) (old new : State) → IsPhaseOf session old new → others_joined session new.joiners ≡ others_joined session old.joiners
+pub uniform_joins : (session : ℕ) (old new : State) → IsCore session old new → others_joined session new.joiners ≡ others_joined session old.joiners
 uniform_joins session old new phase =
     let picked_out : List JoinClaim → List JoinClaim = λ js. filter (λ (j : JoinClaim). is_of_others session j.caller) js in
     ⊎_elim (λ same. ap (λ (s : State). others_joined session s.joiners) same)
     (λ rest. ⊎_elim (λ (b : FirstPhase session old new). joins_begun session old new b.caller b.key b.op b.begun b.own b.begins)
-    (λ rest. ⊎_elim (λ (b : LastPhase session old new).
+    (λ rest. ⊎_elim (λ (b : Committed session old new).
     ap (λ (s : State). others_joined session s.joiners) b.commits.1.after ∙ ap picked_out (claims_answered b.reservation.number b.done.place (b.done.place + 1) old.joiners))
-    (λ rest. ⊎_elim (λ (b : Withdrawal session old new).
+    (λ rest. ⊎_elim (λ (b : Withdrawn session old new).
     ap (λ (s : State). others_joined session s.joiners) b.withdraws.1 ∙ ap picked_out (claims_dissolved b.reservation.number old.joiners))
     (λ (b : PickUp session old new). joins_picked session old new b.join b.picked b.own b.picks_up) rest) rest) rest) phase
 
 -- 4. The entries of keys that stay reserved.
 
-pub uniform_entries : KeepsReserved → (session : ℕ) (old new : State) (key : Bytes) → IsReached old → IsPhaseOf session old new → is_reserved old key ≡ true → is_reserved new key ≡ true → entry_at new.cache key ≡ entry_at old.cache key
+pub uniform_entries : KeepsReserved → (session : ℕ) (old new : State) (key : Bytes) → IsReached old → IsCore session old new → is_reserved old key ≡ true → is_reserved new key ≡ true → entry_at new.cache key ≡ entry_at old.cache key
 uniform_entries law session old new key reached phase before after =
     ⊎_elim (λ same. ap (λ (s : State). entry_at s.cache key) same)
     (λ rest. ⊎_elim (λ (b : FirstPhase session old new). law.begins old new b.caller b.key b.op b.begun key reached b.begins before)
-    (λ rest. ⊎_elim (λ (b : LastPhase session old new).
+    (λ rest. ⊎_elim (λ (b : Committed session old new).
     law.commits old new b.reservation b.out b.done key reached b.commits (ap (λ (s : State). is_reserved s key) (sym b.commits.1.after) ∙ after))
-    (λ rest. ⊎_elim (λ (b : Withdrawal session old new). ap (λ cache. entry_at cache key) (law.withdraws old new b.reservation b.withdraws))
+    (λ rest. ⊎_elim (λ (b : Withdrawn session old new). ap (λ cache. entry_at cache key) (law.withdraws old new b.reservation b.withdraws))
     (λ (b : PickUp session old new). ap (λ cache. entry_at cache key) (law.picks_up old new b.join b.picked b.picks_up)) rest) rest) rest) phase

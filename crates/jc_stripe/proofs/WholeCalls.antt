@@ -25,13 +25,14 @@ use Rattle.jc_stripe.specs.declared.ticket.First.{First}
 use Rattle.jc_stripe.specs.declared.ticket.Reservation.{Reservation}
 use Rattle.jc_stripe.specs.Outcomes.{StepDone}
 use Rattle.jc_stripe.specs.Tickets.{TicketClaim}
-use Rattle.jc_stripe.specs.State.{State, is_key, is_reserved, reservation_of, new_reservation, with_reservation, without_key}
+use Rattle.jc_stripe.specs.State.{State, is_key, is_reserved, is_marked, reservation_of, new_reservation, with_reservation, without_key}
 use Rattle.jc_stripe.specs.Refusals.{needs_reservation}
 use Rattle.jc_stripe.specs.Phases.{is_other_call, is_other_join, new_group, after_commit, Steps, Commits}
 use Rattle.jc_stripe.specs.Reached.{IsReached, JoinFits, AllJoin}
 use Rattle.jc_stripe.specs.OwnSteps.{is_before_call, HasNoCallFrom, CallerNumbers, WholeCall, JoinsOnlyLoads}
 use Rattle.jc_stripe.proofs.Joining.{loaded_at}
-use Rattle.jc_stripe.proofs.Refusing.{was_free, asking_needs}
+use Rattle.jc_stripe.proofs.Refusing.{was_free, asking_needs, not_refused, or_neither}
+use Rattle.jc_stripe.proofs.MarkedKeys.{unmarked_same}
 use Rattle.jc_stripe.proofs.Settled.{waiting_finds}
 use Rattle.jc_stripe.proofs.OwnPick.{all_behind}
 use Rattle.jc_stripe.proofs.ParkedSteps.{filter-append}
@@ -81,23 +82,24 @@ none_called old (j ∷ js) reached all =
 
 -- 3. The whole call.
 
-one_step : (old mid new : State) (caller : Caller) (key : Bytes) (op : Op) (first : First) (r : Reservation) (out : Out) (done : StepDone) → IsReached old → is_reserved old key ≡ false
+one_step : (old mid new : State) (caller : Caller) (key : Bytes) (op : Op) (first : First) (r : Reservation) (out : Out) (done : StepDone) → IsReached old → is_reserved old key ≡ false → is_marked old key ≡ false
     → r ≡ new_reservation old caller key op first → mid ≡ with_reservation old r → Commits mid r out done new → Steps (record old { next = old.next + 1 }) caller key op out [] done new
-one_step old mid new caller key op first r out done reached free is goes commits =
+one_step old mid new caller key op first r out done reached free unmarked is goes commits =
     let r0 : Reservation = new_reservation old caller key op first in
     let m : mid ≡ with_reservation old r0 = goes ∙ ap (with_reservation old) is in
     let P : State × Reservation → Type 0 = λ x. Steps (after_commit x.0 x.1 done.place) x.1.caller x.1.key x.1.op out (callers_of x.1.number x.0.joiners) done new in
     let steps : Steps (after_commit (with_reservation old r0) r0 done.place) caller key op out (callers_of old.next old.joiners) done new = subst P (λ i. (m i, is i)) commits.1 in
     let rest = without_new key old.reservations r0 free (nat_list_eq_equiv.refl key) in
+    let marks = unmarked_same key old.marked unmarked in
     let joins = none_resolved old done.place (done.place + 1) old.joiners reached reached.joins in
-    let state : after_commit (with_reservation old r0) r0 done.place ≡ record old { next = old.next + 1 } = λ i. record old { reservations = rest i; joiners = joins i; next = old.next + 1 } in
+    let state : after_commit (with_reservation old r0) r0 done.place ≡ record old { next = old.next + 1 } = λ i. record old { reservations = rest i; joiners = joins i; next = old.next + 1; marked = marks i } in
     let Q : State × List Caller → Type 0 = λ x. Steps x.0 caller key op out x.1 done new in
     subst Q (λ i. (state i, none_called old old.joiners reached reached.joins i)) steps
 
 pub whole_call : WholeCall
 whole_call old mid new caller key op ticket out done reached begins commits =
     let asks : needs_reservation old key op ≡ true = asking_needs old key op ticket.reservation.first begins.1 begins.2 begins.3 in
-    one_step old mid new caller key op ticket.reservation.first ticket.reservation out done reached (was_free old caller key op begins.0 asks) (ap (λ (t : TicketClaim). t.reservation) begins.4) begins.5 commits
+    one_step old mid new caller key op ticket.reservation.first ticket.reservation out done reached (was_free old caller key op begins.0 asks) (or_neither old.shut (is_marked old key) (not_refused old caller key op begins.0).unbarred).1 (ap (λ (t : TicketClaim). t.reservation) begins.4) begins.5 commits
 
 pub joins_loads : JoinsOnlyLoads
 joins_loads old new caller key op join none begins = some_not join.load (sym none ∙ begins.1)

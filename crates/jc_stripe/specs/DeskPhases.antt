@@ -2,9 +2,9 @@
 --     newest               the reservation that is out and was made last
 --     BeginsWithMoves      a first phase has this outcome, with this reply and these moves if the call is done
 --     RenewsAndBegins      the first phase of the desk's next call, before which a full generation has ended; the call might be
---                          made, and no events were to be taken first
+--                          made, no events were to be taken first, and the desk wasn't shut
 --     BeginsAtDesk         as `RenewsAndBegins`; or nothing was done: the call might be made, and the events of a full generation
---                          are to be taken; or the call might not be made
+--                          are to be taken, or the desk is shut; or the call might not be made
 --     is_first_misuse      the answer is that the call may not begin
 --     HitsAtDesk           a get that found its entry, as the desk's next call
 --     hits_next            a get finds its entry, as the desk's next call
@@ -22,14 +22,21 @@
 --     has_joined_load      some joiner has joined this load
 --     is_join_out          a join is out: its call is among the joiners of its key, and joined this load
 --     CommitsAtDesk        the last phase of the reservation with this number
---     WithdrawsAtDesk      the reservation with this number is given back
+--     WithdrawsAtDesk      the reservation with this number is given back, with the value that the key's entry lost by that
 --     PicksUpAtDesk        a joiner asks for its answer; or no such join is out, and nothing was done
 --     is_pick_up_misuse    the answer is that no such join is out
+--     makes_place          the generation ends for the eviction of an invalidated key: no place is free, and it may end, and its events
+--                          aren't to be taken
+--     with_place           the stripe after that
+--     InvalidatesAtDesk    a key is invalidated, with the value that its entry lost
+--     InvalidatesAllAtDesk all keys are invalidated
+--     answer_without_place     an entry is left for which there is no place: the events are to be taken first, or something ends first
+--     sweep_answer         whether an entry was evicted, calls may begin, the events are to be taken first, or there is no place now
+--     SweepsAtDesk         an entry of a desk that is shut is evicted, or calls may begin again
 use Rattle.std.specs.Prelude.{◌≡◌, ◌==◌, ◌&&◌, ◌+◌, ◌-◌, ℕ, Bool, true, false, not, Option, None, Some, is_some, find, length, slice_get, if◌then◌else◌}
 use Rattle.std.specs.Bool.{beq}
 use Rattle.jc_types.specs.declared.caller.Caller.{Caller}
 use Rattle.jc_types.specs.declared.config.Config.{Config}
-use Rattle.jc_types.specs.declared.limits.TheConstants.{HIT_PLACES}
 use Rattle.jc_model.specs.declared.event.Op.{Op}
 use Rattle.jc_model.specs.declared.event.Op.TheVariants.{Get}
 use Rattle.jc_model.specs.declared.event.Out.{Out}
@@ -51,14 +58,18 @@ use Rattle.jc_stripe.specs.declared.desk.answers.FirstAnswer.TheVariants as firs
 use Rattle.jc_stripe.specs.declared.desk.answers.CommitDone.{CommitDone}
 use Rattle.jc_stripe.specs.declared.desk.answers.PickUpAnswer.{PickUpAnswer}
 use Rattle.jc_stripe.specs.declared.desk.answers.PickUpAnswer.TheVariants as pick_up_answer
+use Rattle.jc_stripe.specs.declared.desk.answers.SweepAnswer.{SweepAnswer}
+use Rattle.jc_stripe.specs.declared.desk.answers.SweepAnswer.TheVariants as sweep_answers
 use Rattle.jc_mutentry.specs.Done.{effect_change}
 use Rattle.jc_stripe.specs.State.{State}
 use Rattle.jc_stripe.specs.Tickets.{JoinClaim, TicketClaim, asks_loader, asks_writer, asks_processor, is_loadable}
-use Rattle.jc_stripe.specs.Phases.{Begins, Commits, Withdraws, PicksUp, hit_done}
-use Rattle.jc_stripe.specs.Refusals.{has_room}
+use Rattle.jc_stripe.specs.Phases.{Begins, PicksUp, hit_done}
+use Rattle.jc_stripe.specs.Invalidating.{has_place, Ends, GivesBack, Invalidates, InvalidatesAll, Sweeps}
+use Rattle.jc_stripe.specs.Refusals.{may_hit}
 use Rattle.jc_stripe.specs.Appending.{AnswersFirst}
-use Rattle.jc_stripe.specs.Renewal.{RenewsIfFull}
-use Rattle.jc_stripe.specs.ValuesMoved.{MovesMade, MovesValues}
+use Rattle.jc_stripe.specs.Generations.{after_renewal}
+use Rattle.jc_stripe.specs.Renewal.{RenewsIfFull, can_renew}
+use Rattle.jc_stripe.specs.ValuesMoved.{MovesMade, MovesValues, DropsValue, SweepsValue, swept_key}
 use Rattle.jc_stripe.specs.DeskState.{DeskState, may_call_next, awaits_end, renewed_if_full}
 
 -- 1. First phases.
@@ -74,11 +85,13 @@ BeginsWithMoves old caller key op reply moves (first_answer.Asks number) new =
 BeginsWithMoves old caller key op reply moves (first_answer.Joined load) new = Begins old caller key op (begun.Joined (record { caller = caller; key = key; load = load })) new
 BeginsWithMoves old caller key op reply moves (first_answer.Refused refusal) new = Begins old caller key op (begun.Refused refusal) new
 BeginsWithMoves old caller key op reply moves first_answer.Full new = ⊥
+BeginsWithMoves old caller key op reply moves first_answer.Shut new = ⊥
 BeginsWithMoves old caller key op reply moves first_answer.Misuse new = ⊥
 
 pub record RenewsAndBegins (old : DeskState) (session call : ℕ) (key : Bytes) (op : Op) (reply : Reply) (moves : MovesMade) (answer : FirstAnswer) (new : DeskState) : Type 0 where
   pub may : may_call_next old session key ≡ true
   pub free : awaits_end old ≡ false
+  pub unshut : old.stripe.shut ≡ false
   pub between : State
   pub renews : RenewsIfFull old.stripe between
   pub call_is : call ≡ old.next
@@ -88,6 +101,8 @@ pub record RenewsAndBegins (old : DeskState) (session call : ℕ) (key : Bytes) 
 abbrev pub BeginsAtDesk : DeskState → ℕ → ℕ → Bytes → Op → Reply → MovesMade → FirstAnswer → DeskState → Type 0
 BeginsAtDesk old session call key op reply moves first_answer.Full new =
     (new ≡ old) × (call ≡ old.next) × (may_call_next old session key ≡ true) × (awaits_end old ≡ true)
+BeginsAtDesk old session call key op reply moves first_answer.Shut new =
+    (new ≡ old) × (call ≡ old.next) × (may_call_next old session key ≡ true) × (awaits_end old ≡ false) × (old.stripe.shut ≡ true)
 BeginsAtDesk old session call key op reply moves first_answer.Misuse new = (new ≡ old) × (call ≡ old.next) × (may_call_next old session key ≡ false)
 BeginsAtDesk old session call key op reply moves answer new = RenewsAndBegins old session call key op reply moves answer new
 
@@ -97,6 +112,7 @@ is_first_misuse (first_answer.Asks number) = false
 is_first_misuse (first_answer.Joined load) = false
 is_first_misuse (first_answer.Refused refusal) = false
 is_first_misuse first_answer.Full = false
+is_first_misuse first_answer.Shut = false
 is_first_misuse first_answer.Misuse = true
 
 pub record HitsAtDesk (old : DeskState) (session : ℕ) (key value : Bytes) (call : ℕ) (new : DeskState) : Type 0 where
@@ -108,7 +124,7 @@ pub record HitsAtDesk (old : DeskState) (session : ℕ) (key value : Bytes) (cal
 
 abbrev pub hits_next : DeskState → ℕ → Bytes → Bool
 hits_next desk session key =
-    may_call_next desk session key && not (awaits_end desk) && has_room (renewed_if_full desk.stripe) desk.next HIT_PLACES && is_some (entry_at desk.stripe.cache key)
+    may_call_next desk session key && not (awaits_end desk) && may_hit (renewed_if_full desk.stripe) desk.next key && is_some (entry_at desk.stripe.cache key)
 
 abbrev pub without_hit : DeskState → ℕ → Bytes → DeskState
 without_hit desk session key =
@@ -155,17 +171,18 @@ pub record CommitsAtDesk (old : DeskState) (number : ℕ) (out : Out) (reply : R
   pub reservation : Reservation
   pub ticket : ticket_of old.stripe number ≡ Some reservation
   pub done : StepDone
-  pub commits : Commits old.stripe reservation out done new.stripe
+  pub ends : Ends old.stripe reservation out done new.stripe
   pub reply_is : done.reply ≡ reply
   pub place : done.place ≡ commit.place
   pub shared : commit.shared ≡ length (callers_of number old.stripe.joiners)
   pub moves_are : MovesValues old.stripe reservation.key done.victim done.evicted moves new.stripe
   pub rest : new ≡ record old { stripe = new.stripe }
 
-pub record WithdrawsAtDesk (old : DeskState) (number : ℕ) (new : DeskState) : Type 0 where
+pub record WithdrawsAtDesk (old : DeskState) (number : ℕ) (moves : MovesMade) (new : DeskState) : Type 0 where
   pub reservation : Reservation
   pub ticket : ticket_of old.stripe number ≡ Some reservation
-  pub withdraws : Withdraws old.stripe reservation new.stripe
+  pub gives_back : GivesBack old.stripe reservation new.stripe
+  pub moves_are : DropsValue old.stripe reservation.key moves new.stripe
   pub rest : new ≡ record old { stripe = new.stripe }
 
 abbrev pub PicksUpAtDesk : DeskState → JoinClaim → Reply → PickUpAnswer → DeskState → Type 0
@@ -179,3 +196,34 @@ is_pick_up_misuse (pick_up_answer.Answer place shared_with) = false
 is_pick_up_misuse pick_up_answer.Again = false
 is_pick_up_misuse pick_up_answer.NotYet = false
 is_pick_up_misuse pick_up_answer.Misuse = true
+
+-- 4. Invalidations.
+
+abbrev pub makes_place : DeskState → Bool
+makes_place desk = not desk.keeps_events && not (has_place desk.stripe) && can_renew desk.stripe
+
+abbrev pub with_place : DeskState → State
+with_place desk = if makes_place desk then after_renewal desk.stripe else desk.stripe
+
+pub record InvalidatesAtDesk (old : DeskState) (key : Bytes) (moves : MovesMade) (new : DeskState) : Type 0 where
+  pub invalidates : Invalidates (with_place old) key new.stripe
+  pub moves_are : DropsValue (with_place old) key moves new.stripe
+  pub rest : new ≡ record old { stripe = new.stripe }
+
+abbrev pub InvalidatesAllAtDesk : DeskState → DeskState → Type 0
+InvalidatesAllAtDesk old new = InvalidatesAll old.stripe new.stripe × (new ≡ record old { stripe = new.stripe })
+
+-- no place is free for an eviction that is left
+abbrev pub answer_without_place : Bool → SweepAnswer
+answer_without_place true = sweep_answers.Full
+answer_without_place false = sweep_answers.NoPlace
+
+abbrev pub sweep_answer : Bool → State → SweepAnswer
+sweep_answer evicted state =
+    if evicted then sweep_answers.Evicted else (if state.shut then answer_without_place (can_renew state) else sweep_answers.Open)
+
+pub record SweepsAtDesk (old : DeskState) (moves : MovesMade) (answer : SweepAnswer) (new : DeskState) : Type 0 where
+  pub sweeps : Sweeps (with_place old) new.stripe
+  pub moves_are : SweepsValue (with_place old) moves new.stripe
+  pub answer_is : answer ≡ sweep_answer (is_some (swept_key (with_place old))) new.stripe
+  pub rest : new ≡ record old { stripe = new.stripe }

@@ -27,6 +27,8 @@ state_of s =
       joiners = s.joiners;
       history = s.history.events;
       next = s.reservations.next;
+      marked = s.marks;
+      shut = s.is_shut;
     }
 
 pub record IsStripe (s : Inside) : Type 0 where

@@ -20,6 +20,7 @@ use Rattle.jc_stripe.specs.Polled.{Polled}
 use Rattle.jc_stripe.specs.Tickets.{JoinClaim}
 use Rattle.jc_stripe.specs.State.{State, is_reserved, without_reservation}
 use Rattle.jc_stripe.specs.Phases.{MayBegin, Begins, Commits, Withdraws, PicksUp}
+use Rattle.jc_stripe.specs.Invalidating.{Ends, GivesBack, Invalidates, InvalidatesAll, Sweeps}
 use Rattle.jc_stripe.specs.Reached.{IsReached, IsOpened}
 
 pub record StaysReached : Type 0 where
@@ -27,6 +28,11 @@ pub record StaysReached : Type 0 where
   pub commits : (old new : State) (r : Reservation) (out : Out) (done : StepDone) → IsReached old → Commits old r out done new → IsReached new
   pub withdraws : (old new : State) (r : Reservation) → IsReached old → Withdraws old r new → IsReached new
   pub picks_up : (old new : State) (join : JoinClaim) (p : Polled) → IsReached old → PicksUp old join p new → IsReached new
+  pub ends : (old new : State) (r : Reservation) (out : Out) (done : StepDone) → IsReached old → Ends old r out done new → IsReached new
+  pub gives_back : (old new : State) (r : Reservation) → IsReached old → GivesBack old r new → IsReached new
+  pub invalidates : (old new : State) (key : Bytes) → IsReached old → Invalidates old key new → IsReached new
+  pub invalidates_all : (old new : State) → IsReached old → InvalidatesAll old new → IsReached new
+  pub sweeps : (old new : State) → IsReached old → Sweeps old new → IsReached new
 
 abbrev pub OpenedIsReached : Type 0
 OpenedIsReached = (state : State) → IsOpened state → IsReached state

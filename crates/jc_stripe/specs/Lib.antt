@@ -9,6 +9,8 @@ pub mod Finding
 pub mod Outcomes
 pub mod Polled
 pub mod Phases
+pub mod Forgetting
+pub mod Invalidating
 pub mod Effects
 pub mod Reached
 pub mod Appending

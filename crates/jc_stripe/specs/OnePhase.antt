@@ -1,9 +1,10 @@
 -- At most one phase of one session, the own steps of a session, and what a phase doesn't change.
 --     FirstPhase      a first phase of a session's call that may begin
---     LastPhase       the commit of a reservation of the session
+--     LastPhase       the commit of a reservation of the session, with what follows if its key was invalidated
 --     Withdrawal      a reservation of the session is given back
 --     PickUp          a joiner of the session asks for its answer
---     IsPhaseOf       at most one phase of this session leads from one state to another
+--     Forgetting      a phase that is of no session: a key is invalidated, or all are, or a shut stripe evicts an entry
+--     IsPhaseOf       at most one phase of this session, or of none, leads from one state to another
 --     is_answered     a joiner was answered, and has not picked up its answer
 --     is_parked       a step is parked: it was appended for a joiner that has not picked up its answer
 --     is_own_step     an event is a step of the session that is not parked
@@ -14,7 +15,7 @@
 --     IsUniform       the effect of one phase of a session on a stripe: the later state is reached and of the same stripe, its
 --                     history grows, the numbers of reservations don't fall; the session's own steps are the same or one more;
 --                     other sessions' own steps, reservations and joins stay, and so does the entry of a key that stays reserved
---     OnePhase        the law: at most one phase of a session, from a reached state, is uniform
+--     OnePhase        the law: at most one phase of a session, or of none, from a reached state, is uniform
 use Rattle.std.specs.Prelude.{◌≡◌, ◌≤◌, ◌==◌, ◌⊎◌, ℕ, List, ◌∷◌, ◌++◌, filter, map, Bool, true, false, not, ◌&&◌, Some, slice_get}
 use Rattle.std.specs.List.{list_any}
 use Rattle.jc_types.specs.declared.caller.Caller.{Caller}
@@ -32,7 +33,8 @@ use Rattle.jc_stripe.specs.Outcomes.{Begun, StepDone}
 use Rattle.jc_stripe.specs.Polled.{Polled}
 use Rattle.jc_stripe.specs.Tickets.{JoinClaim}
 use Rattle.jc_stripe.specs.State.{State, is_reserved}
-use Rattle.jc_stripe.specs.Phases.{MayBegin, Begins, Commits, Withdraws, PicksUp}
+use Rattle.jc_stripe.specs.Phases.{MayBegin, Begins, PicksUp}
+use Rattle.jc_stripe.specs.Invalidating.{Ends, GivesBack, Invalidates, InvalidatesAll, Sweeps}
 use Rattle.jc_stripe.specs.Reached.{IsReached}
 use Rattle.jc_stripe.specs.Laws.{Extends}
 
@@ -52,12 +54,12 @@ pub record LastPhase (session : ℕ) (old new : State) : Type 0 where
   pub out : Out
   pub done : StepDone
   pub own : reservation.caller.session ≡ session
-  pub commits : Commits old reservation out done new
+  pub ends : Ends old reservation out done new
 
 pub record Withdrawal (session : ℕ) (old new : State) : Type 0 where
   pub reservation : Reservation
   pub own : reservation.caller.session ≡ session
-  pub withdraws : Withdraws old reservation new
+  pub gives_back : GivesBack old reservation new
 
 pub record PickUp (session : ℕ) (old new : State) : Type 0 where
   pub join : JoinClaim
@@ -65,9 +67,13 @@ pub record PickUp (session : ℕ) (old new : State) : Type 0 where
   pub own : join.caller.session ≡ session
   pub picks_up : PicksUp old join picked new
 
--- at most one phase of this session
+abbrev pub Forgetting : State → State → Type 0
+Forgetting old new = ((key : Bytes) × Invalidates old key new) ⊎ InvalidatesAll old new ⊎ Sweeps old new
+
+-- at most one phase of this session, or of no session
 abbrev pub IsPhaseOf : ℕ → State → State → Type 0
-IsPhaseOf session old new = (new ≡ old) ⊎ FirstPhase session old new ⊎ LastPhase session old new ⊎ Withdrawal session old new ⊎ PickUp session old new
+IsPhaseOf session old new =
+    (new ≡ old) ⊎ FirstPhase session old new ⊎ LastPhase session old new ⊎ Withdrawal session old new ⊎ PickUp session old new ⊎ Forgetting old new
 
 -- 2. Own steps.
 

@@ -2,7 +2,7 @@
 --     AddsOwn           an event is at a place after all earlier events, and it is the session's last own step
 --     OwnSteps          the law: a call that is done at once, and a commit, add their step in this way; a pick-up that is
 --                       answered makes the parked step an own one, at its place; a refusal, a reservation, a join, a withdrawal,
---                       'again' and 'not yet' leave the own steps
+--                       'again', 'not yet', an invalidation and a sweep leave the own steps
 --     may_come_all      a step of this caller at this key may come after each of these events
 --     is_before_call    an event is no step of this session with this call number or a later one
 --     HasNoCallFrom     no step, reservation or join of a session has this call number or a later one
@@ -39,7 +39,8 @@ use Rattle.jc_stripe.specs.State.{State, is_of}
 use Rattle.jc_stripe.specs.Refusals.{load_joined}
 use Rattle.jc_stripe.specs.Phases.{is_other_join, MayBegin, Steps, Begins, Commits, Withdraws, PicksUp}
 use Rattle.jc_stripe.specs.Reached.{IsReached}
-use Rattle.jc_stripe.specs.OnePhase.{own_steps, GainsOwn}
+use Rattle.jc_stripe.specs.Invalidating.{Ends, GivesBack}
+use Rattle.jc_stripe.specs.OnePhase.{own_steps, GainsOwn, Forgetting}
 
 -- 1. Own steps, by each kind of phase.
 
@@ -53,6 +54,10 @@ pub record OwnSteps : Type 0 where
       → AddsOwn caller.session old new (Step caller op key nothing_said None done.reply) done.place
   pub commits : (old new : State) (r : Reservation) (out : Out) (done : StepDone) → IsReached old → Commits old r out done new
       → AddsOwn r.caller.session old new (Step r.caller r.op r.key out None done.reply) done.place
+  pub ends : (old new : State) (r : Reservation) (out : Out) (done : StepDone) → IsReached old → Ends old r out done new
+      → AddsOwn r.caller.session old new (Step r.caller r.op r.key out None done.reply) done.place
+  pub gives_back : (old new : State) (session : ℕ) (r : Reservation) → IsReached old → GivesBack old r new → own_steps session new ≡ own_steps session old
+  pub forgets : (old new : State) (session : ℕ) → IsReached old → Forgetting old new → own_steps session new ≡ own_steps session old
   pub refused : (old new : State) (caller : Caller) (key : Bytes) (op : Op) (refusal : Refusal) → Begins old caller key op (Refused refusal) new → own_steps caller.session new ≡ own_steps caller.session old
   pub reserves : (old new : State) (caller : Caller) (key : Bytes) (op : Op) (ticket : TicketClaim) → Begins old caller key op (Asks ticket) new → own_steps caller.session new ≡ own_steps caller.session old
   pub joins : (old new : State) (caller : Caller) (key : Bytes) (op : Op) (join : JoinClaim) → Begins old caller key op (Joined join) new → own_steps caller.session new ≡ own_steps caller.session old

@@ -13,12 +13,13 @@
 --     all_apart      no reservation and joiner of a session have different call numbers, or the same key
 --     is_own         an event is of one of the stripe's keys
 --     IsUsed         the entries by use are the cached ones, each key once, and they are of the stripe's keys
+--     AreReserved    the marked keys are reserved
 --     IsReached      its opening is one of its stripe, its history is legal from it and leaves its entries, its tables are within
 --                    their limits, each reservation still asks what it asked, each joiner that waits still finds its load, and
---                    the steps of both may still come
+--                    the steps of both may still come; only reserved keys are marked
 --     IsOpened       nothing has happened in it yet: it caches what it opens with, and nobody has called
 use Rattle.std.specs.Prelude.{◌≡◌, ◌==◌, ◌+◌, ◌≤◌, ◌<◌, ℕ, List, [], ◌∷◌, length, Ok, IsTrue, Bool, true, false, not, ◌&&◌, ◌||◌, None, Some, All, AllPairs, slice_get}
-use Rattle.std.specs.List.{list_all}
+use Rattle.std.specs.List.{list_all, list_any}
 use Rattle.std.specs.FinMap.{len, from_entries}
 use Rattle.jc_types.specs.declared.config.Config.{Config}
 use Rattle.jc_types.specs.Limits.{check}
@@ -28,7 +29,7 @@ use Rattle.jc_model.specs.declared.event.Out.{Out}
 use Rattle.jc_model.specs.declared.event.Reply.{Reply}
 use Rattle.jc_model.specs.declared.event.Event.{Event}
 use Rattle.jc_model.specs.declared.event.Event.TheVariants.{Step}
-use Rattle.jc_model.specs.Cache.{Cache, entry_at}
+use Rattle.jc_model.specs.Cache.{Bytes, Cache, entry_at}
 use Rattle.jc_model.specs.Listed.{has_distinct_keys}
 use Rattle.jc_model.specs.Legal.{IsOpening, IsHistory, is_of_stripe, may_come}
 use Rattle.jc_inflight.specs.declared.joiner.Joiner.{Joiner}
@@ -99,7 +100,12 @@ are_apart (j ∷ js) = list_all (is_other_join j.caller j.key) js && are_apart j
 abbrev pub all_apart : List Reservation → List Joiner → Bool
 all_apart rs js = list_all (λ r. list_all (is_other_join r.caller r.key) js) rs
 
--- 3. The stripe.
+-- 3. Marks.
+
+abbrev pub AreReserved : List Reservation → List Bytes → Type 0
+AreReserved rs marked = IsTrue (list_all (λ key. list_any (is_key key) rs) marked)
+
+-- 4. The stripe.
 
 -- the stripe's events are of its keys
 abbrev pub is_own : State → Event → Bool
@@ -133,6 +139,7 @@ pub record IsReached (state : State) : Type 0 where
   pub shares : IsTrue (list_all (may_share state.history) state.joiners)
   pub apart : IsTrue (are_apart state.joiners)
   pub between : IsTrue (all_apart state.reservations state.joiners)
+  pub marks : AreReserved state.reservations state.marked
 
 -- the first state, whatever it opens with
 pub record IsOpened (state : State) : Type 0 where
@@ -145,3 +152,4 @@ pub record IsOpened (state : State) : Type 0 where
   pub reservations : state.reservations ≡ []
   pub joiners : state.joiners ≡ []
   pub history : state.history ≡ []
+  pub marked : state.marked ≡ []

@@ -16,10 +16,11 @@
 --                          otherwise `STEP_PLACES`
 --     last_number          the last of a session's call numbers and of a stripe's reservation numbers: at it a call is refused
 --     has_room             the history has these places free, beside the reserved ones, and neither number is the last one
+--     may_hit              a call that finds its entry may answer from it: there is room, and the key isn't barred
 --     needs_reservation    the call reserves its key: it asks somebody, and does not join
 --     full_refusal         the refusal of a call that lacks room: the history is full; or, if a full history may end and no
 --                          number is the last one, the call is to be tried again
---     first_refusal        the first refusal whose condition holds: no room, busy, too many in flight, too many joiners
+--     first_refusal        the first refusal whose condition holds: no room, busy (barred, or reserved), too many in flight, too many joiners
 use Rattle.std.specs.Prelude.{ℕ, ◌+◌, length, Bool, true, false, not, ◌&&◌, ◌||◌, Option, None, Some, is_some, is_none, nat_lt, nat_le, if◌then◌else◌}
 use Rattle.jc_types.specs.declared.caller.Caller.{Caller}
 use Rattle.jc_types.specs.declared.config.Config.{Config}
@@ -38,7 +39,7 @@ use Rattle.jc_stripe.specs.declared.ticket.First.{First}
 use Rattle.jc_stripe.specs.declared.ticket.First.TheVariants.{Nobody, Loader, Writer, Processor}
 use Rattle.jc_stripe.specs.declared.ticket.Reservation.{Reservation}
 use Rattle.jc_stripe.specs.Tickets.{writer_for}
-use Rattle.jc_stripe.specs.State.{State, is_reserved, reservation_of, promised}
+use Rattle.jc_stripe.specs.State.{State, is_reserved, is_barred, reservation_of, promised}
 
 -- 1. Whom a call asks first.
 
@@ -121,6 +122,9 @@ last_number = LAST_NUMBER
 abbrev pub has_room : State → ℕ → ℕ → Bool
 has_room state call needed = nat_le (length state.history + promised state + needed) state.config.history && nat_lt call last_number && nat_lt state.next last_number
 
+abbrev pub may_hit : State → ℕ → Bytes → Bool
+may_hit state call key = has_room state call HIT_PLACES && not (is_barred state key)
+
 -- 3. The refusals, in their order.
 
 -- the refusal of a call that lacks room. If the stripe lives on and neither number is the last one, a place will become free
@@ -133,6 +137,6 @@ needs_reservation state key op = reserves (first_asked state.config op (entry_at
 abbrev pub first_refusal : State → Caller → Bytes → Op → Option Refusal
 first_refusal state caller key op =
     if not (has_room state caller.call (places_needed (needs_free_key state key op))) then Some (full_refusal state caller.call)
-    else (if is_reserved state key && needs_free_key state key op then Some refusal.Busy
+    else (if is_barred state key || (is_reserved state key && needs_free_key state key op) then Some refusal.Busy
     else (if needs_reservation state key op && nat_le RESERVATIONS_MAX (length state.reservations) then Some refusal.TooManyInFlight
     else (if is_some (load_joined state key op) && nat_le JOINERS_MAX (length state.joiners) then Some refusal.TooManyJoiners else None)))

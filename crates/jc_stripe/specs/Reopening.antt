@@ -87,6 +87,8 @@ opened_stripe config origin number contents =
       joiners = [];
       history = [];
       next = 0;
+      marked = [];
+      shut = false;
     }
 
 abbrev pub opened_stripes : Config → Origin → List (Bytes × Bytes) → ℕ → ℕ → List State

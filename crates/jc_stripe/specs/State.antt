@@ -6,20 +6,24 @@
 --                         waits
 --     is_key              whether a reservation is of this key
 --     is_reserved         whether a key is reserved
+--     is_marked           whether a key is reserved and was invalidated since
 --     reservation_of      the reservation of a key, if it has one
 --     new_reservation     the reservation that a call makes of a key, by the next number
 --     with_reservation    the state with one more reservation, and the next number after it
 --     without_key         the reservations of the other keys
---     without_reservation the state without a key's reservation
+--     without_reservation the state without a key's reservation, and without its mark
+--     with_mark           the state in which one more reserved key is marked; without room for a mark all reserved keys are
+--     without_mark        the marks of the other keys
+--     is_barred           no call begins at a key: it is marked, or the stripe is shut
 --     IsOut               a reservation is out here: it is the one that the stripe has of its key
 --     IsJoined            a join is out here: its call is among the joiners of its key, and joined this load
 --     IsIdle              no reservation and no join is out
-use Rattle.std.specs.Prelude.{◌≡◌, ◌==◌, ℕ, ◌+◌, ◌*◌, find, filter, count_by, List, [], ◌∷◌, ◌++◌, length, Bool, not, Option, Some, IsSomeAnd}
+use Rattle.std.specs.Prelude.{◌≡◌, ◌==◌, ◌||◌, ℕ, ◌+◌, ◌*◌, find, filter, map, count_by, List, [], ◌∷◌, ◌++◌, length, Bool, not, nat_lt, Option, Some, IsSomeAnd, if◌then◌else◌}
 use Rattle.std.specs.List.{list_any}
 use Rattle.std.specs.Cmp.Lexicographic.{pointwise}
 use Rattle.jc_types.specs.declared.caller.Caller.{Caller}
 use Rattle.jc_types.specs.declared.config.Config.{Config}
-use Rattle.jc_types.specs.declared.limits.TheConstants.{STEP_PLACES, HIT_PLACES}
+use Rattle.jc_types.specs.declared.limits.TheConstants.{STEP_PLACES, HIT_PLACES, RESERVATIONS_MAX}
 use Rattle.jc_types.specs.Stripes.{stripe_of}
 use Rattle.jc_model.specs.declared.event.Op.{Op}
 use Rattle.jc_model.specs.declared.event.Event.{Event}
@@ -48,6 +52,8 @@ pub record State : Type 0 where
   pub joiners : List Joiner  -- in the order of joining: those that wait for a load, and those that have not picked up their answer
   pub history : List Event
   pub next : ℕ  -- the number of the next reservation
+  pub marked : List Bytes  -- the reserved keys that were invalidated since
+  pub shut : Bool  -- no call begins, since an invalidated entry couldn't be evicted; then all unreserved entries are evicted first
 
 abbrev pub is_of : State → Bytes → Bool
 is_of state key = stripe_of key state.config.stripes == state.stripe
@@ -78,8 +84,24 @@ with_reservation state r = record state { reservations = state.reservations ++ r
 abbrev pub without_key : Bytes → List Reservation → List Reservation
 without_key key rs = filter (λ r. not (is_key key r)) rs
 
+abbrev pub without_mark : Bytes → List Bytes → List Bytes
+without_mark key marked = filter (λ k. not (pointwise ◌==◌ key k)) marked
+
+-- a key's mark goes with its reservation
 abbrev pub without_reservation : State → Bytes → State
-without_reservation state key = record state { reservations = without_key key state.reservations }
+without_reservation state key = record state { reservations = without_key key state.reservations; marked = without_mark key state.marked }
+
+-- a marked key's entry, and what its reservation leaves, answer no call that begins from now on
+abbrev pub is_marked : State → Bytes → Bool
+is_marked state key = list_any (pointwise ◌==◌ key) state.marked
+
+abbrev pub with_mark : State → Bytes → State
+with_mark state key =
+    if is_marked state key then state
+    else (if nat_lt (length state.marked) RESERVATIONS_MAX then record state { marked = state.marked ++ key ∷ [] } else record state { marked = map (λ r. r.key) state.reservations })
+
+abbrev pub is_barred : State → Bytes → Bool
+is_barred state key = state.shut || is_marked state key
 
 -- the stripe's reservation of the key is this one: it has the same caller, operation and number, and asks the same first
 abbrev pub IsOut : State → Reservation → Type 0

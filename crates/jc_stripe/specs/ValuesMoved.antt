@@ -9,14 +9,23 @@
 --     KeepsOtherEntries    the entries of all keys but the step's own and the victim's are as they were
 --     MovesValues          the values that a step at a key moved, if this was its victim
 --     HasMovesIfDone       the values that the step of a first phase moved, if the call is done
-use Rattle.std.specs.Prelude.{◌≡◌, ◌==◌, Bool, false, not, Option, None, Some, option_map, if◌then◌else◌}
+--     value_dropped        the value that an entry had, if it is gone
+--     moves_of_drop        the eviction of an entry because its key was invalidated, by the value that it had; nothing, without one
+--     DropsValue           an invalidation of a key, or a withdrawal, moved the value of the key's entry, if that was evicted, and no
+--                          other one
+--     swept_key            the key whose entry a sweep evicts
+--     SweepsValue          a sweep moved the value of that entry, and no other one
+use Rattle.std.specs.Prelude.{◌≡◌, ◌==◌, ◌&&◌, Bool, false, not, Option, None, Some, is_some, option_map, if◌then◌else◌}
 use Rattle.std.specs.Cmp.Lexicographic.{pointwise}
 use Rattle.jc_model.specs.Cache.{Bytes, entry_at}
 use Rattle.jc_model.specs.declared.event.Cause.{Cause}
+use Rattle.jc_model.specs.declared.event.Cause.TheVariants.{Invalidated}
 use Rattle.jc_stripe.specs.declared.begun.Eviction.{Eviction}
 use Rattle.jc_stripe.specs.declared.begun.Started.{Started}
 use Rattle.jc_stripe.specs.declared.begun.Started.TheVariants as started
 use Rattle.jc_stripe.specs.State.{State}
+use Rattle.jc_stripe.specs.OrderOfUse.{least_used}
+use Rattle.jc_stripe.specs.Invalidating.{has_place}
 
 pub record MovesMade : Type 0 where
   pub kept : Bool
@@ -59,3 +68,23 @@ HasMovesIfDone old key (started.Done step) moves new = MovesValues old key step.
 HasMovesIfDone old key (started.Asks ticket) moves new = Unit {0}
 HasMovesIfDone old key (started.Joined join) moves new = Unit {0}
 HasMovesIfDone old key (started.Refused refusal) moves new = Unit {0}
+
+-- What goes without a step.
+
+abbrev pub value_dropped : Option Bytes → Option Bytes → Option Bytes
+value_dropped before None = before
+value_dropped before (Some value) = None
+
+abbrev pub moves_of_drop : Option Bytes → MovesMade
+moves_of_drop left = record { kept = false; left = left; victim = None; own = if is_some left then Some Invalidated else None }
+
+pub record DropsValue (old : State) (key : Bytes) (moves : MovesMade) (new : State) : Type 0 where
+  pub moves_are : moves ≡ moves_of_drop (value_dropped (entry_at old.cache key) (entry_at new.cache key))
+  pub others : KeepsOtherEntries old key None new
+
+abbrev pub swept_key : State → Option Bytes
+swept_key state = if state.shut && has_place state then least_used state else None
+
+pub record SweepsValue (old : State) (moves : MovesMade) (new : State) : Type 0 where
+  pub moves_are : moves ≡ record nothing_moved { victim = victim_entry old (swept_key old) }
+  pub others : (other : Bytes) → (swept_key old ≡ Some other → ⊥) → entry_at new.cache other ≡ entry_at old.cache other

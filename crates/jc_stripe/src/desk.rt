@@ -8,6 +8,7 @@
 //! - The stripe is of origin `Played`, because the outside answers are what the driver states.
 //! - A full generation ends before a first phase, so that no driver meets a full history. A driver that wants the events is
 //!   answered `Full` first.
+//! - A desk that is shut says so at each first phase, so that no driver forgets to sweep.
 ghost use Rattle.std.specs.Prelude.{◌≡◌, ◌==◌, ◌≤◌, ◌<◌, true, not, Some, Ok, ◌++◌, length, slice_get, is_some, IfOk, IfErr, IfSome, IfNone, OnOk, OnErr};
 ghost use Rattle.std.specs.Bool.{OnTrue, OnFalse};
 ghost use Rattle.std.specs.List.{list_all};
@@ -23,10 +24,11 @@ ghost use Rattle.jc_stripe.specs.Occurrences.{all_occurrences};
 ghost use Rattle.jc_stripe.specs.Reached.{IsReached};
 ghost use Rattle.jc_stripe.specs.Generations.{after_renewal};
 ghost use Rattle.jc_stripe.specs.Renewal.{can_renew};
-ghost use Rattle.jc_stripe.specs.DeskState.{opened_desk, is_open_shape, are_contents, may_call_next, nothing_is_out, OpenFails};
+ghost use Rattle.jc_stripe.specs.DeskState.{opened_desk, is_open_shape, are_contents, may_call_next, awaits_end, nothing_is_out, OpenFails};
 ghost use Rattle.jc_stripe.specs.DeskPhases.{BeginsAtDesk, is_first_misuse, newest, HitsAtDesk, hits_next, without_hit};
 
 mod answers;
+mod forgetting;
 mod last_phases;
 mod moves;
 mod opening;
@@ -34,7 +36,7 @@ mod opening;
 use crate::begun::Started;
 use crate::stripe::Stripe;
 use crate::ticket::Reservation;
-pub use answers::{CommitDone, FirstAnswer, OpenFault, PickUpAnswer};
+pub use answers::{CommitDone, FirstAnswer, OpenFault, PickUpAnswer, SweepAnswer};
 use jc_entries::Entries;
 use jc_model::{Event, Op, Reply, Statistics};
 use jc_outside::Origin;
@@ -129,7 +131,7 @@ impl Desk {
     /// The first phase of a session's next call. It returns the call's number and the outcome. If the call is done, its reply is
     /// written to `reply`, and the values that came and went to `moves`.
     ///
-    /// A full generation ends first, unless its events are to be taken: then the answer is `Full`.
+    /// A full generation ends first, unless its events are to be taken: then the answer is `Full`. If the desk is shut, it is `Shut`.
     pub fn begin(
         &mut self,
         session: u32,
@@ -146,8 +148,11 @@ impl Desk {
         if call == LAST_NUMBER || !self.stripe.is_clear(caller, key) {
             return (call, FirstAnswer::Misuse);
         }
-        if self.keeps_events && self.stripe.is_renewable() {
+        if self.awaits_end() {
             return (call, FirstAnswer::Full);
+        }
+        if self.is_shut() {
+            return (call, FirstAnswer::Shut);
         }
         let _ = self.stripe.events_len();
         self.stripe.renew_if_full();
@@ -174,9 +179,9 @@ impl Desk {
     /// A `get` that finds its entry, as a session's next call: it writes the entry's value to `value`, and returns the call's
     /// number.
     ///
-    /// `None` says that no call was made: the call may not begin; its key has no entry; the generation is full and its events are
-    /// to be taken; or the generation is full and an answer that is parked keeps it from ending. If the call may begin, a full
-    /// generation may have ended, but none whose events are to be taken.
+    /// `None` says that no call was made: the call may not begin; its key has no entry; it was invalidated while it is reserved; the
+    /// desk is shut; the generation is full and its events are to be taken; or the generation is full and an answer that is parked
+    /// keeps it from ending. If the call may begin, a full generation may have ended, but none whose events are to be taken.
     pub fn hit(&mut self, session: u32, key: &Key, value: &mut Value) -> Option<u64>
         ensures found { is_some result ≡ hits_next self.old session key.now }
         ensures some { IfSome result (λ call. HitsAtDesk self.old session key.now value.new call self.new) }
@@ -187,7 +192,7 @@ impl Desk {
         if call == LAST_NUMBER || !self.stripe.is_clear(caller, key) {
             return None;
         }
-        if self.keeps_events && self.stripe.is_renewable() {
+        if self.awaits_end() {
             return None;
         }
         let _ = self.stripe.events_len();
@@ -198,6 +203,14 @@ impl Desk {
         }
         self.next_call = call + 1;
         Some(call)
+    }
+
+    /// Whether the generation is full and may end, and its events are to be taken first.
+    #[inline(always)]
+    fn awaits_end(&self) -> bool
+        ensures { result ≡ awaits_end self.now }
+    {
+        self.keeps_events && self.stripe.is_renewable()
     }
 
     /// The latest reservation among those that are out. Its `first` names whom to ask.

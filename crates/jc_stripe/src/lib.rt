@@ -21,6 +21,7 @@ mod call_rules;
 mod desk;
 mod life;
 mod log;
+mod marks;
 pub mod phase_laws;
 mod reopening;
 mod stripe;
@@ -29,7 +30,7 @@ mod ticket;
 mod ticket_boxes;
 
 pub use begun::{Appended, Eviction, Picked, Started};
-pub use desk::{CommitDone, Desk, FirstAnswer, OpenFault, PickUpAnswer, ValueMoves};
+pub use desk::{CommitDone, Desk, FirstAnswer, OpenFault, PickUpAnswer, SweepAnswer, ValueMoves};
 pub use jc_mutentry::{AskProcess, ProcDone};
 pub use jc_outside::{LoadDone, Origin, WriteDone, played_load, played_write};
 pub use reopening::{ReopenedStripes, keeps_or_drops, reopen};

@@ -2,6 +2,7 @@
 ghost use Rattle.jc_stripe.specs.Laws.{StaysReached, OpenedIsReached, ReachedIsLegal, Grows, KeepsReserved};
 ghost use Rattle.jc_stripe.specs.OnePhase.{OnePhase};
 ghost use Rattle.jc_stripe.specs.Renewal.{LivesOn, Renewal};
+ghost use Rattle.jc_stripe.specs.Forgetting.{Forgets};
 ghost use Rattle.jc_stripe.specs.OwnSteps.{OwnSteps, CallerNumbers, OwnNumbers, StepsBehind, WholeCall, JoinsOnlyLoads};
 
 /// A stripe in which nothing has happened yet satisfies the invariant of every stripe (`IsReached`), whatever entries it opens
@@ -59,6 +60,12 @@ pub fn caller_numbers()
 /// step that it has made at another key.
 pub fn own_numbers()
     ensures { OwnNumbers }
+{}
+
+/// A key is forgotten once it was invalidated, and stays so in every phase of every session until a call begins at it; that call
+/// finds no entry, and joins no load. So no call that begins after an invalidation is answered from what was there before.
+pub fn forgets()
+    ensures { Forgets }
 {}
 
 /// A renewal leaves the whole history, all own steps of each session, and the cached entries as they were; and it keeps the

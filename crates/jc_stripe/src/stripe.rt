@@ -15,7 +15,8 @@ ghost use Rattle.jc_stripe.specs.Tickets.{asks_loader, asks_writer, asks_process
 ghost use Rattle.jc_types.specs.declared.limits.TheConstants.{HIT_PLACES};
 ghost use Rattle.jc_stripe.specs.State.{IsOut, IsJoined, IsIdle};
 ghost use Rattle.jc_stripe.specs.OrderOfUse.{by_use};
-ghost use Rattle.jc_stripe.specs.Refusals.{has_room};
+ghost use Rattle.jc_stripe.specs.Refusals.{may_hit};
+ghost use Rattle.jc_stripe.specs.Invalidating.{Ends, GivesBack};
 ghost use Rattle.jc_stripe.specs.Appending.{AnswersFirst, HasToldStep, after_pick_up};
 ghost use Rattle.jc_stripe.specs.Phases.{MayBegin, Begins, begun_with, hit_done, Commits, with_reply, Withdraws, PicksUp, polled_with, told_to};
 ghost use Rattle.jc_stripe.specs.Effects.{HasReport, change_due, report_answer, process_out};
@@ -24,6 +25,7 @@ ghost use Rattle.jc_stripe.specs.OnePhase.{IsPhaseOf};
 pub(crate) mod beginning;
 mod conditions;
 mod finding;
+mod invalidating;
 mod living;
 mod looking;
 mod making;
@@ -31,6 +33,7 @@ mod making;
 use crate::appending::{NewGroup, append_group, apply_to_entries};
 use crate::begun::{Appended, Picked, Started};
 use crate::life::Life;
+use crate::marks::Marks;
 use crate::stripe_tables::{StripeJoiners, StripeReservations};
 use crate::ticket::{Ask, Join, Reservation, Ticket};
 use crate::ticket_boxes::TicketBoxes;
@@ -72,6 +75,8 @@ pub struct Stripe {
     history: History,
     lives: bool,
     life: Life,
+    marks: Marks,
+    is_shut: bool,
 }
 
 impl Model for Stripe {
@@ -118,7 +123,7 @@ impl Stripe {
         ensures begins { Begins self.old caller key.now op.now (begun_with result reply.new) self.new }
         ensures phase { IsPhaseOf caller.session self.old self.new }
     {
-        if !is_get(op) || !self.has_room(caller.call, HIT_PLACES) {
+        if !is_get(op) || !self.may_hit(caller.call, key) {
             return self.begin_at(caller, key, op, reply);
         }
         let place = self.next_place();
@@ -130,19 +135,19 @@ impl Stripe {
     }
 
     /// A `get` that finds its entry, as [`begin`](Stripe::begin) makes it, and writes its value to `value`. A `false` says that
-    /// the entry is missing, that the history lacks the place, or that a number would overflow. Then nothing is done, and `value`
-    /// stays.
+    /// the entry is missing, that the history lacks the place, that a number would overflow, or that the key was invalidated
+    /// while it is reserved. Then nothing is done, and `value` stays.
     ///
     /// Conditions: those of [`begin`](Stripe::begin).
     pub fn hit_into(&mut self, caller: Caller, key: &Key, value: &mut Value) -> bool
         requires begins { MayBegin self.old caller key.now }
         ensures none { OnFalse result ((self.new ≡ self.old) × (value.new ≡ value.old)) }
-        ensures missing { OnFalse result ((has_room self.old caller.call HIT_PLACES ≡ false) ⊎ (entry_at self.old.cache key.now ≡ None)) }
-        ensures room { OnTrue result (has_room self.old caller.call HIT_PLACES ≡ true) }
+        ensures missing { OnFalse result ((may_hit self.old caller.call key.now ≡ false) ⊎ (entry_at self.old.cache key.now ≡ None)) }
+        ensures room { OnTrue result (may_hit self.old caller.call key.now ≡ true) }
         ensures some { OnTrue result (Begins self.old caller key.now Get
             (Done (hit_done (length self.old.history) value.new)) self.new) }
     {
-        if !self.has_room(caller.call, HIT_PLACES) || !self.find_and_use(caller, key) {
+        if !self.may_hit(caller.call, key) || !self.find_and_use(caller, key) {
             return false;
         }
         value.copy_from(self.most_recent());
@@ -168,7 +173,7 @@ impl Stripe {
         requires first { asks_loader ticket.reservation.first ≡ true }
         requires claim { done.ask ≡ claim_of ticket.reservation }
         requires origin { done.origin ≡ self.old.origin }
-        ensures commits { Commits self.old ticket.reservation (load_only done.answer) (with_reply result reply.new) self.new }
+        ensures ends { Ends self.old ticket.reservation (load_only done.answer) (with_reply result reply.new) self.new }
         ensures phase { IsPhaseOf ticket.reservation.caller.session self.old self.new }
     {
         self.commit(ticket.spend(), &Out::load_only(done.into_answer()), reply)
@@ -191,7 +196,7 @@ impl Stripe {
         requires first { asks_writer ticket.reservation.first ≡ true }
         requires claim { done.ask ≡ claim_of ticket.reservation }
         requires origin { done.origin ≡ self.old.origin }
-        ensures commits { Commits self.old ticket.reservation (write_only done.answer) (with_reply result reply.new) self.new }
+        ensures ends { Ends self.old ticket.reservation (write_only done.answer) (with_reply result reply.new) self.new }
         ensures phase { IsPhaseOf ticket.reservation.caller.session self.old self.new }
     {
         self.commit(ticket.spend(), &Out::write_only(done.into_answer()), reply)
@@ -219,7 +224,7 @@ impl Stripe {
         requires claim { done.ask ≡ claim_of ticket.reservation }
         requires origin { done.origin ≡ self.old.origin }
         requires report { HasReport self.old.origin ticket.reservation (change_due self.old.config done) report }
-        ensures commits { Commits self.old ticket.reservation (process_out done report) (with_reply result reply.new) self.new }
+        ensures ends { Ends self.old ticket.reservation (process_out done report) (with_reply result reply.new) self.new }
         ensures phase { IsPhaseOf ticket.reservation.caller.session self.old self.new }
     {
         let write = report_answer(report);
@@ -240,10 +245,16 @@ impl Stripe {
     pub fn withdraw(&mut self, ticket: Ticket)
         requires out { IsOut self.old ticket.reservation }
         requires unasked { ticket.asked ≡ false }
-        ensures withdraws { Withdraws self.old ticket.reservation self.new }
+        ensures gives_back { GivesBack self.old ticket.reservation self.new }
         ensures phase { IsPhaseOf ticket.reservation.caller.session self.old self.new }
     {
-        self.give_back(ticket.spend());
+        // For its contract: the stripe is reached.
+        let _ = self.events_len();
+        let reservation = ticket.spend();
+        let key = reservation.key;
+        let is_marked = self.is_marked(&key);
+        self.give_back(reservation);
+        self.settle_given(is_marked, &key);
     }
 
     /// Picks up the answer of the load that a call has joined, and writes it to `reply`. If the load isn't over, the join is
@@ -336,11 +347,34 @@ impl Stripe {
     fn commit(&mut self, reservation: Box<Reservation>, out: &Out, reply: &mut Reply) -> Appended
         requires out { IsOut self.old reservation.value }
         requires answers { AnswersFirst self.old.config reservation.value.first out.now }
-        ensures { Commits self.old reservation.value out.now (with_reply result reply.new) self.new }
+        ensures { Ends self.old reservation.value out.now (with_reply result reply.new) self.new }
     {
         let mut entry = None;
         self.entry_into(&reservation.key, &mut entry);
         self.commit_on(reservation, out, &entry, reply)
+    }
+
+    /// Ends the reservation of a key that has this entry, and appends its step and those of its joiners. If the key was
+    /// invalidated meanwhile, its entry is evicted then.
+    #[inline(always)]
+    pub(crate) fn commit_on(
+        &mut self,
+        reservation: Box<Reservation>,
+        out: &Out,
+        entry: &Option<Value>,
+        reply: &mut Reply,
+    ) -> Appended
+        requires out { IsOut self.old reservation.value }
+        requires answers { AnswersFirst self.old.config reservation.value.first out.now }
+        requires entry { entry.now ≡ entry_at self.old.cache reservation.value.key }
+        ensures { Ends self.old reservation.value out.now (with_reply result reply.new) self.new }
+    {
+        // For its contract: the stripe is reached.
+        let _ = self.events_len();
+        let key = reservation.key;
+        let is_marked = self.is_marked(&key);
+        let step = self.commit_step(reservation, out, entry, reply);
+        self.settle(is_marked, &key, step)
     }
 
     /// Ends the reservation of a key that has this entry, and appends its step and those of its joiners.
@@ -355,7 +389,7 @@ impl Stripe {
     /// 5. Then each joiner gets its answer, the place of its shared step, which follows from the step's place.
     /// 6. The box is given back last, since all of this reads the reservation in it.
     #[inline(always)]
-    pub(crate) fn commit_on(
+    fn commit_step(
         &mut self,
         reservation: Box<Reservation>,
         out: &Out,
@@ -372,6 +406,7 @@ impl Stripe {
         let key = ended.key;
         let load = ended.number;
         let _ = self.reservations.release(&key);
+        self.marks.remove(&key);
         let kept = STEP_PLACES + self.joiners.waiting(load) as usize;
         let pinned = self.reservations.keys();
         let op = &ended.op;
@@ -400,6 +435,7 @@ impl Stripe {
     {
         let ended = &*reservation;
         let _ = self.reservations.release(&ended.key);
+        self.marks.remove(&ended.key);
         let waiting = self.joiners.dissolve(ended.number);
         self.history.unpromise(STEP_PLACES + waiting as usize);
         self.boxes.give_back(reservation);

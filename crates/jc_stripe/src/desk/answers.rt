@@ -25,6 +25,8 @@ pub enum FirstAnswer {
     Refused(Refusal),
     /// The generation is full, and its events are to be taken; nothing was done.
     Full,
+    /// The desk is shut: its entries are to be swept; nothing was done.
+    Shut,
     /// The call may not begin here; nothing was done.
     Misuse,
 }
@@ -54,4 +56,17 @@ pub enum PickUpAnswer {
     NotYet,
     /// No such join is out; nothing was done.
     Misuse,
+}
+
+/// The outcome of a sweep.
+#[derive(Clone, Copy, Debug, PartialEq, Eq)]
+pub enum SweepAnswer {
+    /// The desk isn't shut: calls may begin.
+    Open,
+    /// An entry was evicted: sweep again.
+    Evicted,
+    /// An entry is left, and the events of the generation are to be taken first.
+    Full,
+    /// An entry is left, and no place for its eviction until a reservation ends or an answer is picked up.
+    NoPlace,
 }

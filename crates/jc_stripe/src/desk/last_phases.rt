@@ -11,7 +11,7 @@ use super::Desk;
 use super::answers::{CommitDone, PickUpAnswer};
 use super::moves::ValueMoves;
 use crate::begun::Picked;
-use crate::ticket::{First, Join, Reservation, Ticket};
+use crate::ticket::{First, Join, Reservation};
 use jc_model::{Effect, LoadAnswer, Out, ProcessAnswer, Reply, WriteAnswer};
 use jc_types::{Caller, Config, Key};
 
@@ -214,18 +214,19 @@ impl Desk {
         }
     }
 
-    /// Gives back a reservation whose loader, writer or processor was not asked.
-    pub fn withdraw(&mut self, number: u64) -> bool
+    /// Gives back a reservation whose loader, writer or processor was not asked. If its key was invalidated meanwhile, its entry is
+    /// evicted, and the value written to `moves`. A `false` says that no such ticket is out; then nothing was done.
+    pub fn withdraw(&mut self, number: u64, moves: &mut ValueMoves) -> bool
         ensures out { result ≡ is_some (ticket_of self.old.stripe number) }
-        ensures done { OnTrue result (WithdrawsAtDesk self.old number self.new) }
-        ensures none { OnFalse result (self.new ≡ self.old) }
+        ensures done { OnTrue result (WithdrawsAtDesk self.old number moves.new self.new) }
+        ensures none { OnFalse result ((self.new ≡ self.old) × (moves.new ≡ moves.old)) }
     {
         let Some(place) = place_of(&self.tickets, number) else {
             return false;
         };
         let _ = self.stripe.events_len();
-        let ticket = Ticket::new(self.tickets.remove(place));
-        self.stripe.withdraw(ticket);
+        let ticket = self.tickets.remove(place);
+        moves.note_withdrawal(&mut self.stripe, ticket);
         true
     }
 

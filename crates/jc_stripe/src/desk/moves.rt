@@ -7,13 +7,15 @@ ghost use Rattle.jc_stripe.specs.State.{IsOut};
 ghost use Rattle.jc_stripe.specs.OrderOfUse.{next_victim};
 ghost use Rattle.jc_stripe.specs.Appending.{AnswersFirst};
 ghost use Rattle.jc_stripe.specs.OnePhase.{IsPhaseOf};
-ghost use Rattle.jc_stripe.specs.Phases.{MayBegin, Begins, Commits, begun_with, with_reply};
+ghost use Rattle.jc_stripe.specs.Phases.{MayBegin, Begins, begun_with, with_reply};
+ghost use Rattle.jc_stripe.specs.Invalidating.{Ends, GivesBack, Invalidates, Sweeps};
 ghost use Rattle.jc_stripe.specs.ValuesMoved.{holds_value, is_new_value, value_lost, victim_entry, nothing_moved, MovesValues, HasMovesIfDone};
+ghost use Rattle.jc_stripe.specs.ValuesMoved.{value_dropped, moves_of_drop, DropsValue, swept_key, SweepsValue};
 
 use crate::begun::{Appended, Started};
 use crate::stripe::Stripe;
 use crate::stripe::beginning::appended_alone;
-use crate::ticket::Reservation;
+use crate::ticket::{Reservation, Ticket};
 use jc_model::{Cause, Op, Out, Reply};
 use jc_types::{Caller, Key, Value};
 use std::marker::Model;
@@ -79,11 +81,30 @@ fn note_victim(
     if entry.is_some() {
         return;
     }
-    if let Some(next) = stripe.next_victim() {
-        if let Some(value) = stripe.entry(&next) {
-            *victim = Some(next);
+    note_entry_of(stripe, stripe.next_victim(), victim, evicted);
+}
+
+/// Writes a key, if there is one and it has an entry, and its value.
+fn note_entry_of(stripe: &Stripe, key: Option<Key>, victim: &mut Option<Key>, evicted: &mut Value)
+    ensures { option_map (λ key. (key, evicted.new)) victim.new ≡ victim_entry stripe.now key }
+{
+    *victim = None;
+    if let Some(key) = key {
+        if let Some(value) = stripe.entry(&key) {
+            *victim = Some(key);
             evicted.copy_from(value);
         }
+    }
+}
+
+/// The key whose entry a sweep would evict.
+fn swept_key(stripe: &Stripe) -> Option<Key>
+    ensures { result ≡ swept_key stripe.now }
+{
+    if stripe.is_shut() && stripe.has_place() {
+        stripe.least_used()
+    } else {
+        None
     }
 }
 
@@ -176,7 +197,7 @@ impl ValueMoves {
     ) -> Appended
         requires out { IsOut stripe.old reservation.value }
         requires answers { AnswersFirst stripe.old.config reservation.value.first out.now }
-        ensures commits { Commits stripe.old reservation.value out.now (with_reply result reply.new) stripe.new }
+        ensures ends { Ends stripe.old reservation.value out.now (with_reply result reply.new) stripe.new }
         ensures moves { MovesValues stripe.old reservation.value.key result.victim result.evicted self.new stripe.new }
     {
         let _ = stripe.events_len();
@@ -187,6 +208,64 @@ impl ValueMoves {
         let step = stripe.commit_on(reservation, out, &self.before, reply);
         self.note_after(stripe, &key, &step);
         step
+    }
+
+    /// A withdrawal at a stripe, of the reservation in this box: it notes the value of its entry, if that was evicted, since the key
+    /// was invalidated.
+    pub(super) fn note_withdrawal(&mut self, stripe: &mut Stripe, reservation: Box<Reservation>)
+        requires out { IsOut stripe.old reservation.value }
+        ensures gives_back { GivesBack stripe.old reservation.value stripe.new }
+        ensures moves { DropsValue stripe.old reservation.value.key self.new stripe.new }
+    {
+        let key = reservation.key;
+        self.note_before(stripe, &key);
+        stripe.withdraw(Ticket::new(reservation));
+        self.note_drop(stripe.entry(&key));
+    }
+
+    /// An invalidation of a key at a stripe: it notes the value of its entry, if that was evicted.
+    pub(super) fn note_invalidation(&mut self, stripe: &mut Stripe, key: &Key)
+        ensures invalidates { Invalidates stripe.old key.now stripe.new }
+        ensures moves { DropsValue stripe.old key.now self.new stripe.new }
+    {
+        self.note_before(stripe, key);
+        stripe.invalidate(key);
+        self.note_drop(stripe.entry(key));
+    }
+
+    /// A sweep at a stripe: it notes the entry that was evicted, and returns whether one was.
+    pub(super) fn note_sweep(&mut self, stripe: &mut Stripe) -> bool
+        ensures sweeps { Sweeps stripe.old stripe.new }
+        ensures evicted { result ≡ is_some (swept_key stripe.old) }
+        ensures moves { SweepsValue stripe.old self.new stripe.new }
+    {
+        let key = swept_key(stripe);
+        self.clear();
+        note_entry_of(stripe, key, &mut self.victim, &mut self.evicted);
+        stripe.sweep();
+        key.is_some()
+    }
+
+    /// Notes the value of a key's entry.
+    fn note_before(&mut self, stripe: &Stripe, key: &Key)
+        ensures { self.new.left ≡ entry_at stripe.now.cache key.now }
+    {
+        stripe.entry_into(key, &mut self.before);
+        self.has_left = true;
+    }
+
+    /// Notes that the entry whose value was noted is gone, if there is none.
+    fn note_drop(&mut self, entry: Option<&Value>)
+        ensures { self.new ≡ moves_of_drop (value_dropped self.old.left (option_copied entry.entry)) }
+    {
+        self.is_kept = false;
+        self.victim = None;
+        self.has_left = self.has_left && self.before.is_some() && entry.is_none();
+        self.own = if self.has_left {
+            Some(Cause::Invalidated)
+        } else {
+            None
+        };
     }
 
     /// Notes that nothing came, and nothing left.

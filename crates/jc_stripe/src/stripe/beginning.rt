@@ -3,13 +3,12 @@ ghost use Rattle.std.specs.Prelude.{◌≡◌, ◌↔◌, [], length, true, fals
 ghost use Rattle.std.specs.Bool.{OnTrue, OnFalse};
 ghost use Rattle.jc_entries.specs.MostRecent.{most_recent};
 ghost use Rattle.jc_stripe.specs.OrderOfUse.{by_use};
-ghost use Rattle.jc_types.specs.declared.limits.TheConstants.{HIT_PLACES};
 ghost use Rattle.jc_model.specs.declared.event.Op.TheVariants.{Get};
 ghost use Rattle.jc_model.specs.declared.event.Reply.TheVariants.{Value as ReplyValue};
 ghost use Rattle.jc_model.specs.Cache.{entry_at};
 ghost use Rattle.jc_model.specs.Group.{nothing_said};
 ghost use Rattle.jc_stripe.specs.State.{new_reservation, with_reservation};
-ghost use Rattle.jc_stripe.specs.Refusals.{has_room, first_refusal, first_asked, load_joined, needs_reservation};
+ghost use Rattle.jc_stripe.specs.Refusals.{may_hit, first_refusal, first_asked, load_joined, needs_reservation};
 ghost use Rattle.jc_stripe.specs.Phases.{MayBegin, Steps, Begins, begun_with, with_joiner, with_reply};
 ghost use Rattle.jc_stripe.specs.Hitting.{IsHit};
 ghost use Rattle.jc_stripe.specs.declared.ticket.First.TheVariants.{Nobody};
@@ -86,7 +85,7 @@ impl Stripe {
         ensures hit { IfSome result (λ place. (op.now ≡ Get) × Begins self.old caller key.now Get
             (Done (with_reply (record { place = place; victim = None; evicted = None }) reply.new)) self.new) }
     {
-        if !is_get(op) || !self.has_room(caller.call, HIT_PLACES) {
+        if !is_get(op) || !self.may_hit(caller.call, key) {
             self.entry_into(key, entry);
             return None;
         }
@@ -152,7 +151,7 @@ impl Stripe {
     /// recently used; the step is appended in a free place. If the entry is missing, nothing is done.
     #[inline(never)]
     pub(super) fn find_and_use(&mut self, caller: Caller, key: &Key) -> bool
-        requires room { has_room self.old caller.call HIT_PLACES ≡ true }
+        requires may { may_hit self.old caller.call key.now ≡ true }
         requires begins { MayBegin self.old caller key.now }
         ensures missing { OnFalse result ((self.new ≡ self.old) × (entry_at self.old.cache key.now ≡ None)) }
         ensures found { OnTrue result (IsHit self.old caller key.now self.new) }

@@ -129,7 +129,7 @@ impl Stripe {
     }
 
     /// Whether the key is of this stripe.
-    fn is_own(&self, key: &Key) -> bool
+    pub(crate) fn is_own(&self, key: &Key) -> bool
         ensures { result ≡ is_of self.now key.now }
     {
         // For its contract: every stripe is reached, so its config has at least one stripe.

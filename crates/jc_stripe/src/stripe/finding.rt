@@ -5,7 +5,7 @@ ghost use Rattle.jc_types.specs.declared.limits.TheConstants.{RESERVATIONS_MAX, 
 ghost use Rattle.jc_model.specs.declared.event.Op.{Op};
 ghost use Rattle.jc_model.specs.Cache.{Bytes, entry_at};
 ghost use Rattle.jc_stripe.specs.State.{is_reserved, reservation_of};
-ghost use Rattle.jc_stripe.specs.Refusals.{has_room, full_refusal, first_refusal, load_at};
+ghost use Rattle.jc_stripe.specs.Refusals.{has_room, may_hit, full_refusal, first_refusal, load_at};
 ghost use Rattle.jc_stripe.specs.Finding.{found_at};
 
 use super::Stripe;
@@ -13,7 +13,9 @@ use crate::call_rules::{
     Found, answers_at_once, asks_anybody, is_to_reserve, load_of, may_join, places_needed,
 };
 use jc_model::Op;
-use jc_types::{Caller, JOINERS_MAX, Key, LAST_NUMBER, RESERVATIONS_MAX, Refusal, Value};
+use jc_types::{
+    Caller, HIT_PLACES, JOINERS_MAX, Key, LAST_NUMBER, RESERVATIONS_MAX, Refusal, Value,
+};
 
 impl Stripe {
     /// The findings of a call at its key, which has this entry.
@@ -27,7 +29,7 @@ impl Stripe {
                 load: None,
                 asks,
                 needs_free_key: false,
-                is_busy: false,
+                is_busy: self.is_barred(key),
             };
         }
         let (is_reserved, loading) = self.load_at(key);
@@ -38,7 +40,7 @@ impl Stripe {
             load,
             asks,
             needs_free_key,
-            is_busy: is_reserved && needs_free_key,
+            is_busy: self.is_barred(key) || (is_reserved && needs_free_key),
         }
     }
 
@@ -57,7 +59,7 @@ impl Stripe {
     }
 
     /// Whether the key is reserved, and the load of its reservation, if that asked the loader.
-    fn load_at(&self, key: &Key) -> (bool, Option<u64>)
+    pub(super) fn load_at(&self, key: &Key) -> (bool, Option<u64>)
         ensures reserved { result.0 ≡ is_reserved self.now key.now }
         ensures load { result.1 ≡ load_at (reservation_of self.now key.now) }
     {
@@ -76,6 +78,14 @@ impl Stripe {
             return false;
         }
         call < LAST_NUMBER && !self.reservations.is_used_up()
+    }
+
+    /// Whether a call that finds its entry may answer from it: there is room, and the key isn't barred.
+    #[inline(always)]
+    pub(super) fn may_hit(&self, call: u64, key: &Key) -> bool
+        ensures { result ≡ may_hit self.now call key.now }
+    {
+        self.has_room(call, HIT_PLACES) && !self.is_barred(key)
     }
 
     /// Whether no further reservation can be made.

@@ -9,6 +9,7 @@ ghost use Rattle.jc_stripe.specs.Reopening.{opened_stripe};
 
 use super::Stripe;
 use crate::life::Life;
+use crate::marks::Marks;
 use crate::stripe_tables::{StripeJoiners, StripeReservations};
 use crate::ticket_boxes::TicketBoxes;
 use jc_entries::Entries;
@@ -97,6 +98,7 @@ impl Stripe {
         let joiners = StripeJoiners::new(alloc)?;
         let history = History::new(alloc, config.history)?;
         let life = Life::new(&entries);
+        let marks = Marks::new(alloc)?;
         Ok(Stripe {
             config: *config,
             number,
@@ -108,6 +110,8 @@ impl Stripe {
             history,
             lives: false,
             life,
+            marks,
+            is_shut: false,
         })
     }
 
@@ -125,5 +129,7 @@ impl Stripe {
         self.history.restart();
         self.lives = false;
         self.life = Life::new(&self.entries);
+        self.marks.clear();
+        self.is_shut = false;
     }
 }

@@ -1,4 +1,4 @@
-use Rattle.std.proofs.Common.{◌≡◌, ◌&&◌, ◌≤◌, ◌+◌, ◌++◌, ◌∷◌, [], ℕ, List, map, length, false, ap, sym, refl, ◌∙◌, subst, arith}
+use Rattle.std.proofs.Common.{◌≡◌, ◌≤◌, ◌+◌, ◌++◌, ◌∷◌, [], ℕ, List, map, length, ap, sym, refl, ◌∙◌, subst, arith}
 use Rattle.std.proofs.lemmas.List.{length-map, map_push, length-append}
 use Rattle.jc_types.specs.declared.limits.TheConstants.{RESERVATIONS_MAX}
 use Rattle.jc_stripe.specs.State.{State}
@@ -11,12 +11,10 @@ use Rattle.jc_stripe.proofs.Own.{own_left}
 use Rattle.jc_stripe.proofs.OwnNumbers.{own_numbers}
 use Rattle.jc_stripe.proofs.WholeCalls.{caller_numbers}
 use Rattle.jc_stripe.specs.declared.desk.answers.FirstAnswer.TheVariants as asked
-use Rattle.jc_stripe.proofs.desk.Desk.begin.Goals.{else-self-via-then-self+else-is_renewable, else-self-via-else-self}
-use Rattle.jc_stripe.specs.DeskState.{DeskState, IsDesk}
+use Rattle.jc_stripe.specs.DeskState.{DeskState, IsDesk, awaits_end}
 use Rattle.jc_stripe.specs.DeskPhases.{BeginsAtDesk}
-use Rattle.jc_stripe.specs.Renewal.{is_renewable}
 use Rattle.jc_stripe.proofs.DeskNumbers.{may_behind, begun_done, begun_same}
-use Rattle.jc_stripe.proofs.DeskStates.{renewed_clear, renewed_desk, desk_same, desk_reserves, same_joined, one_joined, may_call, never_both, newest_reserved}
+use Rattle.jc_stripe.proofs.DeskStates.{renewed_clear, renewed_desk, desk_same, desk_reserves, same_joined, one_joined, may_call, newest_reserved}
 use Rattle.jc_stripe.proofs.desk.Desk.begin.Goals as goal
 
 pub note_begin-requires : goal.note_begin-requires
@@ -69,14 +67,11 @@ invariant_of-self-in-Refused c = (
 
 pub returns-in-Done-clause-begins : goal.returns-in-Done-clause-begins
 returns-in-Done-clause-begins c =
-    let free : (c.self.inside.keeps_events && is_renewable c.self.inside.stripe) ≡ false = elim c.else-self.branch [
-      | else-self-via-then-self+else-is_renewable w ↦ never_both c.self.inside.keeps_events (is_renewable c.self.inside.stripe) (let off : is_renewable c.self.inside.stripe ≡ false = cc in off)
-      | else-self-via-else-self w ↦ ap (λ b. b && is_renewable c.self.inside.stripe) w.if-self.false
-    ] in
     subst (λ (d : DeskState). BeginsAtDesk d c.args.session c.self.inside.next_call c.args.key.now c.args.op.now c.note_begin.new.reply c.note_begin.new.self (asked.Done c.in-Done.step.place) (record { stripe = c.note_begin.new.stripe; next = c.self.inside.next_call + 1; keeps_events = c.self.inside.keeps_events })) c.self.view_is
     (record {
       may = may_call (record { stripe = c.self.inside.stripe; next = c.self.inside.next_call; keeps_events = c.self.inside.keeps_events }) c.args.session c.args.key.now c.if-call.false (sym c.if-not-is_clear.ensures);
-      free = free;
+      free = ap awaits_end c.self.view_is ∙ sym c.if-awaits_end.ensures;
+      unshut = ap (λ (d : DeskState). d.stripe.shut) c.self.view_is ∙ sym c.if-is_shut.ensures;
       between = c.renew_if_full.new.self;
       renews = c.renew_if_full.ensures;
       call_is = refl;
@@ -86,14 +81,11 @@ returns-in-Done-clause-begins c =
 
 pub returns-in-Asks-clause-begins : goal.returns-in-Asks-clause-begins
 returns-in-Asks-clause-begins c =
-    let free : (c.self.inside.keeps_events && is_renewable c.self.inside.stripe) ≡ false = elim c.else-self.branch [
-      | else-self-via-then-self+else-is_renewable w ↦ never_both c.self.inside.keeps_events (is_renewable c.self.inside.stripe) (let off : is_renewable c.self.inside.stripe ≡ false = cc in off)
-      | else-self-via-else-self w ↦ ap (λ b. b && is_renewable c.self.inside.stripe) w.if-self.false
-    ] in
     subst (λ (d : DeskState). BeginsAtDesk d c.args.session c.self.inside.next_call c.args.key.now c.args.op.now c.note_begin.new.reply c.note_begin.new.self (asked.Asks c.deref.result.now.number) (record { stripe = c.note_begin.new.stripe; next = c.self.inside.next_call + 1; keeps_events = c.self.inside.keeps_events })) c.self.view_is
     (record {
       may = may_call (record { stripe = c.self.inside.stripe; next = c.self.inside.next_call; keeps_events = c.self.inside.keeps_events }) c.args.session c.args.key.now c.if-call.false (sym c.if-not-is_clear.ensures);
-      free = free;
+      free = ap awaits_end c.self.view_is ∙ sym c.if-awaits_end.ensures;
+      unshut = ap (λ (d : DeskState). d.stripe.shut) c.self.view_is ∙ sym c.if-is_shut.ensures;
       between = c.renew_if_full.new.self;
       renews = c.renew_if_full.ensures;
       call_is = refl;
@@ -108,14 +100,11 @@ returns-in-Asks-clause-begins c =
 
 pub returns-in-Joined-clause-begins : goal.returns-in-Joined-clause-begins
 returns-in-Joined-clause-begins c =
-    let free : (c.self.inside.keeps_events && is_renewable c.self.inside.stripe) ≡ false = elim c.else-self.branch [
-      | else-self-via-then-self+else-is_renewable w ↦ never_both c.self.inside.keeps_events (is_renewable c.self.inside.stripe) (let off : is_renewable c.self.inside.stripe ≡ false = cc in off)
-      | else-self-via-else-self w ↦ ap (λ b. b && is_renewable c.self.inside.stripe) w.if-self.false
-    ] in
     subst (λ (d : DeskState). BeginsAtDesk d c.args.session c.self.inside.next_call c.args.key.now c.args.op.now c.note_begin.new.reply c.note_begin.new.self (asked.Joined c.load-load.result) (record { stripe = c.note_begin.new.stripe; next = c.self.inside.next_call + 1; keeps_events = c.self.inside.keeps_events })) c.self.view_is
     (record {
       may = may_call (record { stripe = c.self.inside.stripe; next = c.self.inside.next_call; keeps_events = c.self.inside.keeps_events }) c.args.session c.args.key.now c.if-call.false (sym c.if-not-is_clear.ensures);
-      free = free;
+      free = ap awaits_end c.self.view_is ∙ sym c.if-awaits_end.ensures;
+      unshut = ap (λ (d : DeskState). d.stripe.shut) c.self.view_is ∙ sym c.if-is_shut.ensures;
       between = c.renew_if_full.new.self;
       renews = c.renew_if_full.ensures;
       call_is = refl;
@@ -126,14 +115,11 @@ returns-in-Joined-clause-begins c =
 
 pub returns-in-Refused-clause-begins : goal.returns-in-Refused-clause-begins
 returns-in-Refused-clause-begins c =
-    let free : (c.self.inside.keeps_events && is_renewable c.self.inside.stripe) ≡ false = elim c.else-self.branch [
-      | else-self-via-then-self+else-is_renewable w ↦ never_both c.self.inside.keeps_events (is_renewable c.self.inside.stripe) (let off : is_renewable c.self.inside.stripe ≡ false = cc in off)
-      | else-self-via-else-self w ↦ ap (λ b. b && is_renewable c.self.inside.stripe) w.if-self.false
-    ] in
     subst (λ (d : DeskState). BeginsAtDesk d c.args.session c.self.inside.next_call c.args.key.now c.args.op.now c.note_begin.new.reply c.note_begin.new.self (asked.Refused c.in-Refused.refusal) (record { stripe = c.note_begin.new.stripe; next = c.self.inside.next_call + 1; keeps_events = c.self.inside.keeps_events })) c.self.view_is
     (record {
       may = may_call (record { stripe = c.self.inside.stripe; next = c.self.inside.next_call; keeps_events = c.self.inside.keeps_events }) c.args.session c.args.key.now c.if-call.false (sym c.if-not-is_clear.ensures);
-      free = free;
+      free = ap awaits_end c.self.view_is ∙ sym c.if-awaits_end.ensures;
+      unshut = ap (λ (d : DeskState). d.stripe.shut) c.self.view_is ∙ sym c.if-is_shut.ensures;
       between = c.renew_if_full.new.self;
       renews = c.renew_if_full.ensures;
       call_is = refl;

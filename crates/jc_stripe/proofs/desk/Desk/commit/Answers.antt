@@ -7,6 +7,7 @@ use Rattle.jc_stripe.specs.State.{State, without_key}
 use Rattle.jc_stripe.specs.Phases.{with_reply}
 use Rattle.jc_stripe.specs.OnePhase.{IsPhaseOf}
 use Rattle.jc_stripe.specs.declared.ticket.Reservation.{Reservation}
+use Rattle.jc_stripe.proofs.Ending.{ended}
 use Rattle.jc_stripe.proofs.Uniform.{one_uniform}
 use Rattle.jc_stripe.proofs.Own.{own_left}
 use Rattle.jc_stripe.specs.DeskState.{DeskState}
@@ -53,17 +54,19 @@ invariant_of-self c =
     let old = c.self.inside.stripe in
     let new = c.note_commit-step.new.stripe in
     let r = c.remove-ticket.result.value in
-    let commits = c.note_commit-step.ensures.commits in
-    let steps = commits.1 in
+    let ends = c.note_commit-step.ensures.ends in
+    let e = ended old new r c.args.out.now _ c.events_len.ensures.reached ends in
+    let quiet = e.quiet in
+    let steps = e.commits.1 in
     let phase : IsPhaseOf r.caller.session old new =
-    inr (inr (inl (record { reservation = r; out = c.args.out.now; done = with_reply c.note_commit-step.result c.note_commit-step.new.reply; own = refl; commits = commits }))) in
-    let rs : new.reservations ≡ without_key r.key old.reservations = ap (λ (s : State). s.reservations) steps.after in
+    inr (inr (inl (record { reservation = r; out = c.args.out.now; done = with_reply c.note_commit-step.result c.note_commit-step.new.reply; own = refl; ends = ends }))) in
+    let rs : new.reservations ≡ without_key r.key old.reservations = quiet.reservations ∙ ap (λ (s : State). s.reservations) steps.after in
     let low : r.caller.call < c.self.inside.next_call = subst (λ (x : Reservation). x.caller.call < c.self.inside.next_call) (sym t.here) (c.self.invariant.1.below c.in-Some.place c.remove-ticket.result.value t.within) in (
       subst (λ (n : ℕ). RESERVATIONS_MAX ≤ n) (sym c.remove-ticket.ensures.capacity) c.self.invariant.0,
       desk_ends old new _ (map (λ b. b.value) c.remove-ticket.new.self.items) c.self.inside.next_call r.key c.self.invariant.1 rs (t.left ∙ sym rs)
-          (ap (λ (s : State). s.origin) steps.after) (ap (λ (s : State). s.lives) steps.after)
-          (resolved_joined old new r.number c.note_commit-step.result.place c.self.inside.next_call (ap (λ (s : State). s.joiners) steps.after) c.self.invariant.1.joined_below)
-          (committed own_left one_uniform old new r _ _ c.self.inside.next_call low c.events_len.ensures.reached c.self.invariant.1.before commits phase),
+          (quiet.grows.same.origin ∙ ap (λ (s : State). s.origin) steps.after) (quiet.grows.same.lives ∙ ap (λ (s : State). s.lives) steps.after)
+          (resolved_joined old new r.number e.step.place c.self.inside.next_call (quiet.joiners ∙ ap (λ (s : State). s.joiners) steps.after) c.self.invariant.1.joined_below)
+          (committed own_left one_uniform old new r _ _ c.self.inside.next_call low c.events_len.ensures.reached c.self.invariant.1.before ends phase),
     )
 
 pub returns : goal.returns
@@ -76,7 +79,7 @@ returns c =
       reservation = c.remove-ticket.result.value;
       ticket = t.ticket;
       done = with_reply c.note_commit-step.result c.note_commit-step.new.reply;
-      commits = c.note_commit-step.ensures.commits;
+      ends = c.note_commit-step.ensures.ends;
       reply_is = refl;
       place = refl;
       shared = c.waiting-shared.ensures.count ∙ sym (length-filter (waits_for c.args.number) old.joiners) ∙ sym (length-map _ (λ j. j.caller));

@@ -1,4 +1,4 @@
-use Rattle.std.proofs.Common.{◌+◌, inl, inr, map, length, ap, sym, refl, ◌∙◌, subst, arith}
+use Rattle.std.proofs.Common.{◌≡◌, false, ◌+◌, inl, inr, map, length, ap, sym, refl, ◌∙◌, subst, arith}
 use Rattle.jc_model.specs.declared.event.Op.TheVariants.{Get}
 use Rattle.jc_stripe.specs.State.{State}
 use Rattle.jc_stripe.specs.Phases.{hit_done}
@@ -9,9 +9,9 @@ use Rattle.jc_stripe.proofs.Own.{own_left}
 use Rattle.jc_stripe.proofs.OwnNumbers.{own_numbers}
 use Rattle.jc_stripe.proofs.WholeCalls.{caller_numbers}
 use Rattle.jc_stripe.specs.DeskState.{DeskState, IsDesk}
-use Rattle.jc_stripe.specs.DeskPhases.{HitsAtDesk}
+use Rattle.jc_stripe.specs.DeskPhases.{HitsAtDesk, hits_next}
 use Rattle.jc_stripe.proofs.DeskNumbers.{may_behind, begun_done}
-use Rattle.jc_stripe.proofs.DeskStates.{renewed_clear, renewed_desk, desk_same, same_joined}
+use Rattle.jc_stripe.proofs.DeskStates.{no_hit, renewed_clear, renewed_desk, desk_same, same_joined}
 use Rattle.jc_stripe.proofs.desk.Desk.hit.Goals as goal
 
 pub hit_into-requires : goal.hit_into-requires
@@ -43,3 +43,8 @@ returns-clause-some c =
       begins = c.if-not-hit_into.ensures.some;
       rest = refl;
     })
+
+pub returns-then-not-hit_into-clause-found : goal.returns-then-not-hit_into-clause-found
+returns-then-not-hit_into-clause-found c =
+    subst (λ (d : DeskState). false ≡ hits_next d c.args.session c.args.key.now) c.self.view_is
+    (no_hit (record { stripe = c.self.inside.stripe; next = c.self.inside.next_call; keeps_events = c.self.inside.keeps_events }) c.args.session c.args.key.now c.renew_if_full.new.self c.renew_if_full.ensures c.if-not-hit_into.ensures.missing)

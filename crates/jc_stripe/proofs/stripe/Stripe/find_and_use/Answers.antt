@@ -11,7 +11,8 @@ use Rattle.jc_entries.specs.ByUse.{ByUse}
 use Rattle.jc_entries.specs.MostRecent.{most_recent}
 use Rattle.jc_stripe.specs.Outcomes as begun
 use Rattle.jc_stripe.specs.State.{State}
-use Rattle.jc_stripe.specs.Refusals.{has_room}
+use Rattle.std.proofs.lemmas.Bool.{and_parts}
+use Rattle.jc_stripe.specs.Refusals.{has_room, may_hit}
 use Rattle.jc_stripe.specs.Phases.{MayBegin, Begins, hit_done}
 use Rattle.jc_stripe.specs.Hitting.{IsHit}
 use Rattle.jc_stripe.specs.Outcomes.{StepDone}
@@ -52,9 +53,9 @@ in_entries c =
 in_cache : (c : goal.After-push_hit) → entry_at (state_of c.self.inside).cache c.args.key.now ≡ Some c.in-Some.value.now
 in_cache c = sym (find-entry c.self.inside.entries.list c.args.key.now) ∙ in_entries c
 
--- the place that it needs is free
-room : (c : goal.After-push_hit) → has_room (state_of c.self.inside) c.args.caller.call HIT_PLACES ≡ true
-room c = let Room : State → Type 0 = λ s. has_room s c.args.caller.call HIT_PLACES ≡ true in subst Room (sym c.self.view_is) c.requires.room
+-- it may be found
+may : (c : goal.After-push_hit) → may_hit (state_of c.self.inside) c.args.caller.call c.args.key.now ≡ true
+may c = let May : State → Type 0 = λ s. may_hit s c.args.caller.call c.args.key.now ≡ true in subst May (sym c.self.view_is) c.requires.may
 
 -- the step that is made
 group : (c : goal.After-push_hit) → NewGroup
@@ -84,7 +85,7 @@ begins : (c : goal.After-push_hit) → Begins (state_of c.self.inside) c.args.ca
 begins c =
     let i = c.self.inside in
     let asks = hit_asks (state_of i) c.args.key.now c.in-Some.value.now (in_cache c) in (
-      hit_refusal (state_of i) c.args.caller c.args.key.now c.in-Some.value.now (in_cache c) (room c),
+      hit_refusal (state_of i) c.args.caller c.args.key.now c.in-Some.value.now (in_cache c) (may c),
       asks,
       done_steps i c.args.caller c.args.key.now Get c.touch.new.self (promise HIT_PLACES i.history) c.push_hit.new.self (pinned i.reservations.held) (group c) (done c) HIT_PLACES (is_done c)
           (nobody_fits i.config Get (entry_at (state_of i).cache c.args.key.now) asks),
@@ -92,8 +93,9 @@ begins c =
 
 pub push_hit-requires : goal.push_hit-requires
 push_hit-requires c =
-    let Room : State → Type 0 = λ s. has_room s c.args.caller.call HIT_PLACES ≡ true in
-    let free = room_so c.self.inside HIT_PLACES c.self.invariant (roomy (state_of c.self.inside) c.args.caller.call HIT_PLACES (subst Room (sym c.self.view_is) c.requires.room)) in
+    let May : State → Type 0 = λ s. may_hit s c.args.caller.call c.args.key.now ≡ true in
+    let room = (and_parts (has_room (state_of c.self.inside) c.args.caller.call HIT_PLACES) _ (subst May (sym c.self.view_is) c.requires.may)).0 in
+    let free = room_so c.self.inside HIT_PLACES c.self.invariant (roomy (state_of c.self.inside) c.args.caller.call HIT_PLACES room) in
     omega arith
 
 -- the stripe is sound after it

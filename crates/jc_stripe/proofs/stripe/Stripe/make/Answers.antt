@@ -19,8 +19,8 @@ use Rattle.jc_stripe.proofs.Tables.{reached_start}
 use Rattle.jc_stripe.proofs.stripe.Stripe.make.Goals as goal
 
 opened : (s : Inside) → check s.config ≡ Ok tt → has_distinct_keys s.entries.list ≡ true → length s.entries.list ≤ s.config.capacity → list_all (λ entry. stripe_of entry.0 s.config.stripes == s.number) s.entries.list ≡ true
-    → s.reservations.held ≡ [] → s.joiners ≡ [] → s.history.events ≡ [] → s.life ≡ record { opening = s.entries.list; ended = [] } → IsReached (state_of s)
-opened s fits once few own reservations joiners history life =
+    → s.reservations.held ≡ [] → s.joiners ≡ [] → s.history.events ≡ [] → s.marks ≡ [] → s.life ≡ record { opening = s.entries.list; ended = [] } → IsReached (state_of s)
+opened s fits once few own reservations joiners history marks life =
     let P : Life → Type 0 = λ l. IsReached (record (state_of s) { ended = l.ended; opening = l.opening }) in
     subst P (sym life) (reached_start (record (state_of s) { ended = []; opening = s.entries.list }) (record {
       config_fits = fits;
@@ -32,6 +32,7 @@ opened s fits once few own reservations joiners history life =
       reservations = reservations;
       joiners = joiners;
       history = history;
+      marked = marks;
     }))
 
 pub invariant_of-result : goal.invariant_of-result
@@ -49,12 +50,12 @@ invariant_of-result c =
       promised = ap (λ (h : Past). h.promised) history ∙ sym (λ i. STEP_PLACES * length (table i).held + HIT_PLACES * count_by waits (joiners i));
       counted = ap (λ (h : Past). h.statistics) history ∙ sym (λ k. statistics_of (occurrences ((life k).opening) ((history k).events)));
       boxes = ap (λ n. n + length c.in_ok-reservations.reservations.held) c.in_ok-boxes.ensures ∙ ap (λ (t : Table Reservation). RESERVATIONS_MAX + length t.held) table;
-      state = opened (record { config = c.args.config.now; number = c.args.number; origin = c.args.origin; entries = c.args.entries; reservations = c.in_ok-reservations.reservations; boxes = c.in_ok-boxes.boxes; joiners = c.in_ok-joiners.joiners; history = c.in_ok-history.history; lives = false; life = c.new-life.result }) c.requires.fits valid.distinct (let e = c.requires.capacity in omega arith) c.requires.own (ap (λ (t : Table Reservation). t.held) table) joiners (ap (λ (h : Past). h.events) history) life;
+      state = opened (record { config = c.args.config.now; number = c.args.number; origin = c.args.origin; entries = c.args.entries; reservations = c.in_ok-reservations.reservations; boxes = c.in_ok-boxes.boxes; joiners = c.in_ok-joiners.joiners; history = c.in_ok-history.history; lives = false; life = c.new-life.result; marks = c.in_ok-marks.marks; is_shut = false }) c.requires.fits valid.distinct (let e = c.requires.capacity in omega arith) c.requires.own (ap (λ (t : Table Reservation). t.held) table) joiners (ap (λ (h : Past). h.events) history) c.in_ok-marks.ensures life;
     }
 
 pub returns-clause-reached : goal.returns-clause-reached
 returns-clause-reached c =
     let valid = c.capacity.ensures.valid in
     let bounded = valid.bounded in
-    opened (record { config = c.args.config.now; number = c.args.number; origin = c.args.origin; entries = c.args.entries; reservations = c.in_ok-reservations.reservations; boxes = c.in_ok-boxes.boxes; joiners = c.in_ok-joiners.joiners; history = c.in_ok-history.history; lives = false; life = c.new-life.result }) c.requires.fits valid.distinct (let e = c.requires.capacity in omega arith) c.requires.own (ap (λ (t : Table Reservation). t.held) c.in_ok-reservations.ensures) c.in_ok-joiners.ensures
-    (ap (λ (h : Past). h.events) c.in_ok-history.ensures) c.new-life.ensures
+    opened (record { config = c.args.config.now; number = c.args.number; origin = c.args.origin; entries = c.args.entries; reservations = c.in_ok-reservations.reservations; boxes = c.in_ok-boxes.boxes; joiners = c.in_ok-joiners.joiners; history = c.in_ok-history.history; lives = false; life = c.new-life.result; marks = c.in_ok-marks.marks; is_shut = false }) c.requires.fits valid.distinct (let e = c.requires.capacity in omega arith) c.requires.own (ap (λ (t : Table Reservation). t.held) c.in_ok-reservations.ensures) c.in_ok-joiners.ensures
+    (ap (λ (h : Past). h.events) c.in_ok-history.ensures) c.in_ok-marks.ensures c.new-life.ensures

@@ -1,4 +1,4 @@
-use Rattle.std.proofs.Common.{MatchBool, is_some, ◌≡◌, ◌∙◌, ◌↔◌, IsTrue, None, true, sym, ap, subst}
+use Rattle.std.proofs.Common.{arith, length, MatchBool, is_some, ◌≡◌, ◌∙◌, ◌↔◌, IsTrue, None, true, sym, ap, subst}
 use Rattle.jc_model.specs.Cache.{entry_at}
 use Rattle.jc_reserve.specs.Reserving.{CanReserve}
 use Rattle.jc_reserve.specs.Reserving as reserving
@@ -8,8 +8,16 @@ use Rattle.jc_stripe.specs.State.{State, new_reservation, with_reservation}
 use Rattle.jc_stripe.specs.Refusals.{first_refusal, first_asked, needs_reservation}
 use Rattle.jc_stripe.specs.Phases.{MayBegin}
 use Rattle.jc_stripe.specs.Inside.{state_of}
+use Rattle.jc_stripe.proofs.Refusing.{few_out}
 use Rattle.jc_stripe.proofs.Making.{table_made, reserve_made, reserve_sound}
 use Rattle.jc_stripe.proofs.stripe.Stripe.reserve.Goals as goal
+
+pub take-reservation-requires : goal.take-reservation-requires
+take-reservation-requires c =
+    let few = few_out c.args.self.now c.args.caller c.args.key.now c.args.op.now c.requires.free c.requires.needs in
+    let same = ap (λ (s : State). length s.reservations) c.self.view_is in
+    let boxes = c.self.invariant.boxes in
+    omega arith
 
 free_inside : (c : goal.After-new) → first_refusal (state_of c.self.inside) c.args.caller c.args.key.now c.args.op.now ≡ None
 free_inside c = subst (λ (s : State). first_refusal s c.args.caller c.args.key.now c.args.op.now ≡ None) (sym c.self.view_is) c.requires.free

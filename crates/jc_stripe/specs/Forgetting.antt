@@ -1,0 +1,31 @@
+-- What an invalidation promises.
+--     BeginsAt     a first phase of a call at a key, which isn't refused
+--     Forgets      the law: a key is forgotten once it was invalidated, or all were; it stays so in every phase of every session, until
+--                  a call begins at it; and that call finds no entry and joins no load
+use Rattle.std.specs.Prelude.{◌≡◌, ◌⊎◌, ℕ, true, None}
+use Rattle.jc_types.specs.declared.caller.Caller.{Caller}
+use Rattle.jc_model.specs.declared.event.Op.{Op}
+use Rattle.jc_model.specs.Cache.{Bytes, entry_at}
+use Rattle.jc_stripe.specs.Outcomes.{Begun}
+use Rattle.jc_stripe.specs.State.{State}
+use Rattle.jc_stripe.specs.Refusals.{first_refusal, load_joined}
+use Rattle.jc_stripe.specs.Phases.{Begins}
+use Rattle.jc_stripe.specs.Reached.{IsReached}
+use Rattle.jc_stripe.specs.OnePhase.{IsPhaseOf}
+use Rattle.jc_stripe.specs.Invalidating.{Invalidates, InvalidatesAll, is_forgotten}
+
+-- a call that begins at the key finds no entry, and joins no load
+pub record BeginsAt (old : State) (key : Bytes) (new : State) : Type 0 where
+  pub caller : Caller
+  pub op : Op
+  pub begun : Begun
+  pub begins : Begins old caller key op begun new
+  pub unrefused : first_refusal old caller key op ≡ None
+  pub missing : entry_at old.cache key ≡ None
+  pub alone : load_joined old key op ≡ None
+
+pub record Forgets : Type 0 where
+  pub invalidated : (old new : State) (key : Bytes) → Invalidates old key new → is_forgotten new key ≡ true
+  pub all : (old new : State) (key : Bytes) → InvalidatesAll old new → is_forgotten new key ≡ true
+  pub stays : (session : ℕ) (old new : State) (key : Bytes) → IsReached old → IsPhaseOf session old new → is_forgotten old key ≡ true
+      → (is_forgotten new key ≡ true) ⊎ BeginsAt old key new
