@@ -1,4 +1,4 @@
--- How a bulk call is carried out.
+-- A bulk call from its memory to its end: the room that it takes before its first phase, and the keys that failed.
 --     IsRoomOf    the memory that a call of this kind takes before its first phase, for this number of keys in a cache of this
 --                 number of stripes
 --     IsRoomOfCall   as `IsRoomOf`, for these keys, which differ, and each of which asks outside as the call's kind does

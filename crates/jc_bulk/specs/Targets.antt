@@ -1,4 +1,4 @@
--- The keys of each call, with their operations.
+-- The keys of `get_all`, `put_all` and the other bulk calls, with the operation at each.
 --     get_ops, remove_ops, clear_ops, load_ops    each key is got, removed, cleared or loaded
 use Rattle.std.specs.Prelude.{Bool, List}
 use Rattle.jc_model.specs.Cache.{Bytes}

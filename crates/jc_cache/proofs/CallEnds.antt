@@ -9,7 +9,7 @@
 --     tries_to         a call that waits for nobody: its first phase
 --     was_busy         the same, if it wasn't made
 --     tried_left       the same, either way
-use Rattle.jc_cache.proofs.Common.{◌≡◌, ◌&&◌, ◌≤◌, ◌+◌, ◌++◌, ⊎_elim, inl, inr, ℕ, zero, suc, Bool, true, false, if◌then◌else◌, nat_lt, Option, None, Some, is_none, Result, Ok, Err, List, [], length, slice_get, refl, sym, ap, subst, ◌∙◌, arith, true≢false, Caller, Refusal, Bytes, entry_at, Event, Step, Op, Get, Invoke, Out, Reply, State, reservation_of, whole_history, whole_place, GainsOwn, IsPhaseOf, AddsOwn, StepsBehind, may_come_all, after_commit, Reservation, call_below, may_in_all, put_off_or_full, View, prefix-refl, prefix-trans, PhaseLaws, HasTried, Misses, EndsBy, IsCallRow, StartWaits, committing, picking, state_decided, state_found, state_of_step, trying, Starts, Keeps, all_map, begun_row, commits_phase, next_place, picks_phase, row_split, shown_same, starts_phase, waited_keeps, HasSeen, HasMade, IsBusyAt, SeatAfter, SeatTried, TriesTo, WasBusy, IsMadeIn}
+use Rattle.jc_cache.proofs.Common.{◌≡◌, ◌&&◌, ◌≤◌, ◌+◌, ◌++◌, ⊎_elim, inl, inr, ℕ, zero, suc, Bool, true, false, if◌then◌else◌, nat_lt, Option, None, Some, is_none, Result, Ok, Err, List, [], length, slice_get, refl, sym, ap, subst, ◌∙◌, arith, true≢false, Caller, Refusal, Bytes, entry_at, Event, Step, Op, Get, Invoke, Out, Reply, State, reservation_of, whole_history, whole_place, GainsOwn, IsPhaseOf, AddsOwn, StepsBehind, may_come_all, Reservation, call_below, may_in_all, put_off_or_full, View, prefix-refl, prefix-trans, PhaseLaws, HasTried, Misses, EndsBy, IsCallRow, StartWaits, committing, picking, state_decided, state_found, state_of_step, trying, Starts, Keeps, all_map, begun_row, commits_phase, next_ended, next_place, picks_phase, row_split, shown_same, starts_phase, waited_keeps, HasSeen, HasMade, IsBusyAt, SeatAfter, SeatTried, TriesTo, WasBusy, IsMadeIn}
 use mathlib.Core.List.{IsPrefix}
 use Rattle.jc_types.specs.declared.refusal.Refusal.TheVariants as refusal
 use Rattle.jc_types.specs.Refusals.{is_put_off}
@@ -110,9 +110,9 @@ module _ {G L : Type 0} (law : PhaseLaws) (behind : StepsBehind) (caller : Calle
       let turn = turn_lent law caller.session (committing r asked done) g v last h u (seen.seat.session ∙ mine) seen.seat.free (waited_keeps law caller.session _ _) lent y (phase_as r.caller caller y.found y.left who (commits_phase r asked done y.found y.left y.made)) in
       let p = earlier caller.session t.1 v.1 y.found y.left u.1 seen turn.1 in
       let adds : AddsOwn caller.session y.found y.left (Step caller op key asked None done.reply) done.place =
-      subst (λ (z : Caller × Op × Bytes). AddsOwn z.0.session y.found y.left (Step z.0 z.1 z.2 asked None done.reply) done.place) (λ i. (who i, op_is i, key_is i)) (law.own_steps.commits y.found y.left r asked done p.reached y.made) in
+      subst (λ (z : Caller × Op × Bytes). AddsOwn z.0.session y.found y.left (Step z.0 z.1 z.2 asked None done.reply) done.place) (λ i. (who i, op_is i, key_is i)) (law.own_steps.ends y.found y.left r asked done p.reached y.made) in
       let next_is : IsNext y.found key place u.1.front =
-      subst (λ (z : Bytes × List Event). IsNext y.found z.0 place z.1) (λ i. (key_is i, sym p.front_is i)) (next_place (after_commit y.found r done.place) y.left r.caller r.key r.op asked _ done y.made.1) in
+      subst (λ (z : Bytes × List Event). IsNext y.found z.0 place z.1) (λ i. (key_is i, sym p.front_is i)) (next_ended y.found y.left r asked done y.made) in
       subst (λ (e : Result Reply Refusal). CallLeft t caller key op asked e first y.found u) (sym ends.1) (record {
         lock = turn.0 ∙ lock;
         seat = record { out = asked; shared_with = None; place = place; asked_for = refl; made = added caller.session t.1 y.found y.left u.1 (Step caller op key asked None done.reply) done.place p adds };
@@ -165,7 +165,7 @@ not_so true never = absurd (never refl)
 not_so false never = refl
 
 busy_at : (caller : Caller) (key : Bytes) (op : Op) (a b : State) → StartWaits Alone caller key op a b → IsBusyAt caller key op a b
-busy_at caller key op a b x = (⊎_elim (λ never. not_so _ never) (λ put_off. absurd (true≢false (sym put_off.put_off))) x.why, x.renewed)
+busy_at caller key op a b x = (⊎_elim (λ never. not_so _ never) (λ put_off. absurd (true≢false (sym put_off.put_off))) x.why, x.way)
 
 no_more : (n : ℕ) → n ≡ n + 0
 no_more n = omega arith

@@ -19,7 +19,7 @@ pub use Rattle.jc_cache.specs.Generations.{GenerationsFollow, IsEndOf}
 pub use Rattle.jc_cache.specs.Meeting.{AreSessionSeats, IsSessionSeat, KeepRow, TellEach, TellsAt}
 pub use Rattle.jc_cache.specs.Sessions.{BeginsAt, Completes, GoesOn, HoldsNothing, IsGivenOut, IsOf, IsSeatAt, MayCall, own_total}
 pub use Rattle.jc_cache.specs.Turns.{HasLent, looking}
-pub use Rattle.jc_engine.proofs.CallerLemmas.{Keeps, all_append, all_map, all_split, begun_row, call_in, commits_phase, counted_longer, lent_grows, next_place, once, picks_phase, row_split, shown_same, starts_phase, steps_in, waited_keeps}
+pub use Rattle.jc_engine.proofs.CallerLemmas.{Keeps, all_append, all_map, all_split, begun_row, call_in, commits_phase, counted_longer, forgets_keep, lent_grows, next_ended, next_place, once, picks_phase, row_split, shown_same, starts_phase, steps_in, waited_keeps}
 pub use Rattle.jc_engine.specs.Doors.{HasTried, IsReady, Misses, waiting}
 pub use Rattle.jc_engine.specs.Entering.{ended_with}
 pub use Rattle.jc_engine.specs.Needs.{BeginsIfClear, CommitsHere, IsReported, PicksUpBy, PicksUpLate, Starts, StartsAt}
@@ -43,7 +43,7 @@ pub use Rattle.jc_session.specs.declared.agent.Agent.{Agent}
 pub use Rattle.jc_session.specs.declared.session.Session.{Session}
 pub use Rattle.jc_stripe.proofs.CallerLemmas.{adds_whole, call_below, gains_whole, may_in_all, once_unless_shared, opened_len, own_stay, put_off_or_full, whole_goes_on}
 pub use Rattle.jc_stripe.specs.Generations.{IsChain, IsOfSameStripe, past_events, present_generation, whole_history, whole_place}
-pub use Rattle.jc_stripe.specs.OnePhase.{GainsOwn, IsPhaseOf, IsUniform, is_own_step, own_steps}
+pub use Rattle.jc_stripe.specs.OnePhase.{Forgetting, GainsOwn, IsPhaseOf, IsUniform, is_own_step, own_steps}
 pub use Rattle.jc_stripe.specs.OwnSteps.{AddsOwn, HasOneMore, OwnNumbers, StepsBehind, is_before_call, may_come_all}
 pub use Rattle.jc_stripe.specs.Phases.{after_commit, begun_with, polled_with}
 pub use Rattle.jc_stripe.specs.Reached.{IsReached}

@@ -20,3 +20,4 @@ pub mod Increments
 pub mod Enlisted
 pub mod Following
 pub mod Rooms
+pub mod Forgotten

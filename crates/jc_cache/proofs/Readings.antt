@@ -1,11 +1,11 @@
--- What a session reads of what a cache counts.
---     ReadBelow, read_next, read_all    the first stripes were read, one more, and all
+-- What a session does at one stripe after another, and what it reads there of what a cache counts.
+--     DoneBelow, done_next, done_all    it was done at the first stripes, at one more, and at all
 --     take_set                          the first seats of a row, with the next one replaced
 --     occurred_snoc                     what occurred in stripes with one more
 --     counted_next, counted_all         what the first stripes count, with one more, and what all count
 --     stripes_next, stripes_all         the same of the states of stripes
---     read_may                          a session that has read may call as before
-use Rattle.jc_cache.proofs.Common.{◌≡◌, ◌+◌, ◌<◌, ◌≤◌, ℕ, zero, suc, Some, List, [], ◌∷◌, ◌++◌, length, set, take, slice_get, refl, sym, ap, subst, subst₂, ◌∙◌, le_refl, add-one, arith, append_assoc, append-nil, same_Some, slice_get_within, map-append, TableId, Occurrence, statistics_of, together, StatisticsLaws, State, CacheState, noted_by, HasRead, HasReadEach, occurred_in, KeepRow, MayCall, Session}
+--     done_may                          a session that has seen more by that may call as before
+use Rattle.jc_cache.proofs.Common.{◌≡◌, ◌+◌, ◌<◌, ◌≤◌, ℕ, zero, suc, Some, List, [], ◌∷◌, ◌++◌, length, set, take, slice_get, refl, sym, ap, subst, subst₂, ◌∙◌, le_refl, add-one, arith, append_assoc, append-nil, same_Some, slice_get_within, map-append, TableId, Occurrence, statistics_of, together, StatisticsLaws, State, CacheState, noted_by, HasSeen, View, occurred_in, KeepRow, MayCall, Session}
 use mathlib.Core.Logic.{dite}
 use native.Mathlib.Decide.{ℕ_discrete}
 use Rattle.jc_model.specs.declared.statistics.Statistics.{Statistics}
@@ -13,22 +13,23 @@ use Rattle.jc_stripe.specs.Occurrences.{all_occurrences}
 use Rattle.jc_cache.proofs.Rows.{Seated, length_locks, seat_there}
 use Rattle.jc_cache.proofs.Meetings.{HasRest, got_set, got_other, may_stay}
 
--- 1. Which stripes were read.
+-- 1. At which stripes something was done.
 
-abbrev pub ReadBelow : ℕ → List Seated → List Seated → Type 0
-ReadBelow n xs ys = (i : ℕ) (a b : Seated) → i < n → slice_get xs i ≡ Some a → slice_get ys i ≡ Some b → HasRead a.1 b.1
+abbrev pub DoneBelow : (View → View → Type 0) → ℕ → List Seated → List Seated → Type 0
+DoneBelow did n xs ys = (i : ℕ) (a b : Seated) → i < n → slice_get xs i ≡ Some a → slice_get ys i ≡ Some b → did a.1 b.1
 
-pub read_next : (xs ys : List Seated) (n : ℕ) (a b : Seated) → slice_get ys n ≡ Some a → HasRest n xs ys → HasRead a.1 b.1 → ReadBelow n xs ys → ReadBelow (n + 1) xs (set ys n b)
-read_next xs ys n a b at rest read below i x y near at_x at_y =
+pub done_next : (did : View → View → Type 0) (xs ys : List Seated) (n : ℕ) (a b : Seated) → slice_get ys n ≡ Some a → HasRest n xs ys → did a.1 b.1 → DoneBelow did n xs ys → DoneBelow did (n + 1) xs (set ys n b)
+done_next did xs ys n a b at rest done below i x y near at_x at_y =
     dite (ℕ_discrete i n)
     (λ e.
     let is_x : a ≡ x = same_Some a x (sym at ∙ rest n (le_refl n) ∙ ap (slice_get xs) (sym e) ∙ at_x) in
     let is_y : b ≡ y = same_Some b y (sym (got_set ys n a b at) ∙ ap (slice_get (set ys n b)) (sym e) ∙ at_y) in
-    subst₂ (λ (p q : Seated). HasRead p.1 q.1) is_x is_y read)
+    subst₂ (λ (p q : Seated). did p.1 q.1) is_x is_y done)
     (λ ne. below i x y (omega arith) at_x (sym (got_other ys n i b ne) ∙ at_y))
 
-pub read_all : (xs ys : List Seated) (n : ℕ) (locks : List TableId) → length xs ≡ length locks → length locks ≤ n → ReadBelow n xs ys → HasReadEach xs ys
-read_all xs ys n locks long le below i a b at_a = let near = slice_get_within xs i a at_a in below i a b (omega arith) at_a
+pub done_all : (did : View → View → Type 0) (xs ys : List Seated) (n : ℕ) (locks : List TableId) → length xs ≡ length locks → length locks ≤ n → DoneBelow did n xs ys
+    → (i : ℕ) (a b : Seated) → slice_get xs i ≡ Some a → slice_get ys i ≡ Some b → did a.1 b.1
+done_all did xs ys n locks long le below i a b at_a = let near = slice_get_within xs i a at_a in below i a b (omega arith) at_a
 
 -- 2. What they count.
 
@@ -96,10 +97,11 @@ stripes_all states n total le is = is ∙ ap (λ (l : List State). statistics_of
 
 -- 3. The session.
 
-pub read_may : {I J : Type 0} {D : I → Type 0} {E : J → Type 0} → (cache : CacheState) (old new : Session I J D E) → MayCall cache old → new.agent ≡ old.agent
-    → KeepRow old.seats.items new.seats.items → HasReadEach old.seats.items new.seats.items → MayCall cache new
-read_may cache old new may agent row reads =
+pub done_may : {I J : Type 0} {D : I → Type 0} {E : J → Type 0} → (did : View → View → Type 0) → ((v w : View) → did v w → HasSeen v w) → (cache : CacheState) (old new : Session I J D E) → MayCall cache old
+    → new.agent ≡ old.agent → KeepRow old.seats.items new.seats.items
+    → ((i : ℕ) (a b : Seated) → slice_get old.seats.items i ≡ Some a → slice_get new.seats.items i ≡ Some b → did a.1 b.1) → MayCall cache new
+done_may did seen cache old new may agent row each =
     may_stay cache old new may agent row (λ i b at.
     let near : i < length cache.locks = subst (λ (n : ℕ). i < n) (length_locks new.seats.items cache.locks (row.locks ∙ may.own.locks)) (slice_get_within new.seats.items i b at) in
     let a = seat_there old.seats.items i (subst (λ (n : ℕ). i < n) (sym (length_locks old.seats.items cache.locks may.own.locks)) near) in
-    (a.0, a.1, (reads i a.0 b a.1 at).on))
+    (a.0, a.1, seen a.0.1 b.1 (each i a.0 b a.1 at)))

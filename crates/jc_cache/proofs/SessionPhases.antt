@@ -3,6 +3,7 @@
 --     holds_nothing            a session of a cache holds nothing between two calls
 --     of_asked                 a session that has asked its loader or its writer is of the cache as before
 --     start_needs, commit_needs    what a first phase and a commit ask of the stripe that they find
+--     seat_phase               the phase at a seat
 --     phase_left               a phase: what is said of the session, which is of the cache as before
 --     phase_map                a phase that says less
 --     look_lent                a look is a phase in which nothing was done
@@ -62,7 +63,7 @@ seat_longer law session counted found left v w l is =
     ∙ ap (λ (es : List Event). length es + steps_in counted) l.own
 
 module _ {G : Type 0} where
-  seat_phase : PhaseLaws → (session : ℕ) (turn : Turn) (g : G) (t : Seated) (h : G) (u : Seated) → t.1.session ≡ Some session → t.1.holds ≡ false → ((a b : State) → turn.waits a b → Keeps session a b)
+  pub seat_phase : PhaseLaws → (session : ℕ) (turn : Turn) (g : G) (t : Seated) (h : G) (u : Seated) → t.1.session ≡ Some session → t.1.holds ≡ false → ((a b : State) → turn.waits a b → Keeps session a b)
       → (x : LentPhase lock_takes lock_gives lock_finds session g t turn h u) → (u.0 ≡ t.0) × Lending session t.1 x.did.found x.did.left u.1 × SeatPhase session t.1 turn u.1
   seat_phase law session turn g t h u mine free waits x =
       let did = x.did in

@@ -1,4 +1,4 @@
--- Whole calls on a cache.
+-- The whole calls of `Cache`: what its session has seen, who was asked, and what is left (`Returns`).
 --     AtStripe    a session's seat at the stripe of a key goes from one view to another, and its other seats are unchanged
 --     CallsAt     a session's current call, whole, at a key, with this end: what its seat has seen; its lendings, turn by turn,
 --                 each between what the seat had seen and what it has seen; and the calls of its loader and writer, whose types

@@ -13,7 +13,8 @@
 --     SeatAfter      a whole call: its step was made; or it was refused with `HistoryFull`, as the noted state refuses it, and
 --                    the front is that state's whole history
 --     IsBusyAt       a call that never waits couldn't be made on what was found without waiting or asking; the stripe was given
---                    back as it was, or with its generation ended, exactly if that was full and might end
+--                    back as it was, but made way: with its generation ended, exactly if that was full and might end; or swept,
+--                    if it was shut
 --     WasBusy        such a call couldn't be made at any of its tries, and how often somebody else had the stripe
 --     TriesTo        its first phase, at the first try, or at the second if a generation stood in the way of the first
 --     SeatTried      such a call: its step was made; it was refused as `Busy`; or it was refused as the noted state refuses it,
@@ -36,14 +37,13 @@ use Rattle.jc_stripe.specs.State.{State}
 use Rattle.jc_stripe.specs.Generations.{past_events, whole_history, IsOfSameStripe}
 use Rattle.jc_stripe.specs.Reached.{IsReached}
 use Rattle.jc_stripe.specs.Refusals.{first_refusal}
-use Rattle.jc_stripe.specs.Renewal.{RenewsIfFull}
 use Rattle.jc_stripe.specs.Outcomes.{Begun, StepDone}
 use Rattle.jc_stripe.specs.Outcomes as begun
 use Rattle.jc_stripe.specs.Tests.{asks_outside}
 use Rattle.jc_stripe.specs.OwnSteps.{HasOneMore}
 use Rattle.jc_lock.specs.declared.view.View.{View}
 use Rattle.jc_engine.specs.Rows.{AllLend, IsTurn}
-use Rattle.jc_engine.specs.Doors.{AreTries, IsAgain}
+use Rattle.jc_engine.specs.Doors.{AreTries, IsAgain, MakesWay}
 use Rattle.jc_engine.specs.Needs.{can_start}
 use Rattle.jc_engine.specs.Turns.{trying}
 use Rattle.jc_engine.specs.declared.first.How.TheVariants.{Alone}
@@ -99,7 +99,7 @@ SeatAfter before caller key op asked (Err refusal) after =
     HasSeen before after × (asked ≡ nothing_said) × (refusal ≡ HistoryFull) × (first_refusal after.noted caller key op ≡ Some refusal) × HasAllSeen after
 
 abbrev pub IsBusyAt : Caller → Bytes → Op → State → State → Type 0
-IsBusyAt caller key op found left = (can_start Alone found caller key op ≡ false) × RenewsIfFull found left
+IsBusyAt caller key op found left = (can_start Alone found caller key op ≡ false) × MakesWay found left
 
 pub record WasBusy (before : View) (caller : Caller) (key : Bytes) (op : Op) (after : View) : Type 0 where
   pub row : List (State × State)

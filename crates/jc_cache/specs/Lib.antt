@@ -12,3 +12,4 @@ pub mod CacheInside
 pub mod Counting
 pub mod Generations
 pub mod Turns
+pub mod Forgetting

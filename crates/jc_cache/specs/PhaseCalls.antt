@@ -1,4 +1,4 @@
--- The phase calls of a cache, of which whole calls are made.
+-- The calls of `Cache` that make one phase each (`start`, `commit_load`, `pick_up`, ..): what each leaves of its session.
 --     SeatPhase     one phase of the session on the stripe that its seat has taken, and the state that it left, which the view
 --                   notes; before the phase the session has only waited
 --     PhaseAt       a phase call at the stripe with a number

@@ -11,7 +11,8 @@ use Rattle.jc_model.specs.Cache.{Bytes}
 use Rattle.jc_model.specs.declared.event.Op.{Op}
 use Rattle.jc_stripe.specs.Keys.{Looks}
 use Rattle.jc_stripe.specs.State.{State, IsJoined, IsOut}
-use Rattle.jc_stripe.specs.Phases.{PicksUp, Withdraws}
+use Rattle.jc_stripe.specs.Phases.{PicksUp}
+use Rattle.jc_stripe.specs.Invalidating.{GivesBack}
 use Rattle.jc_stripe.specs.Tickets.{JoinClaim}
 use Rattle.jc_stripe.specs.Outcomes.{Begun}
 use Rattle.jc_stripe.specs.Polled.{Polled}
@@ -37,7 +38,7 @@ abbrev pub picking_late : JoinClaim → Polled → Turn
 picking_late join picked = turn_of (HasWaited (λ a. IsJoined a join) (IsTooEarly true join)) (λ a b. PicksUpLate a join picked b)
 
 abbrev pub withdrawing : Reservation → Turn
-withdrawing r = turn_of (HasWaited (λ a. IsOut a r) (λ a. ⊥)) (λ a b. Withdraws a r b)
+withdrawing r = turn_of (HasWaited (λ a. IsOut a r) (λ a. ⊥)) (λ a b. GivesBack a r b)
 
 abbrev pub looking : List Bytes → List Bytes → Turn
 looking old new = turn_of (λ a b. ⊥) (λ a b. (b ≡ a) × Looks a old new)

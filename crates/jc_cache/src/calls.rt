@@ -9,6 +9,7 @@
 //!
 //! - while another phase is made on the key's stripe;
 //! - until a key that another call has reserved is free (`Busy`);
+//! - while the stripe is shut after an invalidation (`Busy`): the call itself evicts its entries, one after another;
 //! - until fewer than `RESERVATIONS_MAX` keys of the stripe are reserved (`TooManyInFlight`), or fewer than `JOINERS_MAX` calls
 //!   have joined a load there (`TooManyJoiners`);
 //! - for the answer of a load that it has joined;

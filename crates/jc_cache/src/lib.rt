@@ -19,6 +19,7 @@ mod calls;
 mod closing;
 mod counting;
 mod enlisting;
+mod forgetting;
 mod generations;
 pub mod laws;
 mod meeting;

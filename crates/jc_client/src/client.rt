@@ -7,6 +7,7 @@ ghost use Rattle.jc_model.specs.Statistics.{statistics_of};
 ghost use Rattle.jc_cache.specs.Caches.{noted_by};
 ghost use Rattle.jc_client.specs.Clients.{OnSameCache};
 ghost use Rattle.jc_cache.specs.Counting.{Reads, occurred_in};
+ghost use Rattle.jc_cache.specs.Forgetting.{HasInvalidated, HasInvalidatedAll};
 ghost use Rattle.jc_cache.specs.Generations.{EndsAt, IsEndOf};
 ghost use Rattle.jc_cache.specs.Meeting.{Meets};
 ghost use Rattle.jc_cache.specs.Sessions.{IsOf, MayCall};
@@ -16,7 +17,7 @@ mod trying;
 
 use jc_cache::{Cache, Session};
 use jc_model::{Event, Statistics};
-use jc_types::Caller;
+use jc_types::{Caller, Key};
 use std::alloc::AllocError;
 use std::sync::Wait;
 
@@ -116,6 +117,26 @@ impl<'a> Client<'a> {
         }
         self.cache
             .end_generation(rt, &mut self.session, stripe, out)
+    }
+
+    /// Forgets a key that somebody else has written in the store, as by [`Cache::invalidate`]: no call that begins later is answered
+    /// from what is cached or reserved of it now.
+    ///
+    /// It is never refused, asks nobody and takes no memory. It waits for nothing but the stripe, while a phase is made there.
+    pub fn invalidate<R: Wait>(&mut self, rt: &R, key: &Key)
+        ensures { OnSameCache self.old.cache self.new.cache
+            (HasInvalidated self.old.cache.now self.old.session key.now self.new.session) }
+    {
+        self.cache.invalidate(rt, &mut self.session, key);
+    }
+
+    /// Forgets all keys, as by [`Cache::invalidate_all`].
+    ///
+    /// It is never refused, asks nobody and takes no memory. It waits for nothing but the stripes, while a phase is made there.
+    pub fn invalidate_all<R: Wait>(&mut self, rt: &R)
+        ensures { OnSameCache self.old.cache self.new.cache (HasInvalidatedAll self.old.session self.new.session) }
+    {
+        self.cache.invalidate_all(rt, &mut self.session);
     }
 
     /// Makes two clients of one cache meet: afterwards the hearer knows all that this client knows of the cache, as by

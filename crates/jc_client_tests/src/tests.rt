@@ -108,6 +108,17 @@ fn try_all<R: Abort>(rt: &R, client: &mut Client<'_>, t: &Texts)
     is(rt, client.try_contains_key(&t.b), Ok(true));
 }
 
+/// A key is forgotten, and then all are. It is no step, and isn't counted as an eviction.
+fn forget<R: Abort + Wait>(rt: &R, client: &mut Client<'_>, t: &Texts)
+    requires { Unit {0} }
+{
+    client.invalidate(rt, &t.b);
+    is(rt, client.try_contains_key(&t.b), Ok(false));
+    client.invalidate_all(rt);
+    is(rt, client.statistics(rt).evictions, 0);
+    is(rt, client.own(), 21);
+}
+
 /// What the calls above count, of which `invoke` is one put.
 fn count<R: Abort + Wait>(rt: &R, alloc: Global, client: &mut Client<'_>)
     requires { Unit {0} }
@@ -144,6 +155,7 @@ fn call_each<R: Abort + Wait>(
     client.skip_to(30);
     is(rt, client.get(rt, &t.b), Ok(Some(three)));
     is(rt, client.caller().call, 30);
+    forget(rt, client, &t);
     count(rt, alloc, client);
 }
 

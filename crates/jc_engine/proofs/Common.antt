@@ -5,9 +5,9 @@ pub use Rattle.std.proofs.lemmas.List.{length-append}
 pub use Rattle.jc_engine.specs.Answered.{CallAnswer, IsAnswered, Loaded, Processed, Written, out_of}
 pub use Rattle.jc_engine.specs.Asking.{AsksLoader, AsksWriter, KeepsTypes, change_wanted, own_after}
 pub use Rattle.jc_engine.specs.Calls.{AsksAndEnds, Enters, IsCall, TriesTo}
-pub use Rattle.jc_engine.specs.Doors.{AreTries, HasTried, HasTriedOnce, HasWaited, IsAgain, IsLeft, IsReady, KeepsAccess}
+pub use Rattle.jc_engine.specs.Doors.{AreTries, HasTried, HasTriedOnce, HasWaited, IsAgain, IsLeft, IsReady, KeepsAccess, MakesWay}
 pub use Rattle.jc_engine.specs.Entering.{counts_entered, ended_with}
-pub use Rattle.jc_engine.specs.Needs.{BeginsIfClear, HasMissed, Hits, IsReported, Starts, StartsBy, can_start, counted_hit, is_alone, is_early, puts_off}
+pub use Rattle.jc_engine.specs.Needs.{BeginsIfClear, HasMissed, Hits, IsReported, Starts, StartsBy, can_start, counted_hit, is_alone, is_blocked, is_early, puts_off}
 pub use Rattle.jc_engine.specs.Rows.{AllLend, IsLending, IsTurn, LentPhase, PhaseLaws, Row, Turn, turn_of}
 pub use Rattle.jc_engine.specs.Turns.{AreRejoins, EndsBy, IsBegunRow, IsCallRow, IsRejoin, StartWaits, committing, picking, starting, state_decided, state_found, state_of_step, trying}
 pub use Rattle.jc_engine.specs.declared.first.How.{How}
@@ -31,16 +31,17 @@ pub use Rattle.jc_session.specs.Boxed.{boxed}
 pub use Rattle.jc_session.specs.Counting.{IsCounted, counted_begun, counted_polled, counted_started, counts_after, counts_ended, one_more}
 pub use Rattle.jc_session.specs.declared.agent.Agent.{Agent}
 pub use Rattle.jc_session.specs.declared.counts.Counted.TheVariants.{Answered, Committed, Joined, Nothing, Reserved, Retried, Withdrawn}
-pub use Rattle.jc_stripe.proofs.CallerLemmas.{adds_one, ask_found, gains_one, invokes, of_same, own_stay, stands_at, stays_alone, stays_or_renews, whole_goes_on}
+pub use Rattle.jc_stripe.proofs.CallerLemmas.{adds_one, ask_found, gains_one, invokes, of_same, own_stay, stands_at, whole_goes_on}
 pub use Rattle.jc_stripe.specs.Generations.{IsChain, IsOfSameStripe, first_opening, opening_after, past_events, present_generation, whole_history, whole_place}
-pub use Rattle.jc_stripe.specs.OnePhase.{IsPhaseOf, is_own_step, own_steps}
+pub use Rattle.jc_stripe.specs.Invalidating.{Ends, GivesBack, Sweeps, after_sweep, end_with, has_place, sweep, told_drop, without_entry}
+pub use Rattle.jc_stripe.specs.OnePhase.{Forgetting, IsPhaseOf, is_own_step, own_steps}
 pub use Rattle.jc_stripe.specs.Outcomes.{Asks, Begun, Done, StepDone}
 pub use Rattle.jc_stripe.specs.OwnSteps.{CallerNumbers, HasOneMore, JoinsOnlyLoads, OwnSteps, WholeCall, may_come_all}
 pub use Rattle.jc_stripe.specs.Phases.{Begins, Commits, MayBegin, PicksUp, Steps, begun_with, hit_done, is_other_call, is_other_join, new_group, polled_with, with_reply}
 pub use Rattle.jc_stripe.specs.Reached.{IsReached}
-pub use Rattle.jc_stripe.specs.Refusals.{first_asked, first_by, has_room, is_wanted, load_joined, may_join, reserves}
-pub use Rattle.jc_stripe.specs.Renewal.{Renewal, Renews, RenewsIfFull, StaysOrRenews, all_own_steps, is_renewable}
-pub use Rattle.jc_stripe.specs.State.{Generation, IsIdle, State, is_key, is_of}
+pub use Rattle.jc_stripe.specs.Refusals.{first_asked, first_by, first_refusal, is_wanted, load_joined, may_hit, may_join, reserves}
+pub use Rattle.jc_stripe.specs.Renewal.{Renewal, Renews, StaysOrRenews, all_own_steps, can_renew, is_full, is_renewable}
+pub use Rattle.jc_stripe.specs.State.{Generation, IsIdle, State, is_barred, is_key, is_marked, is_of}
 pub use Rattle.jc_stripe.specs.Tickets.{Claim, JoinClaim, TicketClaim, asks_loader, asks_processor, asks_writer, change_asked, claim_of, entry_seen, is_loadable}
 pub use Rattle.jc_stripe.specs.declared.begun.Started.{Started}
 pub use Rattle.jc_stripe.specs.declared.ticket.First.{First}

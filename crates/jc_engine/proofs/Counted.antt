@@ -54,8 +54,10 @@ counted_longer law counted session old new reached (inr (inl first)) =
     let f = first.0 in moved f.caller.session session _ counted old new f.own first.1 (begun_longer law f.caller f.key f.op f.begun old new f.may f.begins)
 counted_longer law counted session old new reached (inr (inr (inl last))) =
     let l = last.0 in moved l.reservation.caller.session session Committed counted old new l.own last.1
-    (one_longer _ _ _ (adds_one l.reservation.caller.session old new (Step l.reservation.caller l.reservation.op l.reservation.key l.out None l.done.reply) l.done.place (law.commits old new l.reservation l.out l.done reached l.commits)))
+    (one_longer _ _ _ (adds_one l.reservation.caller.session old new (Step l.reservation.caller l.reservation.op l.reservation.key l.out None l.done.reply) l.done.place (law.ends old new l.reservation l.out l.done reached l.ends)))
 counted_longer law counted session old new reached (inr (inr (inr (inl pick)))) =
     let p = pick.0 in moved p.join.caller.session session _ counted old new p.own pick.1 (picked_longer law p.join p.picked old new reached p.picks_up)
-counted_longer law counted session old new reached (inr (inr (inr (inr back)))) =
-    moved session session Withdrawn counted old new (λ i. session) back.1 (as_long session old new (law.withdraws old new session back.0.reservation back.0.withdraws))
+counted_longer law counted session old new reached (inr (inr (inr (inr (inl back))))) =
+    moved session session Withdrawn counted old new (λ i. session) back.1 (as_long session old new (law.gives_back old new session back.0.reservation reached back.0.gives_back))
+counted_longer law counted session old new reached (inr (inr (inr (inr (inr forgets))))) =
+    moved session session Nothing counted old new (λ i. session) forgets.1 (as_long session old new (law.forgets old new session reached forgets.0))

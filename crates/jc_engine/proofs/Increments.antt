@@ -7,10 +7,11 @@ use Rattle.jc_engine.proofs.Common.{◌≡◌, ◌==◌, ◌&&◌, ◌+◌, ⊎_
 use Rattle.std.specs.Ordering.{eq_by_cmp}
 use Rattle.std.specs.Cmp.{eq_by_cmp_equiv}
 use Rattle.std.specs.Cmp.Lexicographic.{pointwise, same_text, texts_ties}
-use Rattle.std.specs.FinMap.{find, from_entries, get-from_entries}
+use Rattle.std.specs.FinMap.{find, from_entries, get-from_entries, remove}
 use Rattle.std.proofs.Math.Seq.{take-append_seam}
 use Rattle.std.proofs.lemmas.Cmp.{nat_list_cmp_total}
 use Rattle.std.proofs.lemmas.List.Sums.{sum_by-append}
+use Rattle.jc_model.specs.Group.{Part, Made, Dropped}
 use Rattle.jc_model.specs.Lawful.{AreLawful, IsLawful}
 use Rattle.jc_model.specs.Legal.{IsHistory, event_key}
 use Rattle.jc_model.specs.Listed.{others, with_entry_first}
@@ -183,13 +184,14 @@ group_by config cache place g x =
     (both_by config (victim_events g.victim) (step_event g ∷ shared) (victim_by config g.victim) (step, shared_by config (step_place place g) g.step.key g.step.out.load g.joined))
     (evicted_by config g.step.key g.evicted)
 
-groups_by : (config : Config) (cache : Cache) (place : ℕ) (gs : List Group) → AreLawful config cache gs → AreByTable config (history_of place gs)
-groups_by config cache place [] x = tt
-groups_by config cache place (g ∷ gs) x =
-    both_by config (events_of place g) (history_of (place + length (events_of place g)) gs) (group_by config cache place g x.0) (groups_by config (cache_after_group cache g) (place + length (events_of place g)) gs x.1)
+parts_by : (config : Config) (cache : Cache) (place : ℕ) (parts : List Part) → AreLawful config cache parts → AreByTable config (history_of place parts)
+parts_by config cache place [] x = tt
+parts_by config cache place (Made g ∷ parts) x =
+    both_by config (events_of place g) (history_of (place + length (events_of place g)) parts) (group_by config cache place g x.0) (parts_by config (cache_after_group cache g) (place + length (events_of place g)) parts x.1)
+parts_by config cache place (Dropped key ∷ parts) x = (tt, parts_by config (remove cache key) (place + 1) parts x.1)
 
 history_by : (config : Config) (cache : Cache) (events : List Event) (next : Cache) → IsHistory config cache events next → AreByTable config events
-history_by config cache events next x = subst (λ (es : List Event). AreByTable config es) (sym x.spelled) (groups_by config cache 0 x.groups x.lawful)
+history_by config cache events next x = subst (λ (es : List Event). AreByTable config es) (sym x.spelled) (parts_by config cache 0 x.parts x.lawful)
 
 past_by : (config : Config) (gs : List Generation) (entries : List (Bytes × Bytes)) → IsChain config gs entries → AreByTable config (past_events gs)
 past_by config [] entries chain = tt

@@ -3,9 +3,12 @@
 --     all_split, call_in        of the parts of a row; and of the states that decide a call
 --     turn_map, lent_map        a turn that says less
 --     comes_itself, comes_on    a state comes after itself; one after the other
+--     way_by, way_apart         who makes way makes at most one phase of no session, or renews
 --     comes_left                what is left without a phase comes after what was found
 --     GrowsTo, lent_grows       so does what each lending leaves, but for own steps
 --     Keeps                     a lending leaves the session's own steps
+--     forgets_keep, way_keeps   so does a phase of no session, and who makes way
+--     comes_way                 what is left after that comes after what was found
 --     waited_keeps, start_keeps, turn_keeps, rejoins_keep, begun_row, asked_keeps
 --                               so does one in which the session waited, each lending of a turn whose phase leaves them, and each one of a
 --                               call that was told to retry, before its first phase, or up to where it has somebody to ask
@@ -16,7 +19,7 @@
 --     begun_since               what a call's first phase found
 --     starts_phase, commits_phase, picks_phase
 --                               what each phase of a call is: one phase of its session
-use Rattle.jc_engine.proofs.Common.{◌≡◌, ◌⊎◌, ⊎_elim, inl, inr, ℕ, zero, suc, List, [], ◌∷◌, ◌++◌, refl, sym, ap, subst, ◌∙◌, append_assoc, append-nil, le_refl, arith, ◌≤◌, Result, Caller, Refusal, Bytes, Op, Get, Out, Reply, State, IsReached, whole_history, present_generation, IsOfSameStripe, IsPhaseOf, Begins, Commits, PicksUp, Renewal, Renews, StaysOrRenews, all_own_steps, JoinClaim, TicketClaim, Begun, StepDone, Reservation, of_same, whole_goes_on, own_stay, stays_or_renews, ComesAfter, AllLend, IsLending, IsTurn, LentPhase, PhaseLaws, Row, Turn, HasWaited, IsLeft, HasMissed, StartsBy, AreRejoins, EndsBy, IsBegunRow, IsCallRow, IsRejoin, StartWaits, committing, picking, starting, state_decided, state_found, state_of_step, How, Waits}
+use Rattle.jc_engine.proofs.Common.{◌≡◌, ◌⊎◌, ⊎_elim, inl, inr, ℕ, zero, suc, List, [], ◌∷◌, ◌++◌, refl, sym, ap, subst, ◌∙◌, append_assoc, append-nil, le_refl, arith, ◌≤◌, Result, true, false, Caller, Refusal, Bytes, Op, Get, Out, Reply, State, IsReached, whole_history, present_generation, IsOfSameStripe, Ends, Forgetting, IsPhaseOf, Begins, PicksUp, Renewal, Renews, StaysOrRenews, all_own_steps, is_renewable, JoinClaim, TicketClaim, Begun, StepDone, Reservation, of_same, whole_goes_on, own_stay, ComesAfter, AllLend, IsLending, IsTurn, LentPhase, PhaseLaws, Row, Turn, HasWaited, IsLeft, MakesWay, HasMissed, StartsBy, AreRejoins, EndsBy, IsBegunRow, IsCallRow, IsRejoin, StartWaits, committing, picking, starting, state_decided, state_found, state_of_step, How, Waits}
 use mathlib.Core.List.{IsPrefix}
 use Rattle.jc_stripe.specs.Polled.{Polled}
 use Rattle.jc_stripe.specs.Outcomes as begun
@@ -85,6 +88,20 @@ comes_left law session a b reached = ⊎_elim
     let u = law a b reached renews in
     record { same = u.same; front = subst (IsPrefix (whole_history a)) (sym u.whole) ([], append-nil (whole_history a)); next = (let e = u.next in omega arith); ended = subst (λ (z : State). IsPrefix a.ended z.ended) (sym renews.after) (present_generation a ∷ [], refl); own = u.own session })
 
+pub way_by : (session : ℕ) (a b : State) → MakesWay a b → IsPhaseOf session a b ⊎ Renews a b
+way_by session a b way =
+    elim (is_renewable a) as (λ r. is_renewable a ≡ r → IsPhaseOf session a b ⊎ Renews a b) [
+      | true ↦ λ is. inr (way.0 is)
+      | false ↦ λ is. inl (inr (inr (inr (inr (inr (inr (inr (way.1 is))))))))
+    ] refl
+
+pub way_apart : (a b : State) → MakesWay a b → StaysOrRenews a b ⊎ Forgetting a b
+way_apart a b way =
+    elim (is_renewable a) as (λ r. is_renewable a ≡ r → StaysOrRenews a b ⊎ Forgetting a b) [
+      | true ↦ λ is. inl (inr (way.0 is))
+      | false ↦ λ is. inr (inr (inr (way.1 is)))
+    ] refl
+
 -- the same but for own steps
 pub record GrowsTo (a b : State) : Type 0 where
   pub same : IsOfSameStripe a b
@@ -110,9 +127,22 @@ comes_lent law session a b reached by own = let g = lent_grows law session a b r
 abbrev pub Keeps : ℕ → State → State → Type 0
 Keeps session a b = IsReached a → all_own_steps session b ≡ all_own_steps session a
 
+pub forgets_keep : PhaseLaws → (session : ℕ) (a b : State) → Forgetting a b → Keeps session a b
+forgets_keep law session a b forgets reached =
+    own_stay session a b (law.one_phase session a b reached (inr (inr (inr (inr (inr forgets)))))).grows.same.ended (law.own_steps.forgets a b session reached forgets)
+
+pub way_keeps : PhaseLaws → (session : ℕ) (a b : State) → MakesWay a b → Keeps session a b
+way_keeps law session a b way reached =
+    elim (is_renewable a) as (λ r. is_renewable a ≡ r → all_own_steps session b ≡ all_own_steps session a) [
+      | true ↦ λ is. (law.renewal a b reached (way.0 is)).own session
+      | false ↦ λ is. forgets_keep law session a b (inr (inr (way.1 is))) reached
+    ] refl
+
+pub comes_way : PhaseLaws → (session : ℕ) (a b : State) → IsReached a → MakesWay a b → ComesAfter session a b
+comes_way law session a b reached way = comes_lent law session a b reached (way_by session a b way) (way_keeps law session a b way reached)
+
 pub waited_keeps : PhaseLaws → (session : ℕ) (due puts_off : State → Type 0) (a b : State) → HasWaited due puts_off a b → Keeps session a b
-waited_keeps law session due puts_off a b x reached =
-    ⊎_elim (λ same. ap (λ (s : State). all_own_steps session s) same) (λ renews. (law.renewal a b reached renews).own session) (stays_or_renews a b x.renewed)
+waited_keeps law session due puts_off a b x = way_keeps law session a b x.way
 
 pub start_keeps : PhaseLaws → (session : ℕ) (caller : Caller) (key : Bytes) (op : Op) (a b : State) → StartWaits Waits caller key op a b ⊎ ((op ≡ Get) × HasMissed caller key a b) → Keeps session a b
 start_keeps law session caller key op a b = ⊎_elim (λ waited. waited_keeps law session _ _ a b waited) (λ missed reached. ap (λ (s : State). all_own_steps session s) missed.1.same)
@@ -179,7 +209,7 @@ module _ {G T : Type 0} (takes gives : G → T → State → G → T → Type 0)
   left_once is_free speaks_for g t a m w h u took found reached speaks x = record {
     lends = record { gate = m; token = w; took = took; reached = reached; gave = x.gave };
     finds_it = found;
-    by = ⊎_elim (λ same. inl (inl same)) (λ renews. inr renews) (stays_or_renews a x.left x.renewed);
+    by = way_by session a x.left x.way;
     next = λ b later. x.next session b speaks later;
   }
 
@@ -219,8 +249,8 @@ module _ {G T : Type 0} (takes gives : G → T → State → G → T → Type 0)
 pub starts_phase : (how : How) (caller : Caller) (key : Bytes) (op : Op) (b : Begun) (old new : State) → StartsBy how caller key op b old new → IsPhaseOf caller.session old new
 starts_phase how caller key op b old new x = inr (inl record { caller = caller; key = key; op = op; begun = b; own = refl; may = x.first.may; begins = x.first.begins })
 
-pub commits_phase : (r : Reservation) (out : Out) (done : StepDone) (old new : State) → Commits old r out done new → IsPhaseOf r.caller.session old new
-commits_phase r out done old new x = inr (inr (inl record { reservation = r; out = out; done = done; own = refl; commits = x }))
+pub commits_phase : (r : Reservation) (out : Out) (done : StepDone) (old new : State) → Ends old r out done new → IsPhaseOf r.caller.session old new
+commits_phase r out done old new x = inr (inr (inl record { reservation = r; out = out; done = done; own = refl; ends = x }))
 
 pub picks_phase : (join : JoinClaim) (p : Polled) (old new : State) → PicksUp old join p new → IsPhaseOf join.caller.session old new
-picks_phase join p old new x = inr (inr (inr (inr record { join = join; picked = p; own = refl; picks_up = x })))
+picks_phase join p old new x = inr (inr (inr (inr (inl record { join = join; picked = p; own = refl; picks_up = x }))))

@@ -1,4 +1,4 @@
--- The outside answer of a call.
+-- What a call was answered outside (by its loader, its writer, its processor), between its first and its last phase.
 --     CallAnswer      the answer of the loader or the writer; or what the processor did, and the writer's report on it, if the
 --                     writer was asked
 --     out_of          the answer, as the outside answers of its step

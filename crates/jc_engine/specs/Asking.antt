@@ -1,4 +1,4 @@
--- The calls outside of a whole call.
+-- What a whole call asks its session's loader and writer, and how often.
 --     change_wanted    the change of the store that the writer table wants after this answer of a processor, with write-through
 --                      on
 --     AsksLoader       the loader's part in a step's outside answers: it was called once, with this key, and answered this; or it

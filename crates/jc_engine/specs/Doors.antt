@@ -4,10 +4,11 @@
 --     FitsGate     a phase is of this session, and each state in which a take may find the stripe has what the phase needs
 --     MakesPhase   the session is ready again, with these counts, after this phase, or after the lendings before it
 --     MakesCall    the session is ready again, after this whole call
---     IsLeft       a stripe that was found in this state is given back without a phase; its generation has ended exactly if it
---                  was full and might end
---     HasWaited    a lending in which the session had to wait: its phase couldn't be made, or was put off; the generation has
---                  ended exactly if it was full and might end
+--     MakesWay     what a session does before it gives back a stripe on which it made no phase: a full generation that may end
+--                  has ended; otherwise a shut stripe has evicted an entry, or is open again, if that can be
+--     IsLeft       a stripe that was found in this state is given back without a phase of the session, but made way
+--     HasWaited    a lending in which the session had to wait: its phase couldn't be made, or was put off; the stripe was given
+--                  back as it was, but made way
 --     waiting      the turn of a phase that waits like this
 --     IsAgain      no lending, or one whose generation stood in the way
 --     AreTries     the tries of a phase, and how often somebody else had the stripe: one, and one more if a generation stood in
@@ -18,8 +19,9 @@
 --                  flag says whether a generation stood in the way
 --     HasTried     as `HasTriedOnce`, with one more try if a generation stood in the way: a row of lendings, and perhaps a miss
 use Rattle.std.specs.Prelude.{◌≡◌, ◌⊎◌, ℕ, zero, suc, List, [], ◌∷◌, Bool, true, false, MatchBool}
-use Rattle.jc_stripe.specs.Renewal.{RenewsIfFull, is_renewable}
+use Rattle.jc_stripe.specs.Renewal.{Renews, is_renewable}
 use Rattle.jc_stripe.specs.State.{State}
+use Rattle.jc_stripe.specs.Invalidating.{Sweeps}
 use Rattle.jc_gate.specs.Lending.{ComesAfter}
 use Rattle.jc_session.specs.declared.counts.Counts.{Counts}
 use Rattle.jc_engine.specs.declared.access.Access.{Access}
@@ -51,10 +53,13 @@ module _ {G T I J : Type 0} {D : I → Type 0} {E : J → Type 0} where
     pub ready : IsReady is_free speaks_for new
     pub call : Made
 
+abbrev pub MakesWay : State → State → Type 0
+MakesWay found left = (is_renewable found ≡ true → Renews found left) × (is_renewable found ≡ false → Sweeps found left)
+
 pub record IsLeft {G T : Type 0} (gives : G → T → State → G → T → Type 0) (finds : G → T → State → Type 0) (is_free : G → T → Type 0) (speaks_for : T → ℕ → Type 0) (g : G) (t : T) (found : State) (h : G) (u : T) : Type 0 where
   pub left : State
   pub after : (session : ℕ) → ComesAfter session found left
-  pub renewed : RenewsIfFull found left
+  pub way : MakesWay found left
   pub gave : gives g t left h u
   pub free : is_free h u
   pub speaks : (session : ℕ) → speaks_for t session → speaks_for u session
@@ -63,7 +68,7 @@ pub record IsLeft {G T : Type 0} (gives : G → T → State → G → T → Type
 -- one lending in which the session had to wait
 pub record HasWaited (due puts_off : State → Type 0) (found left : State) : Type 0 where
   pub why : (due found → ⊥) ⊎ puts_off found
-  pub renewed : RenewsIfFull found left
+  pub way : MakesWay found left
 
 abbrev pub waiting : (due puts_off : State → Type 0) → (State → State → Type 0) → Turn
 waiting due puts_off makes = turn_of (HasWaited due puts_off) makes

@@ -11,3 +11,4 @@ pub mod Doors
 pub mod MadeIn
 pub mod Increments
 pub mod Turns
+pub mod Forgetting

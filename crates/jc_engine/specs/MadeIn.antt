@@ -1,4 +1,4 @@
--- The state in which a call's step was made.
+-- The place at which a call's step was made, from the state in which its last phase found the stripe.
 --     IsNext     the place of a step at a key that was made in this state: it is the next event of the state's whole history, or
 --                it follows the eviction that made room for the key, which was missing
 use Rattle.std.specs.Prelude.{◌≡◌, ◌⊎◌, ◌+◌, ℕ, List, length, None, Some, slice_get}

@@ -1,10 +1,10 @@
--- The conditions of phases on the stripe that a take finds, beside those that they test there, and the effect of a first phase.
+-- When a first phase can be made on the stripe that a take finds, when it is put off, and what it leaves.
 --     BeginsIfClear   a call may begin on a live stripe in this state, once the stripe is clear for it: the session's own steps
 --                     allow it
 --     StartsAt        a call's first phase on a live stripe that is clear for it
 --     is_alone        a first phase is made only if it asks nobody
---     can_start       a first phase can be made: the stripe is clear for it, no generation has to end first, and it asks nobody
---                     if it mustn't
+--     is_blocked      a full generation has to end first, or a shut stripe has to evict an entry first, and has a place for that
+--     can_start       a first phase can be made: the stripe is clear for it and isn't blocked, and it asks nobody if it mustn't
 --     is_waited_out   a first phase was refused for a reason that other calls can end
 --     puts_off        a first phase is to be tried again: it was refused for such a reason, and waits it out
 --     StartsBy        a call's first phase, by what it does if it is blocked
@@ -12,8 +12,8 @@
 --     IsPutOff        a stripe in this state refuses a call, which waits the refusal out
 --     Hits            whether the first phase of a get on a live stripe found its entry, and the value; if it didn't, nothing was
 --                     done
---     CannotHit       a get can't be a hit on this stripe: the stripe isn't clear for it, its history has no place, or the entry
---                     is missing
+--     CannotHit       a get can't be a hit on this stripe: the stripe isn't clear for it, its history has no place, the key is
+--                     barred, or the entry is missing
 --     HasMissed       a get wasn't a hit: nothing was done
 --     counted_hit     the change of the session's counts
 --     IsReported      after a processor, the writer's report is there exactly if it is due
@@ -23,10 +23,9 @@
 --     PicksUpBy       a pick-up, which may wait, and whose reply is returned apart
 --     IsTooEarly      a pick-up that waits would be too early on a stripe in this state
 --     PicksUpLate     a pick-up that isn't too early
-use Rattle.std.specs.Prelude.{◌≡◌, ◌⊎◌, Bool, true, false, not, ◌&&◌, None, Some, length}
+use Rattle.std.specs.Prelude.{◌≡◌, ◌⊎◌, Bool, true, false, not, ◌&&◌, ◌||◌, None, Some, length}
 use Rattle.jc_types.specs.declared.caller.Caller.{Caller}
 use Rattle.jc_types.specs.declared.config.Config.{Config}
-use Rattle.jc_types.specs.declared.limits.TheConstants.{HIT_PLACES}
 use Rattle.jc_types.specs.Refusals.{is_put_off}
 use Rattle.jc_types.specs.declared.refusal.Refusal.{Refusal}
 use Rattle.jc_model.specs.Cache.{Bytes, entry_at}
@@ -46,7 +45,8 @@ use Rattle.jc_stripe.specs.Tickets.{TicketClaim, JoinClaim}
 use Rattle.jc_stripe.specs.Renewal.{all_own_steps, is_renewable}
 use Rattle.jc_stripe.specs.OwnSteps.{may_come_all}
 use Rattle.jc_stripe.specs.Polled as polled
-use Rattle.jc_stripe.specs.Refusals.{first_refusal, has_room}
+use Rattle.jc_stripe.specs.Refusals.{first_refusal, may_hit}
+use Rattle.jc_stripe.specs.Invalidating.{has_place}
 use Rattle.jc_stripe.specs.Tests.{asks_outside, is_clear}
 use Rattle.jc_stripe.specs.Phases.{MayBegin, Begins, PicksUp, hit_done, polled_with}
 use Rattle.jc_session.specs.declared.counts.Counted.{Counted}
@@ -71,8 +71,11 @@ is_alone Waits = false
 is_alone Now = false
 is_alone Alone = true
 
+abbrev pub is_blocked : State → Bool
+is_blocked state = is_renewable state || (state.shut && has_place state)
+
 abbrev pub can_start : How → State → Caller → Bytes → Op → Bool
-can_start how state caller key op = is_clear state caller key && not (is_renewable state) && not (is_alone how && asks_outside state key op)
+can_start how state caller key op = is_clear state caller key && not (is_blocked state) && not (is_alone how && asks_outside state key op)
 
 abbrev pub is_waited_out : Begun → Bool
 is_waited_out (begun.Refused refusal) = is_put_off refusal
@@ -99,7 +102,7 @@ pub record IsPutOff (how : How) (caller : Caller) (key : Bytes) (op : Op) (state
   pub put_off : puts_off how (begun.Refused refusal) ≡ true
 
 abbrev pub CannotHit : Caller → Bytes → State → Type 0
-CannotHit caller key state = (is_clear state caller key ≡ false) ⊎ ((has_room state caller.call HIT_PLACES ≡ false) ⊎ (entry_at state.cache key ≡ None))
+CannotHit caller key state = (is_clear state caller key ≡ false) ⊎ ((may_hit state caller.call key ≡ false) ⊎ (entry_at state.cache key ≡ None))
 
 pub record HasMissed (caller : Caller) (key : Bytes) (before after : State) : Type 0 where
   pub same : after ≡ before

@@ -1,4 +1,4 @@
--- The conditions of phases still hold at the next take.
+-- That the conditions of a first phase and of a commit, once true at one take of a stripe, are true at the next one.
 --     begins-stays     the condition on a first phase
 --     commits-stays    the condition on a commit
 use Rattle.std.proofs.Common.{ap, sym, subst, ◌∙◌, List}

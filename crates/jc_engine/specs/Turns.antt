@@ -27,7 +27,8 @@ use Rattle.jc_model.specs.declared.event.Op.TheVariants.{Get}
 use Rattle.jc_model.specs.declared.event.Out.{Out}
 use Rattle.jc_model.specs.declared.event.Reply.{Reply}
 use Rattle.jc_stripe.specs.State.{State, IsJoined, IsOut}
-use Rattle.jc_stripe.specs.Phases.{Commits, PicksUp}
+use Rattle.jc_stripe.specs.Phases.{PicksUp}
+use Rattle.jc_stripe.specs.Invalidating.{Ends}
 use Rattle.jc_stripe.specs.Tickets.{JoinClaim}
 use Rattle.jc_stripe.specs.Outcomes.{Begun, StepDone}
 use Rattle.jc_stripe.specs.Polled.{Polled}
@@ -55,7 +56,7 @@ abbrev pub picking : JoinClaim → Polled → Turn
 picking join picked = turn_of (HasWaited (λ a. IsJoined a join) (IsTooEarly true join)) (λ a b. PicksUp a join picked b)
 
 abbrev pub committing : Reservation → Out → StepDone → Turn
-committing r out done = turn_of (HasWaited (λ a. IsOut a r) (λ a. ⊥)) (λ a b. Commits a r out done b)
+committing r out done = turn_of (HasWaited (λ a. IsOut a r) (λ a. ⊥)) (λ a b. Ends a r out done b)
 
 -- 2. A whole call.
 

@@ -1,4 +1,4 @@
--- The results of calls that reply with a value.
+-- The result of a call that replies with a value (`get`, `getAndPut`, ..), from its step's reply.
 --     value_in      the value, if there is one; a fault is an error
 --     value_into    the result if the value is written to the caller's memory: whether there is one, and what the memory has;
 --                   without a value it is unchanged

@@ -4,7 +4,7 @@ ghost use Rattle.jc_stripe.specs.State.{State};
 ghost use Rattle.jc_stripe.specs.OnePhase.{IsPhaseOf};
 ghost use Rattle.jc_stripe.specs.Reached.{IsReached};
 ghost use Rattle.jc_session.specs.Counting.{IsCounted, counts_after};
-ghost use Rattle.jc_engine.specs.Doors.{FitsGate, HasTried, HasTriedOnce, HasWaited, IsAgain, IsLeft, IsReady, KeepsAccess, MakesPhase, waiting};
+ghost use Rattle.jc_engine.specs.Doors.{FitsGate, HasTried, HasTriedOnce, HasWaited, IsAgain, IsLeft, IsReady, KeepsAccess, MakesPhase, MakesWay, waiting};
 ghost use Rattle.jc_engine.specs.Rows.{IsLending, LentPhase};
 
 use crate::access::Access;
@@ -13,7 +13,6 @@ use jc_gate::Gate;
 use jc_model::Reply;
 use jc_session::Counted;
 use jc_stripe::Stripe;
-use jc_stripe::phase_laws::renewal;
 use std::sync::Wait;
 
 /// A phase that a session is to make on a stripe.
@@ -74,7 +73,8 @@ impl<'a, G: Gate> Access<'a, G> {
     ///
     /// It waits while somebody else holds the stripe. If the phase can't be made on the stripe that it finds, or is put off, it
     /// gives the stripe back and tries again, after a pause if the agent has no reservation out. Before it gives the stripe back,
-    /// it ends the stripe's generation if that may end. It may wait for ever.
+    /// it ends the stripe's generation if that is full and may end, or evicts an entry of a stripe that is shut. Then it doesn't
+    /// pause. It may wait for ever.
     ///
     /// Conditions: the agent holds no stripe; the token has not taken the gate's and speaks for the session, whose phase it is;
     /// each stripe that a take may find has what the phase needs.
@@ -96,8 +96,7 @@ impl<'a, G: Gate> Access<'a, G> {
         for _ in rt.forever() {
             let mut stripe = self.agent.take(rt, self.gate, self.token);
             if !next.is_due(&stripe) {
-                self.leave(stripe);
-                self.agent.pause(rt, self.gate, self.token);
+                self.leave_and_pause(rt, stripe);
                 continue;
             }
             match next.make(&mut stripe, reply) {
@@ -107,8 +106,7 @@ impl<'a, G: Gate> Access<'a, G> {
                     return answer;
                 }
                 Err(back) => {
-                    self.leave(stripe);
-                    self.agent.pause(rt, self.gate, self.token);
+                    self.leave_and_pause(rt, stripe);
                     next = back;
                 }
             }
@@ -117,8 +115,9 @@ impl<'a, G: Gate> Access<'a, G> {
     }
 
     /// Makes a phase, if the stripe is there and the phase can be made now, or after the end of a generation that stood in its
-    /// way. An `Err` gives the phase back: nothing was done, except that the stripe's generation may have ended. Either the
-    /// stripe wasn't there, or the phase couldn't be made, or was put off, on each stripe that was found.
+    /// way. An `Err` gives the phase back: nothing was done, except that the stripe's generation may have ended, or that a stripe
+    /// that is shut has evicted an entry. Either the stripe wasn't there, or the phase couldn't be made, or was put off, on each
+    /// stripe that was found.
     ///
     /// It never waits. Conditions: those of [`lend`](Access::lend).
     pub fn try_lend<P: Phase>(&mut self, phase: P, reply: &mut Reply) -> Result<P::Answer, P>
@@ -193,10 +192,11 @@ impl<'a, G: Gate> Access<'a, G> {
         }
     }
 
-    /// Gives back a stripe on which no phase was made, and ends its generation if that may end.
+    /// Gives back a stripe on which no phase was made, as [`leave`](Access::leave) does, and pauses unless it made way.
     ///
-    /// Conditions: the agent holds the stripe, as the token has taken it; the token speaks for the session.
-    fn leave(&mut self, stripe: Box<Stripe>)
+    /// Conditions: those of [`leave`](Access::leave).
+    #[inline(never)]
+    fn leave_and_pause<R: Wait>(&mut self, rt: &R, stripe: Box<Stripe>)
         requires held { (self.old.agent.now.hands.held ≡ 1)
             × G.speaks_for self.old.token.now self.old.agent.now.caller.session }
         requires taken { G.has self.old.gate.now self.old.token.now stripe.value × IsReached stripe.value }
@@ -206,9 +206,46 @@ impl<'a, G: Gate> Access<'a, G> {
         ensures left { IsLeft G.gives G.finds G.is_free G.speaks_for
             self.old.gate.now self.old.token.now stripe.value self.new.gate.now self.new.token.now }
     {
-        renewal();
-        let mut stripe = stripe;
-        stripe.renew_if_full();
-        self.agent.give_back(self.gate, self.token, stripe);
+        let has_made_way = self.leave(stripe);
+        if has_made_way {
+            return;
+        }
+        self.agent.pause(rt, self.gate, self.token);
     }
+
+    /// Gives back a stripe on which no phase was made, and makes way: it ends the stripe's generation if that is full and may end;
+    /// or it evicts an entry of a stripe that is shut. It returns whether it did.
+    ///
+    /// Conditions: the agent holds the stripe, as the token has taken it; the token speaks for the session.
+    fn leave(&mut self, stripe: Box<Stripe>) -> bool
+        requires held { (self.old.agent.now.hands.held ≡ 1)
+            × G.speaks_for self.old.token.now self.old.agent.now.caller.session }
+        requires taken { G.has self.old.gate.now self.old.token.now stripe.value × IsReached stripe.value }
+        ensures same { KeepsAccess self.old self.new }
+        ensures agent { self.new.agent.now
+            ≡ record self.old.agent.now { hands = record self.old.agent.now.hands { held = 0 } } }
+        ensures left { IsLeft G.gives G.finds G.is_free G.speaks_for
+            self.old.gate.now self.old.token.now stripe.value self.new.gate.now self.new.token.now }
+    {
+        one_lending();
+        let mut stripe = stripe;
+        let has_made_way = make_way(&mut stripe);
+        self.agent.give_back(self.gate, self.token, stripe);
+        has_made_way
+    }
+}
+
+/// Ends a full generation that may end. Otherwise a stripe that is shut evicts an entry, if it has a place for that, or lets calls
+/// begin again, if none is left. `false` says that nothing was evicted and no generation ended.
+#[inline(never)]
+fn make_way(stripe: &mut Stripe) -> bool
+    ensures { MakesWay stripe.old stripe.new }
+{
+    if stripe.is_renewable() {
+        stripe.renew();
+        return true;
+    }
+    let can_sweep = stripe.is_shut() && stripe.has_place();
+    stripe.sweep();
+    can_sweep
 }

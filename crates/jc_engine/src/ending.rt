@@ -12,7 +12,8 @@ use jc_stripe::{Appended, Ask, LoadDone, ProcDone, Stripe, Ticket, WriteDone};
 pub trait Answer {
     ghost use Rattle.std.specs.Prelude.{◌≡◌};
     ghost use Rattle.jc_stripe.specs.State.{IsOut};
-    ghost use Rattle.jc_stripe.specs.Phases.{Commits, with_reply};
+    ghost use Rattle.jc_stripe.specs.Phases.{with_reply};
+    ghost use Rattle.jc_stripe.specs.Invalidating.{Ends};
     ghost use Rattle.jc_session.specs.Counting.{IsCounted};
     ghost use Rattle.jc_session.specs.declared.counts.Counted.TheVariants.{Committed};
     ghost use Rattle.jc_engine.specs.Answered.{CallAnswer, out_of};
@@ -25,7 +26,7 @@ pub trait Answer {
     fn commit(self, stripe: &mut Stripe, ticket: Ticket, reply: &mut Reply) -> Appended
         requires out { IsOut stripe.old ticket.reservation }
         requires here { CommitsHere ticket (answered self) stripe.old }
-        ensures commits { Commits stripe.old ticket.reservation (out_of (answered self)) (with_reply result reply.new) stripe.new }
+        ensures ends { Ends stripe.old ticket.reservation (out_of (answered self)) (with_reply result reply.new) stripe.new }
         ensures counted { IsCounted Committed ticket.reservation.caller.session stripe.old stripe.new };
 }
 
@@ -78,7 +79,8 @@ pub struct Commit<A> {
 
 impl<A: Answer> Phase for Commit<A> {
     ghost use Rattle.jc_stripe.specs.State.{IsOut};
-    ghost use Rattle.jc_stripe.specs.Phases.{Commits, with_reply};
+    ghost use Rattle.jc_stripe.specs.Phases.{with_reply};
+    ghost use Rattle.jc_stripe.specs.Invalidating.{Ends};
     ghost use Rattle.jc_session.specs.declared.counts.Counted.TheVariants.{Committed};
     ghost use Rattle.jc_engine.specs.Answered.{out_of};
     ghost use Rattle.jc_engine.specs.Needs.{CommitsHere};
@@ -94,7 +96,7 @@ impl<A: Answer> Phase for Commit<A> {
 
     ghost puts_off = { λ p a. ⊥ };
 
-    ghost makes = { λ p a step reply b. Commits a p.ticket.reservation (out_of (A.answered p.answer)) (with_reply step reply) b };
+    ghost makes = { λ p a step reply b. Ends a p.ticket.reservation (out_of (A.answered p.answer)) (with_reply step reply) b };
 
     ghost counts = { λ step. Committed };
 
@@ -124,7 +126,7 @@ pub struct Withdraw {
 impl Phase for Withdraw {
     ghost use Rattle.std.specs.Prelude.{◌≡◌, false};
     ghost use Rattle.jc_stripe.specs.State.{IsOut};
-    ghost use Rattle.jc_stripe.specs.Phases.{Withdraws};
+    ghost use Rattle.jc_stripe.specs.Invalidating.{GivesBack};
     ghost use Rattle.jc_session.specs.declared.counts.Counted.TheVariants.{Withdrawn};
 
     type Answer = ();
@@ -137,7 +139,7 @@ impl Phase for Withdraw {
 
     ghost puts_off = { λ p a. ⊥ };
 
-    ghost makes = { λ p a none reply b. Withdraws a p.ticket.reservation b };
+    ghost makes = { λ p a none reply b. GivesBack a p.ticket.reservation b };
 
     ghost counts = { λ none. Withdrawn };
 

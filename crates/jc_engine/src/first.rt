@@ -2,7 +2,7 @@
 ghost use Rattle.std.specs.Prelude.{◌≡◌};
 ghost use Rattle.jc_model.specs.declared.event.Reply.{Reply as Replied};
 ghost use Rattle.jc_stripe.specs.Phases.{begun_with};
-ghost use Rattle.jc_engine.specs.Needs.{can_start, is_alone, puts_off};
+ghost use Rattle.jc_engine.specs.Needs.{can_start, is_alone, is_blocked, puts_off};
 
 use crate::door::Phase;
 use jc_model::{Op, Reply};
@@ -55,7 +55,15 @@ fn is_waited_out(started: &Started) -> bool
     }
 }
 
-/// The first phase of a call. It runs once nothing on the stripe blocks it, and no generation has to end before it.
+/// Whether a full generation has to end before a call begins, or a shut stripe has to evict an entry, and has a place for that.
+fn is_blocked(stripe: &Stripe) -> bool
+    ensures { result ≡ is_blocked stripe.now }
+{
+    stripe.is_renewable() || (stripe.is_shut() && stripe.has_place())
+}
+
+/// The first phase of a call. It runs once nothing on the stripe blocks it: no generation has to end before it, and no entry of a
+/// shut stripe has to be evicted.
 #[derive(Drop)]
 pub struct BeginCall<'a> {
     /// The call.
@@ -87,7 +95,7 @@ impl<'a> BeginCall<'a> {
         ensures { result ≡ can_start self.now.how stripe.now self.now.caller self.now.key.now self.now.op.now }
     {
         stripe.is_clear(self.caller, self.key)
-            && !stripe.is_renewable()
+            && !is_blocked(stripe)
             && !(self.how.is_alone() && stripe.asks_outside(self.key, self.op))
     }
 }

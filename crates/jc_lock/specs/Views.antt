@@ -49,7 +49,7 @@ IsTurnBy session old new = IsPhaseBy session old new ⊎ Renews old new
 -- 1. Seats from the beginning, and seats that are gone.
 
 abbrev pub empty_stripe : State
-empty_stripe = record { config = record { stripes = 1; capacity = 1; history = 16; read_through = false; write_through = false }; stripe = 0; origin = Played; lives = false; ended = []; opening = []; cache = map.empty; reservations = []; joiners = []; history = []; next = 0 }
+empty_stripe = record { config = record { stripes = 1; capacity = 1; history = 16; read_through = false; write_through = false }; stripe = 0; origin = Played; lives = false; ended = []; opening = []; cache = map.empty; reservations = []; joiners = []; history = []; next = 0; marked = []; shut = false }
 
 abbrev pub first_view : State → View
 first_view state = record { session = None; next_session = Some 0; spent = false; holds = false; front = whole_history state; joined_front = []; own = []; noted = state; lendings = (state, state) ∷ []; misses = 0 }

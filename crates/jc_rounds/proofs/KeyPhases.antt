@@ -3,7 +3,7 @@
 --     key_begun          a first phase
 --     key_committed      a commit
 --     key_picked         a pick-up that isn't too early
-use Rattle.jc_rounds.proofs.Common.{◌≡◌, ◌&&◌, inl, inr, ◌≤◌, ℕ, List, [], ◌∷◌, ◌++◌, length, Bool, true, false, cond, Option, None, Some, slice_get, refl, sym, ap, subst, ◌∙◌, arith, and_parts, list_all-append, list_all, Caller, Config, Bytes, entry_at, nothing_said, may_come, Event, Step, Op, Get, Out, Reply, State, is_key, whole_history, whole_place, OnePhase, own_steps, AddsOwn, OwnSteps, StepsBehind, may_come_all, after_commit, with_joiner, first_asked, first_refusal, may_join, TicketClaim, JoinClaim, Begun, StepDone, Polled, Reservation, View, prefix-trans, Turn, ask_found, adds_whole, call_below, gains_whole, may_in_all, of_same, put_off_or_full, SeatPhase, HasBegun, HasPicked, IsCommitted, IsEarly, IsJoinFor, steps_of, HasFound, HasGrown}
+use Rattle.jc_rounds.proofs.Common.{◌≡◌, ◌&&◌, inl, inr, ◌≤◌, ℕ, List, [], ◌∷◌, ◌++◌, length, Bool, true, false, cond, Option, None, Some, slice_get, refl, sym, ap, subst, ◌∙◌, arith, and_parts, list_all-append, list_all, Caller, Config, Bytes, entry_at, nothing_said, may_come, Event, Step, Op, Get, Out, Reply, State, is_key, whole_history, whole_place, OnePhase, own_steps, AddsOwn, OwnSteps, StepsBehind, may_come_all, with_joiner, first_asked, first_refusal, may_join, TicketClaim, JoinClaim, Begun, StepDone, Polled, Reservation, View, prefix-trans, Turn, ask_found, adds_whole, call_below, gains_whole, may_in_all, of_same, put_off_or_full, SeatPhase, HasBegun, HasPicked, IsCommitted, IsEarly, IsJoinFor, steps_of, HasFound, HasGrown}
 use mathlib.Core.List.{IsPrefix}
 use Rattle.jc_stripe.specs.Renewal.{all_own_steps}
 use Rattle.jc_stripe.specs.Outcomes as begun
@@ -11,7 +11,7 @@ use Rattle.jc_stripe.specs.Polled as polled
 use Rattle.jc_engine.specs.MadeIn.{IsNext}
 use Rattle.jc_engine.specs.Turns.{committing}
 use Rattle.jc_cache.specs.Turns.{picking_late, starting_now}
-use Rattle.jc_engine.proofs.CallerLemmas.{next_place}
+use Rattle.jc_engine.proofs.CallerLemmas.{next_ended, next_place}
 use Rattle.jc_rounds.proofs.CallSteps.{steps-gained}
 use Rattle.jc_rounds.proofs.SeatPhases.{IsTurnOfCall, MovesSeat, all_now, front_found, found_phase, gained_phase, seen_own, seen_phase, uniform, longer}
 
@@ -36,13 +36,13 @@ get_joins op is = cc
 -- 3. Phases.
 
 start_turn : (caller : Caller) (key : Bytes) (op : Op) (b : Begun) → IsTurnOfCall (starting_now caller key op b) caller key
-start_turn caller key op b = (λ found left waits. waits.renewed, λ found left made. inl (op, b, made))
+start_turn caller key op b = (λ found left waits. waits.way, λ found left made. inl (op, b, made))
 
 commit_turn : (r : Reservation) (out : Out) (done : StepDone) → IsTurnOfCall (committing r out done) r.caller r.key
-commit_turn r out done = (λ found left waits. waits.renewed, λ found left made. inr (inl (r, out, done, refl, refl, made)))
+commit_turn r out done = (λ found left waits. waits.way, λ found left made. inr (inl (r, out, done, refl, refl, made)))
 
 pick_turn : (join : JoinClaim) (p : Polled) → IsTurnOfCall (picking_late join p) join.caller join.key
-pick_turn join p = (λ found left waits. waits.renewed, λ found left made. inr (inr (join, p, refl, refl, made)))
+pick_turn join p = (λ found left waits. waits.way, λ found left made. inr (inr (join, p, refl, refl, made)))
 
 module _ (law : OnePhase) (steps : OwnSteps) where
   -- a step that the phase adds behind all that was there
@@ -163,7 +163,7 @@ module _ (law : OnePhase) (steps : OwnSteps) where
   pub key_committed : (config : Config) (session : ℕ) (r : Reservation) (out : Out) (done : StepDone) (v w : View) (x : SeatPhase session v (committing r out done) w) → v.noted.config ≡ config → session ≡ r.caller.session → IsEarly r.caller → steps_of r.caller r.key v.own ≡ []
       → MovesSeat r.caller r.key v w × IsCommitted config r.caller r out v w done.reply
   key_committed config session r out done v w x shape mine early none =
-      let a = added session _ r.caller r.key (commit_turn r out done) r.op out done.reply done.place v w x mine (steps.commits x.found w.noted r out done x.reached x.made) early none in (
+      let a = added session _ r.caller r.key (commit_turn r out done) r.op out done.reply done.place v w x mine (steps.ends x.found w.noted r out done x.reached x.made) early none in (
         a.0,
         record {
           place = whole_place w.noted done.place;
@@ -176,8 +176,8 @@ module _ (law : OnePhase) (steps : OwnSteps) where
             reached = x.reached;
             later = front_found law session _ v w x;
             same = of_same x.found w.noted (uniform law session _ v w x).grows;
-            next = subst (λ (es : List Event). IsNext x.found r.key (whole_place w.noted done.place) es) (sym x.front_is) (next_place (after_commit x.found r done.place) w.noted r.caller r.key r.op out _ done x.made.1);
-            entry = ap (λ (c : Config). first_asked c r.op (entry_at x.found.cache r.key)) (sym (x.same.config ∙ shape)) ∙ ask_found x.found.config x.found.cache (is_key r.key) x.found.reservations r x.made.0 x.reached.asks;
+            next = subst (λ (es : List Event). IsNext x.found r.key (whole_place w.noted done.place) es) (sym x.front_is) (next_ended x.found w.noted r out done x.made);
+            entry = ap (λ (c : Config). first_asked c r.op (entry_at x.found.cache r.key)) (sym (x.same.config ∙ shape)) ∙ ask_found x.found.config x.found.cache (is_key r.key) x.found.reservations r x.made.2.0 x.reached.asks;
           };
         },
       )

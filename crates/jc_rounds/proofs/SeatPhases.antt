@@ -11,7 +11,7 @@
 use Rattle.jc_rounds.proofs.Common.{◌≡◌, ◌==◌, ◌&&◌, ◌⊎◌, ⊎_elim, inl, inr, ℕ, zero, suc, List, [], ◌∷◌, ◌++◌, Bool, true, false, Option, Some, slice_get, slice_set, refl, sym, ap, subst, ◌∙◌, arith, le_refl, append_assoc, append-nil, and_from, nat_tests, nat_list_eq_equiv, same_Some, AllByRecursion, IsAmong, pointwise, stripe_of, Caller, Bytes, Event, Step, Op, Out, Reply, State, whole_history, OnePhase, IsUniform, own_steps, whole_goes_on, own_stay, View, prefix-refl, prefix-trans, same_itself, same_on, AllLend, Turn, SeatPhase, IsEarly, steps_of, former_steps, are_before, HasFound, HasGrown, MovesAtKey, is_at, view_at, ◌≤◌, length, length-append}
 use mathlib.Core.List.{IsPrefix}
 use Rattle.atomic_table.specs.Seated.{TableId}
-use Rattle.jc_stripe.specs.Renewal.{RenewsIfFull}
+use Rattle.jc_engine.specs.Doors.{MakesWay}
 use Rattle.jc_cache.specs.Fronts.{HasAllSeen}
 use Rattle.jc_rounds.specs.Lendings.{IsPhaseAt, OnlyPhases}
 use Rattle.jc_rounds.proofs.CallSteps.{before-gained, former-gained, others-gained}
@@ -55,14 +55,14 @@ pub phases_on : (caller : Caller) (at : Bytes → Type 0) (u v w : View) → Onl
 phases_on caller at u v w p q = record {
   row = p.row ++ q.row;
   lent = record { lendings = q.lent.lendings ∙ ap (λ (ls : List (State × State)). ls ++ q.row) p.lent.lendings ∙ append_assoc u.lendings p.row q.row; misses = q.lent.misses ∙ p.lent.misses };
-  each = all_on (λ (p : State × State). RenewsIfFull p.0 p.1 ⊎ ((key : Bytes) × at key × IsPhaseAt caller key p.0 p.1)) p.row q.row p.each q.each;
+  each = all_on (λ (p : State × State). MakesWay p.0 p.1 ⊎ ((key : Bytes) × at key × IsPhaseAt caller key p.0 p.1)) p.row q.row p.each q.each;
 }
 
 pub phases_among : (caller : Caller) (at at' : Bytes → Type 0) (v w : View) → ((key : Bytes) → at key → at' key) → OnlyPhases caller at v w → OnlyPhases caller at' v w
 phases_among caller at at' v w among p = record {
   row = p.row;
   lent = p.lent;
-  each = all_by (λ (p : State × State). RenewsIfFull p.0 p.1 ⊎ ((key : Bytes) × at key × IsPhaseAt caller key p.0 p.1)) (λ (p : State × State). RenewsIfFull p.0 p.1 ⊎ ((key : Bytes) × at' key × IsPhaseAt caller key p.0 p.1)) p.row
+  each = all_by (λ (p : State × State). MakesWay p.0 p.1 ⊎ ((key : Bytes) × at key × IsPhaseAt caller key p.0 p.1)) (λ (p : State × State). MakesWay p.0 p.1 ⊎ ((key : Bytes) × at' key × IsPhaseAt caller key p.0 p.1)) p.row
       (λ lent. ⊎_elim (λ quiet. inl quiet) (λ part. inr (part.0, among part.0 part.1, part.2))) p.each;
 }
 
@@ -91,7 +91,7 @@ found_since u v w seen left grown was = record {
 
 -- a turn of the call at this key
 abbrev pub IsTurnOfCall : Turn → Caller → Bytes → Type 0
-IsTurnOfCall turn caller key = ((a b : State) → turn.waits a b → RenewsIfFull a b) × ((a b : State) → turn.makes a b → IsPhaseAt caller key a b)
+IsTurnOfCall turn caller key = ((a b : State) → turn.waits a b → MakesWay a b) × ((a b : State) → turn.makes a b → IsPhaseAt caller key a b)
 
 module _ (law : OnePhase) (session : ℕ) (turn : Turn) (v w : View) (x : SeatPhase session v turn w) where
   pub uniform : IsUniform session x.found w.noted
@@ -122,8 +122,8 @@ module _ (law : OnePhase) (session : ℕ) (turn : Turn) (v w : View) (x : SeatPh
   phases_made caller key part = record {
     row = x.waits ++ (x.found, w.noted) ∷ [];
     lent = x.lent;
-    each = all_on (λ (p : State × State). RenewsIfFull p.0 p.1 ⊎ ((other : Bytes) × (other ≡ key) × IsPhaseAt caller other p.0 p.1)) x.waits ((x.found, w.noted) ∷ [])
-        (all_lent turn.waits (λ (p : State × State). RenewsIfFull p.0 p.1 ⊎ ((other : Bytes) × (other ≡ key) × IsPhaseAt caller other p.0 p.1)) x.waits (λ a b waits. inl (part.0 a b waits)) x.waited)
+    each = all_on (λ (p : State × State). MakesWay p.0 p.1 ⊎ ((other : Bytes) × (other ≡ key) × IsPhaseAt caller other p.0 p.1)) x.waits ((x.found, w.noted) ∷ [])
+        (all_lent turn.waits (λ (p : State × State). MakesWay p.0 p.1 ⊎ ((other : Bytes) × (other ≡ key) × IsPhaseAt caller other p.0 p.1)) x.waits (λ a b waits. inl (part.0 a b waits)) x.waited)
         (inr (key, refl, part.1 x.found w.noted x.made), tt);
   }
 

@@ -1,4 +1,4 @@
--- The outside answers for the keys that a round has reserved.
+-- One round of a bulk call, between its first and its last phases: what was answered for each key that it has reserved.
 --     asked_key         the key of an ask
 --     RunState          a reservation, and the answers of its run
 --     key_run           the run, by its key

@@ -1,4 +1,4 @@
--- The keys for which a call asks outside.
+-- For which keys the rounds of a bulk call ask outside: for keys of the call alone, in their order, for none twice.
 --     reserved_keys   the keys of these reservations, in their order
 --     AsksFor         a round asks only for keys of the call, and only for what their operations ask for
 --     IsInOrder       a round asks for its keys in the order of the call's

@@ -1,4 +1,4 @@
--- The ends of the keys of a call.
+-- How each key of a bulk call ended (a reply or a refusal), and what the call returns of it.
 --     KeyEnd          a key of the call, its operation, and its end: its step's reply, or its refusal
 --     key_ops         the keys with their operations, in the call's order
 --     key_end, key_ends    the end of a key, if it has ended, and the ends of these keys, in their order

@@ -1,4 +1,4 @@
--- The states of the keys of a call.
+-- How far each key of a bulk call is: it waits for a round, is reserved, has joined a load, or has ended.
 --     waits_for_round         the key waits for a round
 --     holds_reservation       the key is reserved
 --     waits_for_joined_load   the key has joined a load

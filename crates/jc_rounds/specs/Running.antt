@@ -1,4 +1,4 @@
--- The rounds of a call, one after another, and the call as a whole.
+-- The rounds of a bulk call, one after another, and the bulk call as a whole (`HasRun`).
 --     HeldInEach     each key that is held back now was put off in each of these rounds, and had no step of the call after it
 --     IsRound        one round of the session's current call, with its call outside, if it made one: each key that it leaves
 --                    waiting was put off, and it has asked for keys that waited before it

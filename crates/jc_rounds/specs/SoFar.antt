@@ -1,4 +1,4 @@
--- A call with many keys, while it is under way.
+-- A bulk call at any moment (`IsSoFar`): what its session has seen of each key, and what is out (`IsUnderway`).
 --     is_target_of               the key is one of the call's, and of the stripe with this number
 --     IsSoFar                    what the session has seen since before the call: each key is in its state, at its stripe; no
 --                                other key has a step of the call, on any stripe; the steps of former calls are as they were; and

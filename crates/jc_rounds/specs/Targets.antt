@@ -1,4 +1,4 @@
--- The keys of a call, and the operation at each of them.
+-- The keys of a bulk call, and the operation at each of them.
 --     ops_with    these keys, each with the same operation
 --     put_ops     these keys, each put with its value
 --     ops_of      the keys that a call works on, with its operations

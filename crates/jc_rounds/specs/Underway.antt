@@ -1,4 +1,4 @@
--- A call with many keys, between its phases.
+-- A bulk call between its phases: its past, the memory of its rounds, and what it has out.
 --     CallPast           the past of a call: its caller, what the session had seen of each stripe before it, and its rounds that
 --                        asked
 --     with_round         the past with one round more

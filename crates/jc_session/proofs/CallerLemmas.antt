@@ -18,8 +18,9 @@ pub phase_of : (counted : Counted) (session : ℕ) (old new : State) → IsCount
 phase_of counted session old new (inl same) = inl same.0
 phase_of counted session old new (inr (inl first)) = inr (inl first.0)
 phase_of counted session old new (inr (inr (inl last))) = inr (inr (inl last.0))
-phase_of counted session old new (inr (inr (inr (inl pick)))) = inr (inr (inr (inr pick.0)))
-phase_of counted session old new (inr (inr (inr (inr back)))) = inr (inr (inr (inl back.0)))
+phase_of counted session old new (inr (inr (inr (inl pick)))) = inr (inr (inr (inr (inl pick.0))))
+phase_of counted session old new (inr (inr (inr (inr (inl back))))) = inr (inr (inr (inl back.0)))
+phase_of counted session old new (inr (inr (inr (inr (inr forgets))))) = inr (inr (inr (inr (inr forgets.0))))
 
 pub counted_with : (s : Started) (reply : Reply) → counted_begun (begun_with s reply) ≡ counted_started s
 counted_with (started.Done step) reply = refl

@@ -1,7 +1,8 @@
 //! Agents: a session without its seats.
-ghost use Rattle.std.specs.Prelude.{◌≡◌, max, true, is_some, IsSome, IfSome, IfNone};
+ghost use Rattle.std.specs.Prelude.{◌≡◌, ◌⊎◌, max, true, is_some, IsSome, IfSome, IfNone};
 ghost use Rattle.jc_stripe.specs.State.{State};
 ghost use Rattle.jc_stripe.specs.Tickets.{asks_loader, asks_processor, change_asked};
+ghost use Rattle.jc_stripe.specs.OnePhase.{Forgetting};
 ghost use Rattle.jc_stripe.specs.Renewal.{StaysOrRenews};
 ghost use Rattle.jc_session.specs.Asked.{LoaderAsked, WriterAsked, ProcessorRun};
 ghost use Rattle.jc_session.specs.Counting.{one_more, call_before, IsCounted};
@@ -151,13 +152,15 @@ impl Agent {
         stripe
     }
 
-    /// Gives back a stripe in which no phase was made. Its generation may have ended.
+    /// Gives back a stripe in which no phase of the session was made. Its generation may have ended; or keys were invalidated, or an
+    /// entry of a stripe that is shut was evicted.
     ///
     /// Conditions: the agent holds one stripe, and the token speaks for its session. This is the stripe that the token has taken,
-    /// as it was, or after a renewal.
+    /// as it was, or after a renewal or a phase of no session.
     pub fn give_back<G: Gate>(&mut self, gate: &mut G, token: &mut G::Token, stripe: Box<Stripe>)
         requires held { (self.old.hands.held ≡ 1) × G.speaks_for token.old self.old.caller.session }
-        requires rest { (a : State) × G.has gate.old token.old a × StaysOrRenews a stripe.value }
+        requires rest { (a : State) × G.has gate.old token.old a
+            × (StaysOrRenews a stripe.value ⊎ Forgetting a stripe.value) }
         ensures { Given G.gives G.finds G.is_free G.speaks_for
             Nothing self.old gate.old token.old stripe.value self.new gate.new token.new }
     {

@@ -23,6 +23,7 @@ mod bytes;
 mod calls;
 mod closing;
 mod desk;
+mod forgetting;
 mod held;
 mod histories;
 mod invoking;

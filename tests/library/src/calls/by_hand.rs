@@ -246,9 +246,11 @@ fn stage_of(rt: &impl Abort, alloc: Global, story: &str) -> Stage {
 
 /// The first session's loader fails with 7, and its writer with 9, in the second three. A load that failed is also the answer of who
 /// has joined it; a write that failed leaves the entry. In the seventh one the history is full while an answer is there that nobody
-/// has picked up: it ends after that. In the last two the first session's load is given up: its loader, which fails, isn't asked. Who is
-/// told to retry has no answer to pick up, so the history ends meanwhile.
-const STORIES: [&str; 9] = [
+/// has picked up: it ends after that. In the next two the first session's load is given up: its loader, which fails, isn't asked. Who is
+/// told to retry has no answer to pick up, so the history ends meanwhile. In the last
+/// five keys are invalidated: while the first session has reserved one, with and without who has joined it; all of them; and while the
+/// history is full and can't end.
+const STORIES: [&str; 14] = [
     "\
 with plain plain
 call get
@@ -330,6 +332,51 @@ parked tryget b = 2; tryget b = 2; tryget b = 2; tryget b = 2; tryget b = 2; try
 tryget b = 2; tryget b = 2; tryget b = 2; tryget b = 2; tryget b = 2; tryget b = 2; tryget b = 2; tryget b = 2
 retry get a = 1 | 2 0 0
 again get a = 1 | 2 0 0; own 1
+",
+    "\
+with plain plain
+call get
+reply 1
+between get b = 2 | 1 0 0; invalidate a; tryget a = Busy; tryput a 5 = Busy
+parked get b = 2 | 2 0 0
+then get a = 1 | 3 0 0; counts 1 4 0 0 0
+steps 2 b 2, 0 a 1, 1 a 1, evict a, 2 b 2, 2 a 1
+",
+    "\
+with plain plain
+call put
+reply ok
+first get a = 1 | 1 0 0
+between stored a=5 b=2; invalidate a; tryget a = Busy
+then get a = 5 | 2 1 0
+steps 2 a 1, 0 a ok, evict a, 2 a 5
+",
+    "\
+with fails7 plain
+call withdraw
+between get b = 2 | 1 0 0; invalidate a; tryget a = Busy
+parked get b = 2 | 1 0 0
+retry get a = 1 | 2 0 0
+again get a = 1 | 2 0 0
+steps 2 b 2, 2 b 2, 1 a 1, 0 a 1
+",
+    "\
+with plain plain
+call get
+reply 1
+between get b = 2 | 1 0 0; invalidateall; tryget a = Busy; get b = 2 | 2 0 0
+then get a = 1 | 4 0 0; get b = 2 | 4 0 0
+steps 2 b 2, evict b, 2 b 2, 0 a 1, 1 a 1, evict a, 2 a 1, 2 b 2
+",
+    "\
+with plain plain
+lives 16
+call get
+reply 1
+between get b = 2 | 1 0 0
+parked tryget b = 2; tryget b = 2; tryget b = 2; tryget b = 2; tryget b = 2; tryget b = 2; tryget b = 2; \
+tryget b = 2; tryget b = 2; tryget b = 2; tryget b = 2; tryget b = 2; tryget b = 2; invalidate b; tryget b = Busy
+then get b = 2 | 3 0 0; get a = 1 | 4 0 0
 ",
 ];
 

@@ -2,7 +2,7 @@
 use super::answers::replied_as;
 use super::*;
 use jc_cache::ClosedStripe;
-use jc_model::{Event, LoadAnswer};
+use jc_model::{Cause, Event, LoadAnswer};
 use jc_stripe::Stripe;
 use jc_types::Caller;
 use std::alloc::AllocError;
@@ -15,7 +15,7 @@ pub fn events(alloc: Global, stripe: &ClosedStripe) -> Result<Vec<Event>, AllocE
 }
 
 /// The events of a stripe are these steps, with a comma between two: of each its session, perhaps with the number of its call, its
-/// key and its reply, and perhaps what was loaded, as in `0 a 1, 0#2 a - < -`.
+/// key and its reply, and perhaps what was loaded, as in `0 a 1, 0#2 a - < -`; or `evict a`, the eviction of a key that was invalidated.
 pub fn are_steps(rt: &impl Abort, alloc: Global, stripe: &ClosedStripe, steps: &str) {
     let events = events(alloc, stripe).expect(rt, "memory");
     are_events(rt, &events, steps);
@@ -40,7 +40,7 @@ pub fn events_of(rt: &impl Abort, alloc: Global, stripe: &Stripe) -> Vec<Event> 
     events
 }
 
-/// An event is the step that a text says.
+/// An event is the step, or the eviction, that a text says.
 fn is_step(rt: &impl Abort, event: &Event, text: &str) {
     let (said, load) = match text.split_once(" < ") {
         Some((said, load)) => (said, Some(load)),
@@ -61,7 +61,11 @@ fn is_step(rt: &impl Abort, event: &Event, text: &str) {
             is_at(rt, text, replied_as(*replied), answer_of(rt, reply));
             is_loaded(rt, out.load, load);
         }
-        Event::Evict { .. } => panic!(rt; "{text} is an eviction"),
+        Event::Evict { key: found, cause } => {
+            is_at(rt, text, who, "evict");
+            is(rt, *found, key(rt, at));
+            is(rt, *cause, Cause::Invalidated);
+        }
     }
 }
 

@@ -8,7 +8,7 @@
 //!     ends 2 0             the first stripe's generation is ended: its events, and how many ended before, or a dash if none may end
 //!     counts 1 1 0 0 0     what the cache counts by then: hits, misses, puts, removals, evictions
 //!
-//! `skip N` has the next call begin by the number N.
+//! `skip N` has the next call begin by the number N. `invalidate a` and `invalidateall` forget a key, or all.
 //!
 //! `withdraw get a` begins a call by phases, which has to reserve its key and asks nobody. It says so as a loader that waits does, and
 //! gives the call up when such a loader may answer.
@@ -106,6 +106,8 @@ impl Desk {
             "counts" => is(rt, cache.statistics(rt, session), statistics(rt, rest)),
             "ends" => ends(rt, alloc, cache, session, rest),
             "own" => is(rt, Some(session.own()), rest.parse().ok()),
+            "invalidate" => cache.invalidate(rt, session, &key(rt, rest)),
+            "invalidateall" => cache.invalidate_all(rt, session),
             "skip" => cache.skip_to(session, rest.parse().ok().expect(rt, rest)),
             "withdraw" => self.withdraw(rt, cache, session, rest),
             "await" => self.signals.wait_for_ask(rt),

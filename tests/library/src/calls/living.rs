@@ -79,6 +79,40 @@ counts 2 0 1 0 0
 own 3
 ";
 
+/// Fourteen steps fill a history of 16 places. An invalidation ends its generation first, and then has a place; so has one of all keys.
+const FORGOTTEN: &str = "\
+get a = 1 | 1 0 0
+get a = 1
+get a = 1
+get a = 1
+get a = 1
+get a = 1
+get a = 1
+get a = 1
+get a = 1
+get a = 1
+get a = 1
+get a = 1
+put b 2 = ok
+get b = 2
+invalidate a
+get b = 2 | 1 1 0
+get a = 1 | 2 1 0
+invalidateall
+get b = 2 | 3 1 0
+get a = 1 | 4 1 0
+get a = 1
+get a = 1
+get a = 1
+get a = 1
+get a = 1
+get a = 1
+get a = 1
+invalidateall
+get a = 1 | 5 1 0
+counts 20 5 1 0 0
+";
+
 /// What they count in the end, in the words of a line.
 const IN_ALL: &str = "15 2 1 1 0";
 
@@ -145,6 +179,21 @@ fn counts_the_steps_of_all_generations(rt: HostRuntime) {
     let first = end.stripes.first().expect(&rt, "a stripe");
     is(&rt, first.generations_ended(), 1);
     is(&rt, first.statistics(), statistics(&rt, IN_ALL));
+}
+
+#[test]
+fn invalidates_on_a_full_history(rt: HostRuntime) {
+    let alloc = rt.alloc();
+    let desk = Desk::of(&rt, alloc, "a=1");
+    let owner = CacheOwner::living(alloc, &config(HISTORY, true, true))
+        .ok()
+        .expect(&rt, "a cache");
+    let mut stage = Stage::of(alloc, owner);
+    enter!(rt, stage, desk, Manners::PLAIN);
+    stage.plays(&rt, alloc, &desk, FORGOTTEN);
+    let end = closed(&rt, alloc, &desk, stage);
+    let first = end.stripes.first().expect(&rt, "a stripe");
+    is(&rt, first.generations_ended(), 2);
 }
 
 #[test]

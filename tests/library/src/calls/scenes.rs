@@ -17,8 +17,8 @@
 use super::histories::are_steps;
 use super::real_time::are_in_real_time;
 use super::{
-    beside, calls, closing, histories, invoking, limits, meeting, outside, random, real_time,
-    trying, *,
+    beside, calls, closing, forgetting, histories, invoking, limits, meeting, outside, random,
+    real_time, trying, *,
 };
 use jc_cache::ClosedStripe;
 use std::thread::Threads;
@@ -54,6 +54,14 @@ const TEXTS: &[&str] = &[
     beside::LOAD_GIVEN_UP,
     beside::FAILING_LOAD_GIVEN_UP,
     beside::WRITE_GIVEN_UP,
+    forgetting::ONE_KEY,
+    forgetting::ALL_KEYS,
+    forgetting::NOT_LOADED,
+    forgetting::DURING_LOAD,
+    forgetting::DURING_JOINED_LOAD,
+    forgetting::ALL_DURING_LOAD,
+    forgetting::FULL,
+    forgetting::SWEPT,
     random::WELL,
     random::DOWN_AT_TIMES,
     real_time::ROUNDS,

@@ -7,7 +7,7 @@ pub give_back-requires-clause-held : goal.give_back-requires-clause-held
 give_back-requires-clause-held g c = holds_one c.args.agent.now c.take-stripe.new.self c.take-stripe.new.token c.take-stripe.ensures.agent (c.take-stripe.ensures.speaks _ c.requires.1.session_is)
 
 pub give_back-requires-clause-rest : goal.give_back-requires-clause-rest
-give_back-requires-clause-rest g c = (c.take-stripe.result.value, c.take-stripe.ensures.taken, inl refl)
+give_back-requires-clause-rest g c = (c.take-stripe.result.value, c.take-stripe.ensures.taken, inl (inl refl))
 
 pub returns-clause-agent : goal.returns-clause-agent
 returns-clause-agent g c = agent_same c.args.agent.now c.take-stripe.new.self c.give_back.new.self c.requires.0 c.take-stripe.ensures.agent c.give_back.ensures.agent

@@ -1,7 +1,7 @@
-use Rattle.jc_cache.proofs.Common.{◌∙◌, ◌<◌, ◌≤◌, ℕ, ap, arith, refl, subst, sym, IsSessionSeat}
+use Rattle.jc_cache.proofs.Common.{◌∙◌, ◌<◌, ◌≤◌, ℕ, ap, arith, refl, subst, sym, HasRead, IsSessionSeat}
 use Rattle.jc_cache.proofs.Rows.{length_locks}
 use Rattle.jc_cache.proofs.Meetings.{there_row, row_set, rest_set}
-use Rattle.jc_cache.proofs.Readings.{read_next, read_all, counted_next, counted_all}
+use Rattle.jc_cache.proofs.Readings.{done_next, done_all, counted_next, counted_all}
 use Rattle.jc_cache.proofs.counting.read_each.Goals as goal
 
 pub loop-i-init : goal.loop-i-init
@@ -36,7 +36,7 @@ loop-i-preserved g c =
       agent = reads.agent ∙ i.agent;
       keeps = row_set _ _ c.loop-i.i _ _ i.keeps at reads.lock reads.reads.on;
       rest = rest_set _ _ c.loop-i.i _ i.rest;
-      read = read_next _ _ c.loop-i.i _ _ at i.rest reads.reads i.read;
+      read = done_next HasRead _ _ c.loop-i.i _ _ at i.rest reads.reads i.read;
       counted = counted_next c.statistics_laws.ensures _ c.loop-i.i _ _ _ _ _ at i.counted reads.counted c.together-total.ensures;
     }
 
@@ -48,7 +48,7 @@ returns-clause-keeps g c = c.loop-i.invariant.keeps
 
 pub returns-clause-reads : goal.returns-clause-reads
 returns-clause-reads g c =
-    read_all c.args.seats.now.items _ c.loop-i.i c.args.locks.now (length_locks _ _ c.requires.1.0) c.loop-i-test.false c.loop-i.invariant.read
+    done_all HasRead c.args.seats.now.items _ c.loop-i.i c.args.locks.now (length_locks _ _ c.requires.1.0) c.loop-i-test.false c.loop-i.invariant.read
 
 pub returns-clause-counted : goal.returns-clause-counted
 returns-clause-counted g c =

@@ -1,4 +1,4 @@
-use Rattle.jc_cache.proofs.Common.{◌≡◌, ◌∙◌, ap, subst, sym, State, after_give, after_take, HasSeen, IsEndOf}
+use Rattle.jc_cache.proofs.Common.{◌≡◌, ◌∙◌, ap, inl, subst, sym, State, after_give, after_take, HasSeen, IsEndOf}
 use Rattle.jc_cache.proofs.EndedGenerations.{end_of, turn_of, ended_seen}
 use Rattle.jc_cache.proofs.SessionPhases.{agent_same, holds_one}
 use Rattle.jc_cache.proofs.generations.end_at.Goals as goal
@@ -12,7 +12,7 @@ give_back-requires-clause-rest g c =
     let left : State = c.end_generation-ended.new.self in
     let end = subst (λ (s : State). IsEndOf c.end_generation-ended.result c.args.out.now.items c.end_generation-ended.new.out.items s left) c.deref_mut.ensures.value
     (end_of c.end_generation-ended.result _ _ c.deref_mut.result.now left c.end_generation-ended.ensures.ended c.end_generation-ended.ensures.err) in
-    (found, c.take-stripe.ensures.taken, turn_of c.end_generation-ended.result _ _ found left end)
+    (found, c.take-stripe.ensures.taken, inl (turn_of c.end_generation-ended.result _ _ found left end))
 
 pub returns-clause-agent : goal.returns-clause-agent
 returns-clause-agent g c = agent_same c.args.agent.now c.take-stripe.new.self c.give_back.new.self c.requires.0 c.take-stripe.ensures.agent c.give_back.ensures.agent

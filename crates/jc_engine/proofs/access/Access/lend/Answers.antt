@@ -6,15 +6,15 @@ use Rattle.jc_engine.proofs.access.Access.lend.Goals as goal
 pub take-stripe-requires : goal.take-stripe-requires
 take-stripe-requires g c = (ap (λ a. a.hands.held) c.loop.invariant.0 ∙ c.requires.ready.held, c.loop.invariant.2.free)
 
-pub leave-requires-clause-held : goal.leave-requires-clause-held
-leave-requires-clause-held g c = (
+pub leave_and_pause-requires-clause-held : goal.leave_and_pause-requires-clause-held
+leave_and_pause-requires-clause-held g c = (
   ap (λ a. a.hands.held) c.take-stripe.ensures.agent,
   rw (ap (λ a. a.caller.session) c.take-stripe.ensures.agent, ap (λ a. a.caller.session) c.loop.invariant.0)
       (c.take-stripe.ensures.speaks _ (c.loop.invariant.2.speaks _ c.requires.ready.speaks)),
 )
 
-pub leave-requires-in-Err-clause-held : goal.leave-requires-in-Err-clause-held
-leave-requires-in-Err-clause-held g c = (
+pub leave_and_pause-requires-in-Err-clause-held : goal.leave_and_pause-requires-in-Err-clause-held
+leave_and_pause-requires-in-Err-clause-held g c = (
   ap (λ a. a.hands.held) c.take-stripe.ensures.agent,
   rw (ap (λ a. a.caller.session) c.take-stripe.ensures.agent, ap (λ a. a.caller.session) c.loop.invariant.0)
       (c.take-stripe.ensures.speaks _ (c.loop.invariant.2.speaks _ c.requires.ready.speaks)),
@@ -78,22 +78,22 @@ loop-preserved-then-not-is_due g c = (
   c.loop.invariant.1,
   tries_left g.G.Gate.takes g.G.Gate.gives g.G.Gate.finds g.G.Gate.is_free g.G.Gate.speaks_for (HasWaited (g.P.Phase.due c.args.phase) (g.P.Phase.puts_off c.args.phase)) (g.P.Phase.needs c.args.phase) c.args.self.now.agent.now.caller.session _ _ _ _ c.take-stripe.result.value _ _ _ _
       (λ x y after. g.met.P.Phase.stays c.args.phase x y (rw c.requires.fits.who_is after))
-      c.loop.invariant.2 c.take-stripe.ensures.takes c.take-stripe.ensures.found.0 c.take-stripe.ensures.found.1 c.take-stripe.ensures.speaks c.requires.ready.speaks c.leave.ensures.left
-      record { why = inl (λ due. true≢false (sym (c.is_due.ensures.1 (rw (c.loop.invariant.1, c.deref.ensures) due)) ∙ c.if-not-is_due.true)); renewed = c.leave.ensures.left.renewed },
+      c.loop.invariant.2 c.take-stripe.ensures.takes c.take-stripe.ensures.found.0 c.take-stripe.ensures.found.1 c.take-stripe.ensures.speaks c.requires.ready.speaks c.leave_and_pause.ensures.left
+      record { why = inl (λ due. true≢false (sym (c.is_due.ensures.1 (rw (c.loop.invariant.1, c.deref.ensures) due)) ∙ c.if-not-is_due.true)); way = c.leave_and_pause.ensures.left.way },
   search rules,
 )
 
 pub loop-preserved : goal.loop-preserved
 loop-preserved g c =
     let found : State = c.take-stripe.result.value in
-    let left : IsLeft g.G.Gate.gives g.G.Gate.finds g.G.Gate.is_free g.G.Gate.speaks_for c.take-stripe.new.gate c.take-stripe.new.token found c.leave-in-Err.new.self.gate.now c.leave-in-Err.new.self.token.now =
-    subst (λ (s : State). IsLeft g.G.Gate.gives g.G.Gate.finds g.G.Gate.is_free g.G.Gate.speaks_for c.take-stripe.new.gate c.take-stripe.new.token s c.leave-in-Err.new.self.gate.now c.leave-in-Err.new.self.token.now)
-    (c.in-Err.ensures.back.1 ∙ c.deref_mut.ensures.value) c.leave-in-Err.ensures.left in (
+    let left : IsLeft g.G.Gate.gives g.G.Gate.finds g.G.Gate.is_free g.G.Gate.speaks_for c.take-stripe.new.gate c.take-stripe.new.token found c.leave_and_pause-in-Err.new.self.gate.now c.leave_and_pause-in-Err.new.self.token.now =
+    subst (λ (s : State). IsLeft g.G.Gate.gives g.G.Gate.finds g.G.Gate.is_free g.G.Gate.speaks_for c.take-stripe.new.gate c.take-stripe.new.token s c.leave_and_pause-in-Err.new.self.gate.now c.leave_and_pause-in-Err.new.self.token.now)
+    (c.in-Err.ensures.back.1 ∙ c.deref_mut.ensures.value) c.leave_and_pause-in-Err.ensures.left in (
       search rules,
       c.in-Err.ensures.back.0 ∙ c.loop.invariant.1,
-      tries_left g.G.Gate.takes g.G.Gate.gives g.G.Gate.finds g.G.Gate.is_free g.G.Gate.speaks_for (HasWaited (g.P.Phase.due c.args.phase) (g.P.Phase.puts_off c.args.phase)) (g.P.Phase.needs c.args.phase) c.args.self.now.agent.now.caller.session _ _ _ _ found c.take-stripe.new.gate c.take-stripe.new.token c.leave-in-Err.new.self.gate.now c.leave-in-Err.new.self.token.now
+      tries_left g.G.Gate.takes g.G.Gate.gives g.G.Gate.finds g.G.Gate.is_free g.G.Gate.speaks_for (HasWaited (g.P.Phase.due c.args.phase) (g.P.Phase.puts_off c.args.phase)) (g.P.Phase.needs c.args.phase) c.args.self.now.agent.now.caller.session _ _ _ _ found c.take-stripe.new.gate c.take-stripe.new.token c.leave_and_pause-in-Err.new.self.gate.now c.leave_and_pause-in-Err.new.self.token.now
           (λ x y after. g.met.P.Phase.stays c.args.phase x y (rw c.requires.fits.who_is after))
           c.loop.invariant.2 c.take-stripe.ensures.takes c.take-stripe.ensures.found.0 c.take-stripe.ensures.found.1 c.take-stripe.ensures.speaks c.requires.ready.speaks left
-          record { why = inr (rw (← c.loop.invariant.1, ← c.deref_mut.ensures.value) c.in-Err.ensures.back.2); renewed = left.renewed },
+          record { why = inr (rw (← c.loop.invariant.1, ← c.deref_mut.ensures.value) c.in-Err.ensures.back.2); way = left.way },
       search rules,
     )

@@ -50,7 +50,7 @@ returns-then-not-is_due-clause-back g c =
       inr (
         (found, c.leave.ensures.left.left),
         left_once g.G.Gate.takes g.G.Gate.gives g.G.Gate.finds _ g.G.Gate.is_free g.G.Gate.speaks_for _ _ found c.try_take.new.gate c.try_take.new.token c.leave.new.self.gate.now c.leave.new.self.token.now some.takes some.found.0 some.found.1 (some.speaks _ c.requires.ready.speaks) c.leave.ensures.left,
-        record { why = inl (λ due. true≢false (sym (c.is_due.ensures.1 (subst (g.P.Phase.due c.args.phase) (sym c.deref-2.ensures) due)) ∙ c.if-not-is_due.true)); renewed = c.leave.ensures.left.renewed },
+        record { why = inl (λ due. true≢false (sym (c.is_due.ensures.1 (subst (g.P.Phase.due c.args.phase) (sym c.deref-2.ensures) due)) ∙ c.if-not-is_due.true)); way = c.leave.ensures.left.way },
         sym (c.is_renewable-ends.ensures ∙ ap is_renewable c.deref.ensures),
       ),
     )
@@ -67,7 +67,7 @@ returns-in-Err-clause-back g c =
       inr (
         (found, left.left),
         left_once g.G.Gate.takes g.G.Gate.gives g.G.Gate.finds _ g.G.Gate.is_free g.G.Gate.speaks_for _ _ found c.try_take.new.gate c.try_take.new.token c.leave-in-Err.new.self.gate.now c.leave-in-Err.new.self.token.now some.takes some.found.0 some.found.1 (some.speaks _ c.requires.ready.speaks) left,
-        record { why = inr (subst (g.P.Phase.puts_off c.args.phase) c.deref_mut.ensures.value c.in-Err.ensures.back.2); renewed = left.renewed },
+        record { why = inr (subst (g.P.Phase.puts_off c.args.phase) c.deref_mut.ensures.value c.in-Err.ensures.back.2); way = left.way },
         sym (c.is_renewable-ends.ensures ∙ ap is_renewable c.deref.ensures),
       ),
     )

@@ -7,5 +7,5 @@ give-requires g c = (
   c.requires.rest.0,
   inl c.requires.held.1,
   c.requires.rest.1,
-  ⊎_elim (λ same. inl (inl same)) (λ renews. inr renews) c.requires.rest.2,
+  ⊎_elim (⊎_elim (λ same. inl (inl same)) (λ renews. inr renews)) (λ forgets. inl (inr (inr (inr (inr (inr forgets)))))) c.requires.rest.2,
 )

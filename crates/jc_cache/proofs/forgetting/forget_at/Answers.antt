@@ -1,0 +1,5 @@
+use Rattle.jc_cache.proofs.Forgotten.{forgotten_by}
+use Rattle.jc_cache.proofs.forgetting.forget_at.Goals as goal
+
+pub returns-clause-forgets : goal.returns-clause-forgets
+returns-clause-forgets g c = forgotten_by c.one_lending.ensures c.args.agent.now.caller.session c.forgets.ensures c.args.key.now c.args.seat.now.1 c.lend_at.new.seat.1 c.lend_at.ensures.phase
