@@ -19,7 +19,7 @@ LEAST = 600               # the width of the narrowest picture, with two columns
 
 # The answers from outside, and their marks at the store.
 ANSWERS = {'reads': 'reads', 'says': 'says', 'written': 'changed', 'deleted': 'changed', 'left': 'cross'}
-BAND_KINDS = ('open', 'audit', 'untold', 'reopened', 'fault')
+BAND_KINDS = ('open', 'audit', 'untold', 'reopened', 'invalidated', 'fault')
 # What a mark means, for those that a picture has.
 LEGEND = {
     'bar': (None, 'the call has reserved the key'),

@@ -8,7 +8,7 @@ import re
 ASKS = ('load', 'write', 'delete')  # what the outside is asked for
 ONE_KEY = ('get', 'contains', 'put', 'getput', 'putif', 'remove', 'removeif', 'getremove', 'replace', 'replaceif', 'getreplace', 'forget', 'invoke')
 FAILURE = re.compile(r'(?:Loader|Writer|Processor)Failed \d+|HistoryFull')
-EVICTION = re.compile(r'evict (\S+) (full|memory) at (\d+)\.(\d+)')
+EVICTION = re.compile(r'evict (\S+) (full|memory|invalidated) at (\d+)\.(\d+)')
 STEP = re.compile(r'\d+ (\S+) is (.+) at (\d+)\.(\d+)(?: shared (\d+))?')
 
 
@@ -154,6 +154,8 @@ class Reader:
 
     def on_drop(self, words):
         number, call = self.call_of(words)
+        while self.finds(EVICTION):
+            self.evicts()
         self.add_of(number, 'dropped', self.takes(f'{number} dropped')[0], ends=tuple(call.started()))
         call.states = {}
 
@@ -210,6 +212,11 @@ class Reader:
         if words[2] == '-':
             del self.store[words[1]]
         self.changed(self.add('foreign', self.takes('foreign .*')[0]))
+
+    def on_invalidate(self, words):
+        self.add('invalidated', self.takes(f'invalidate {re.escape(words[1])}( marked)?')[0])
+        while self.finds(EVICTION):
+            self.evicts()
 
     def on_reopen(self, words):
         self.stripes, self.capacity = int(words[1]), int(words[2])
@@ -285,4 +292,4 @@ class Reader:
         behind = self.finds(STEP, 1)
         is_before_step = behind and (int(behind[3]), int(behind[4])) == (int(said[3]), int(said[4]) + 1)
         reserved = [other for call in self.calls.values() for other in call.started() if sum(other.encode()) % self.stripes == int(said[3])]
-        return said[2] == 'memory' or not is_before_step or len(reserved) >= self.capacity
+        return said[2] != 'full' or not is_before_step or len(reserved) >= self.capacity

@@ -1,4 +1,4 @@
--- Final states.
+-- The outcome of a program of threads: replies, cache and store, when nothing can happen any more.
 --     FinalValue    the replies to the threads, thread by thread; the entries of the cache and of the store, in the byte order of
 --                   the keys; and the keys whose cached value isn't the store's
 --     final_of      the value of a final state

@@ -1,4 +1,4 @@
--- The part of a scene that decides what may come.
+-- The key under which a search knows a scene: what decides what may still happen.
 --     ScenesAlike             the worlds of two scenes have one essence, and all else of the scenes is equal
 --     IsKeyOf                 a key is that of a scene, by these tables of what snapshots have met
 --     KeyValue                a snapshot, the positions of the threads, and their replies

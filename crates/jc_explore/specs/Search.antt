@@ -1,4 +1,4 @@
--- The functions of a search. No contract of a public function cites this.
+-- The invariant of the search over all interleavings: what each of its lists has more.
 --     Adds                the things that a list has after an older one have a property
 --     HaveSchedule        the known states that were added have this schedule
 --     IsNextSchedule      a schedule is another one and one more move

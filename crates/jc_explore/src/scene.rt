@@ -85,7 +85,7 @@ fn has_memory(outcome: &Outcome) -> bool
 {
     match outcome {
         Outcome::Stepped(stepped) => match stepped.evicted {
-            Some(eviction) => matches!(eviction.cause, Cause::Full),
+            Some(eviction) => matches!(eviction.cause, Cause::Full | Cause::Invalidated),
             None => true,
         },
         _ => true,

@@ -1,4 +1,4 @@
--- The cache's shape, as far as a program is read.
+-- The `open` line of a program of threads: the shape that it gives, or its fault.
 --     shape_fault    the fault of a line whose shape of a cache is refused
 --     has_shape      a cache may have the shape that was read
 use Rattle.std.specs.Prelude.{Bool, true, is_ok, Option, None, Some}

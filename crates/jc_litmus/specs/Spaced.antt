@@ -1,4 +1,4 @@
--- Lines of scripts, from their words.
+-- The lines of a script, put together from their words, for the script of an outcome.
 --     spaced             words, each after a space
 --     open_text          the line that opens a cache of this shape, with these words for the flags that are on, each after a
 --                        space

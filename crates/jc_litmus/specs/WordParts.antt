@@ -1,4 +1,4 @@
--- Parts of a word.
+-- Where a word of an expectation (`T.I=REPLY`) is cut.
 --     sign_at                 the place of the first byte that is this sign
 --     halves_at, halves_of    the parts before a place and after it, and before the first sign and after it
 use Rattle.std.specs.Prelude.{◌==◌, ℕ, ◌+◌, List, take, drop, Option, None, Some}

@@ -10,7 +10,6 @@ pub use Rattle.std.specs.FinMap.{empty, entries, get, get-empty}
 pub use Rattle.std.specs.Prelude.{codes, ◌&&◌, ◌⊎◌}
 pub use Rattle.jc_model.specs.Batches.{is_among}
 pub use Rattle.jc_model.specs.Cache.{Bytes, Cache, key_cmp}
-pub use Rattle.jc_model.specs.Reader.{is_full_cause}
 pub use Rattle.jc_model.specs.Table.{is_load_given}
 pub use Rattle.jc_model.specs.declared.event.Op.{Op}
 pub use Rattle.jc_script.specs.Determinism.{PrintedMemoryDetermines, RunsWriteTheSame, TellsOfMemory, shown_at_begin, shown_by_act, shown_by_line, shown_by_one, shown_by_read, shown_in}
@@ -31,19 +30,21 @@ pub use Rattle.jc_text.specs.declared.read.line.ScriptAct.{ScriptAct}
 pub use Rattle.jc_text.specs.declared.read.line.ScriptAct.TheVariants.{Apply, ApplyFail, ApplyLie, Drop, End, More, Process, Read, ReadFail, Say, Take}
 pub use Rattle.jc_text.specs.declared.read.line.BulkLine.{BulkLine}
 pub use Rattle.jc_text.specs.declared.read.line.Line.{Line}
-pub use Rattle.jc_text.specs.declared.read.line.Line.TheVariants.{Audit, Begin, BeginBulk, Foreign, OfCall, Open, Reopen, Set, Untold}
+pub use Rattle.jc_text.specs.declared.read.line.Line.TheVariants.{Audit, Begin, BeginBulk, Foreign, Invalidate, OfCall, Open, Reopen, Set, Untold}
 pub use Rattle.jc_types.specs.Limits.{check, is_between, is_session}
 pub use Rattle.jc_types.specs.declared.config.Config.{Config}
 pub use Rattle.jc_types.specs.declared.limits.TheConstants.{CAPACITY_MAX, HISTORY_MAX, HISTORY_MIN, STRIPES_MAX}
 pub use Rattle.jc_types.specs.declared.refusal.Refusal.TheVariants.{BadConfig, TooManyKeys, WriterFailed}
 pub use Rattle.jc_world.specs.Calls.{CallState, SweepState, Task, at_each, has_number, has_too_many_keys, new_call, op_at, open_keys, over_of, put_each_of}
-pub use Rattle.jc_world.specs.Determinism.{RunsAreDetermined, eviction_has_memory, has_memory, have_memory}
-pub use Rattle.jc_world.specs.Events.{AllFit, Ends, Happens, Picks, Run, StartsAs, Step, after_report, after_reports, all_fit, is_fit, keys_reported, not_over, reported_at, reported_now, shown_begun, with_call, with_met_by}
+pub use Rattle.jc_world.specs.Determinism.{RunsAreDetermined, cause_has_memory, eviction_has_memory, has_memory, have_memory}
+pub use Rattle.jc_world.specs.Events.{AllFit, EndsAs, Happens, eviction_place, Picks, Run, StartsAs, Step, after_report, after_reports, all_fit, is_fit, keys_reported, not_over, reported_at, reported_now, shown_begun, with_call, with_met_by}
 pub use Rattle.jc_world.specs.Fits.{fits, is_being_written, is_free, is_new, is_playable, is_single, may_change, may_leave, may_look, may_report, may_start}
 pub use Rattle.jc_world.specs.Together.{BeginFits, FitTogether, key_at, looks, looks_of, opening_events}
-pub use Rattle.jc_world.specs.World.{WorldState, has_progress, is_all_answered, is_busy, is_joined, is_untouched, join_cmp, of_call, open_call, part_of, start, waits_for_load, waits_for_process, waits_for_report, with_stored}
+pub use Rattle.jc_world.specs.World.{WorldState, has_progress, home, is_all_answered, is_busy, is_joined, is_untouched, join_cmp, of_call, open_call, part_of, start, waits_for_load, waits_for_process, waits_for_report, with_stored}
 pub use Rattle.jc_world.specs.declared.command.Command.{Command}
+pub use Rattle.jc_world.specs.declared.event.EvictionPlace.{EvictionPlace}
 pub use Rattle.jc_world.specs.declared.event.Outcome.{Outcome}
+pub use Rattle.jc_stripe.specs.State.{is_reserved}
 pub use Rattle.jc_world.specs.declared.event.Part.{Part}
 pub use Rattle.jc_world.specs.declared.event.Shown.{Shown}
 pub use Rattle.jc_world.specs.declared.event.WorldEvent.{WorldEvent}

@@ -1,5 +1,5 @@
 -- The events of a line about a call under way fit, if it is the time for it.
-use Rattle.jc_script.proofs.Common.{◌≡◌, ◌==◌, ◌∙◌, ◌&&◌, ◌||◌, ◌++◌, ◌+◌, ◌<◌, ℕ, Bool, true, false, not, List, [], ◌∷◌, Option, None, Some, find, is_none, is_some, length, filter, get_or, map, option_to_list, take, cond, refl, sym, ap, subst, append-nil, arith, zero, suc, inl, inr, pointwise, and_from, and_parts, or_parts, nat_list_eq_equiv, map-append, take_more, filter-append, is_among, Bytes, is_load_given, Part, CallState, op_at, open_keys, WorldState, is_joined, open_call, part_of, fits, is_being_written, is_free, may_change, may_report, may_start, AllFit, is_fit, Shown, Config, key_at, looks, FitTogether, ScriptAct, Read, ReadFail, Say, Apply, ApplyFail, ApplyLie, End, Drop, More, Take, Process, said_after, event_at, events_of_act, is_meant, is_started, is_time, key_events, keys_of_act, leaves, left_keys}
+use Rattle.jc_script.proofs.Common.{Outcome, EvictionPlace, is_reserved, eviction_place, home, ◌≡◌, ◌==◌, ◌∙◌, ◌&&◌, ◌||◌, ◌++◌, ◌+◌, ◌<◌, ℕ, Bool, true, false, not, List, [], ◌∷◌, Option, None, Some, find, is_none, is_some, length, filter, get_or, map, option_to_list, take, cond, refl, sym, ap, subst, append-nil, arith, zero, suc, inl, inr, pointwise, and_from, and_parts, or_parts, nat_list_eq_equiv, map-append, take_more, filter-append, is_among, Bytes, is_load_given, Part, CallState, op_at, open_keys, WorldState, is_joined, open_call, part_of, fits, is_being_written, is_free, may_change, may_report, may_start, AllFit, is_fit, Shown, Config, key_at, looks, FitTogether, ScriptAct, Read, ReadFail, Say, Apply, ApplyFail, ApplyLie, End, Drop, More, Take, Process, said_after, event_at, events_of_act, is_meant, is_started, is_time, key_events, keys_of_act, leaves, left_keys}
 use Rattle.std.specs.List.{AllByRecursion, IsDistinct, list_all, list_any}
 use Rattle.std.proofs.lemmas.Map.Keys.{apart_from_distinct, IsDistinct-cons, IsDistinct-head, IsDistinct-tail}
 use Rattle.jc_model.specs.declared.event.LoadAnswer.{LoadAnswer}
@@ -187,6 +187,18 @@ act_fits w together call Drop u keys here is differ time =
 act_fits w together call More u keys here is differ time = alone_fit w together call More (own_call call) keys differ (and_parts _ _ time).1
 act_fits w together call Take u keys here is differ time = alone_fit w together call Take (own_call call) keys differ (all_of_kept _ (event_at call Take) (fits w) (λ key h. h) keys)
 act_fits w together call (Process source calls fail) u keys here is differ time = alone_fit w together call (Process source calls fail) (own_call call) keys differ (all_of_kept _ (event_at call (Process source calls fail)) (fits w) (λ key h. h) keys)
+
+-- ---- an invalidation
+
+invalid_shown : (b : Bool) (place : Option EvictionPlace) → (is_fit (cond b Outcome.Marked (Outcome.Invalidated place)) && true) ≡ true
+invalid_shown true place = refl
+invalid_shown false place = refl
+
+pub invalid_fits : (w : WorldState) (key : Bytes) → fits w (event.Invalidate key) ≡ true → AllFit w (event.Invalidate key ∷ [])
+invalid_fits w key fit [] new run = absurd run
+invalid_fits w key fit (s ∷ []) new (at, inl (fit_now, happens), run) = ap (λ (s : Shown). is_fit s.outcome && true) happens.4 ∙ invalid_shown (is_reserved happens.0 key) (eviction_place (home w key) happens.0 happens.2)
+invalid_fits w key fit (s ∷ []) new (at, inr (unfit, shows, is), run) = let t : true ≡ false = sym fit ∙ unfit in cc
+invalid_fits w key fit (s ∷ t ∷ more) new (at, step, run) = absurd run
 
 -- ---- a reopening
 

@@ -5,7 +5,7 @@
 --                        two ways to play the line have printed the same and leave the same world
 --     transcript_same    and so have two ways to play a script
 --     printed_same, runs_same     so have two transcripts, and two runs, if what they print tells nothing of memory
-use Rattle.jc_script.proofs.Common.{◌≡◌, ◌∙◌, ◌+◌, ◌++◌, ◌&&◌, ℕ, Bool, true, false, not, if◌then◌else◌, List, [], ◌∷◌, Option, None, Some, Result, Ok, Err, is_some, refl, sym, ap, subst, inl, inr, append-nil, true≢false, entries, and_parts, list_all-append, Bytes, Cache, CallState, SweepState, Task, at_each, put_each_of, new_call, Command, Shown, WorldEvent, RunsAreDetermined, has_memory, have_memory, Run, Step, with_call, shown_begun, fits, is_new, is_playable, is_session, looks, looks_of, opening_events, WorldState, is_busy, open_call, Fault, ScriptAct, BulkLine, Line, Open, Set, Begin, BeginBulk, OfCall, Foreign, Reopen, Audit, Untold, RunEnd, PrintedMemoryDetermines, RunsWriteTheSame, shown_at_begin, shown_by_act, shown_by_one, shown_by_line, shown_by_read, shown_in, bulk_call, events_of_act, keys_of_act, load_code, single, start_events, read_line, audit_text, event_text, fails_text, fault_line, texts, IsTranscript, pieces_of, Audited, EndsScript, OpenedWorld, Plays, PlaysAct, PlaysBegin, PlaysOne, PlaysRead, Transcript, fault_read}
+use Rattle.jc_script.proofs.Common.{◌≡◌, ◌∙◌, ◌+◌, ◌++◌, ◌&&◌, ℕ, Bool, true, false, not, if◌then◌else◌, List, [], ◌∷◌, Option, None, Some, Result, Ok, Err, is_some, refl, sym, ap, subst, inl, inr, append-nil, true≢false, entries, and_parts, list_all-append, Bytes, Cache, CallState, SweepState, Task, at_each, put_each_of, new_call, Command, Shown, WorldEvent, RunsAreDetermined, has_memory, have_memory, Run, Step, with_call, shown_begun, fits, is_new, is_playable, is_session, looks, looks_of, opening_events, WorldState, is_busy, open_call, Fault, ScriptAct, BulkLine, Line, Open, Set, Begin, BeginBulk, OfCall, Foreign, Invalidate, Reopen, Audit, Untold, RunEnd, PrintedMemoryDetermines, RunsWriteTheSame, shown_at_begin, shown_by_act, shown_by_one, shown_by_line, shown_by_read, shown_in, bulk_call, events_of_act, keys_of_act, load_code, single, start_events, read_line, audit_text, event_text, fails_text, fault_line, texts, IsTranscript, pieces_of, Audited, EndsScript, OpenedWorld, Plays, PlaysAct, PlaysBegin, PlaysOne, PlaysRead, Transcript, fault_read}
 use Rattle.jc_model.specs.declared.event.Op.TheVariants as op
 use Rattle.jc_model.proofs.CallerLemmas.{same_cache}
 use Rattle.jc_world.specs.Audit.{differing}
@@ -161,6 +161,7 @@ line_same law (Some w) (Begin number session operation) x y n m a b p q = begin_
 line_same law (Some w) (BeginBulk number session call) x y n m a b p q = bulk_same law w number session call a.0 b.0 x y n m a.1 b.1 a.2 b.2 p q
 line_same law (Some w) (OfCall number act) x y n m a b p q = act_same law w number act (open_call w number) x y n m a b p q
 line_same law (Some w) (Foreign key value) x y n m a b p q = one_same law w (event.Foreign key value) x y n m a b p q
+line_same law (Some w) (Invalidate key) x y n m a b p q = one_same law w (event.Invalidate key) x y n m a b p q
 line_same law (Some w) (Reopen config) x y n m a b p q = one_same law w (event.Reopen config) x y n m a b p q
 line_same law (Some w) Audit x y n m a b p q = (audit_same w x y a.0 b.0, a.1 ∙ sym b.1)
 line_same law (Some w) Untold x y n m a b p q = (a.0 ∙ sym b.0, a.1 ∙ sym b.1)

@@ -2,9 +2,9 @@
 --     before_it, behind_it    a text with such a line before or behind another has it
 --     event_tells             an event that shows such an eviction prints it
 --     transcript_tells        and so does a transcript
-use Rattle.jc_script.proofs.Common.{◌≡◌, ◌∙◌, ◌+◌, ◌++◌, ◌&&◌, ℕ, Bool, true, false, cond, List, [], ◌∷◌, Option, None, Some, Result, Ok, Err, refl, sym, ap, subst, inl, inr, append_assoc, append-nil, true≢false, ◌⊎◌, codes, list_all-append, Bytes, CallState, has_too_many_keys, new_call, over_of, TooManyKeys, Command, Outcome, Shown, WorldEvent, LoadSource, is_full_cause, eviction_has_memory, has_memory, have_memory, Happens, Run, Step, not_over, shown_begun, opening_events, WorldState, open_call, Fault, ScriptAct, Line, Open, Set, Begin, BeginBulk, OfCall, Foreign, Reopen, Audit, Untold, RunEnd, TellsOfMemory, shown_at_begin, shown_by_act, shown_by_one, shown_by_line, shown_by_read, shown_in, events_of_act, keys_of_act, load_code, single, start_events, read_line, OpenedWorld, Plays, PlaysAct, PlaysBegin, PlaysOne, PlaysRead, Transcript}
+use Rattle.jc_script.proofs.Common.{◌≡◌, ◌∙◌, ◌+◌, ◌++◌, ◌&&◌, ℕ, Bool, true, false, cond, List, [], ◌∷◌, Option, None, Some, Result, Ok, Err, refl, sym, ap, subst, inl, inr, append_assoc, append-nil, true≢false, ◌⊎◌, codes, list_all-append, Bytes, CallState, has_too_many_keys, new_call, over_of, TooManyKeys, Command, Outcome, Shown, WorldEvent, LoadSource, cause_has_memory, eviction_has_memory, has_memory, have_memory, Happens, Run, Step, not_over, shown_begun, opening_events, WorldState, home, is_reserved, eviction_place, EvictionPlace, open_call, Fault, ScriptAct, Line, Open, Set, Begin, BeginBulk, OfCall, Foreign, Invalidate, Reopen, Audit, Untold, RunEnd, TellsOfMemory, shown_at_begin, shown_by_act, shown_by_one, shown_by_line, shown_by_read, shown_in, events_of_act, keys_of_act, load_code, single, start_events, read_line, OpenedWorld, Plays, PlaysAct, PlaysBegin, PlaysOne, PlaysRead, Transcript}
 use Rattle.jc_model.specs.declared.event.Cause.{Cause}
-use Rattle.jc_model.specs.declared.event.Cause.TheVariants.{Full, Memory}
+use Rattle.jc_model.specs.declared.event.Cause.TheVariants.{Full, Memory, Invalidated}
 use Rattle.jc_stripe.specs.declared.begun.Eviction.{Eviction}
 use Rattle.jc_world.specs.declared.event.Outcome.TheVariants as outcome
 use Rattle.jc_world.specs.declared.event.Stepped.{Stepped}
@@ -34,8 +34,9 @@ behind_it a b (before, key, stripe, place, after, is) =
       ap (λ (t : List ℕ). a ++ t) is ∙ sym (append_assoc a (before ++ line) after) ∙ ap (λ (t : List ℕ). t ++ after) (sym (append_assoc a before line)),
     )
 
-cause_tells : (key : Bytes) (cause : Cause) (stripe place : ℕ) → is_full_cause cause ≡ false → TellsOfMemory (evict_line key cause stripe place)
+cause_tells : (key : Bytes) (cause : Cause) (stripe place : ℕ) → cause_has_memory cause ≡ false → TellsOfMemory (evict_line key cause stripe place)
 cause_tells key Full stripe place h = absurd (true≢false h)
+cause_tells key Invalidated stripe place h = absurd (true≢false h)
 cause_tells key Memory stripe place h = ([], key, stripe, place, [], sym (append-nil (evict_line key Memory stripe place)))
 
 evicted_tells : (key : Bytes) (evicted : Option Eviction) (stripe : ℕ) → eviction_has_memory evicted ≡ false → TellsOfMemory (evicted_text key evicted stripe)
@@ -69,6 +70,10 @@ begun_has u = go (has_too_many_keys u)
     go true = refl
     go false = refl
 
+invalid_has : (b : Bool) (place : Option EvictionPlace) → has_memory (cond b outcome.Marked (outcome.Invalidated place)) ≡ true
+invalid_has true place = refl
+invalid_has false place = refl
+
 told_tells : (w n : WorldState) (e : WorldEvent) (s : Shown) → Happens w e s n → has_memory s.outcome ≡ false → TellsOfMemory (told e s.outcome)
 told_tells w n (event.Call call session command) s happens h = absurd (not_so s (shown_begun (new_call call session command)) happens.0 (begun_has (new_call call session command)) h)
 told_tells w n (event.Look call stripe) s happens h = absurd (not_so s _ happens.8 refl h)
@@ -83,6 +88,7 @@ told_tells w n (event.Withdraw call key) s happens h = shown_tells call key s.ou
 told_tells w n (event.Leave call) s happens h = absurd (not_so s _ happens.0 refl h)
 told_tells w n (event.PickUp call key) s happens h = shown_tells call key s.outcome h
 told_tells w n (event.Foreign key value) s happens h = absurd (not_so s _ happens.0 refl h)
+told_tells w n (event.Invalidate key) s happens h = absurd (not_so s _ happens.4 (invalid_has (is_reserved happens.0 key) (eviction_place (home w key) happens.0 happens.2)) h)
 told_tells w n (event.Reopen config) s happens h = absurd (not_so s _ happens.0 refl h)
 
 event_tells : (w n : WorldState) (e : WorldEvent) (s : Shown) → Step w e s n → has_memory s.outcome ≡ false → TellsOfMemory (event_text e s)
@@ -139,6 +145,7 @@ line_tells (Some w) (Begin number session operation) x n a h = begin_tells w num
 line_tells (Some w) (BeginBulk number session call) x n a h = begin_tells w number session a.0 x n a.2 h
 line_tells (Some w) (OfCall number act) x n a h = act_tells w number act (open_call w number) x n a h
 line_tells (Some w) (Foreign key value) x n a h = one_tells w (event.Foreign key value) x n a h
+line_tells (Some w) (Invalidate key) x n a h = one_tells w (event.Invalidate key) x n a h
 line_tells (Some w) (Reopen config) x n a h = one_tells w (event.Reopen config) x n a h
 line_tells (Some w) Audit x n a h = absurd (true≢false h)
 line_tells (Some w) Untold x n a h = absurd (true≢false h)

@@ -1,7 +1,7 @@
 -- A line without a fault leads from a world that is reached to one that is, and so do the lines of a transcript.
 --     run_on          a run, and one after it, are one
 --     texts_on        what is printed of both is printed of the one after the other
---     is_mark         a call's begin, a foreign write, or a reopening: no world is fresh after one that fits
+--     is_mark         a call's begin, a foreign write, an invalidation, or a reopening: no world is fresh after one that fits
 --     happens_fresh, run_fresh     what isn't fresh never is again
 --     IsIdle          no call is under way, and none has reserved or joined anything
 --     idle_unfit      then nothing fits but these three
@@ -10,7 +10,7 @@
 --     no_event, some_events     a line that makes no event leads on, and so does one that makes some
 --     piece_stays     each line without a fault leads on, by its bytes
 --     script_stays    and so do the lines of a script, one after another
-use Rattle.jc_script.proofs.Common.{arith, ◌+◌, ◌≡◌, ◌∙◌, option_map, ◌++◌, ◌&&◌, ℕ, Bool, true, false, cond, List, [], ◌∷◌, Option, None, Some, Result, Ok, Err, is_some, find, refl, sym, ap, subst, subst₂, inl, inr, append_assoc, append-nil, true≢false, and_from, list_all-append, empty, get, get-empty, Config, BadConfig, WriterFailed, check, is_between, STRIPES_MAX, CAPACITY_MAX, HISTORY_MIN, HISTORY_MAX, Op, Bytes, key_cmp, is_load_given, Outcome, Part, Shown, WorldEvent, CallState, has_number, after_report, after_reports, keys_reported, reported_now, with_met_by, reported_at, all_fit, is_fit, Ends, Happens, Picks, Run, StartsAs, fits, may_change, may_leave, may_look, may_report, may_start, opening_events, WorldState, join_cmp, start, has_progress, of_call, open_call, part_of, waits_for_load, waits_for_process, waits_for_report, is_all_answered, is_untouched, with_stored, Command, Fault, SetTooLate, ScriptAct, events_of_act, keys_of_act, load_code, single, start_events, Line, Open, Set, Begin, BeginBulk, OfCall, Foreign, Reopen, Audit, Untold, read_line, event_text, fails_text, texts, RunEnd, OpenedWorld, Plays, PlaysAct, PlaysBegin, PlaysOne, PlaysRead, Prints, Transcript}
+use Rattle.jc_script.proofs.Common.{arith, ◌+◌, ◌≡◌, ◌∙◌, option_map, ◌++◌, ◌&&◌, ℕ, Bool, true, false, cond, List, [], ◌∷◌, Option, None, Some, Result, Ok, Err, is_some, find, refl, sym, ap, subst, subst₂, inl, inr, append_assoc, append-nil, true≢false, and_from, list_all-append, empty, get, get-empty, Config, BadConfig, WriterFailed, check, is_between, STRIPES_MAX, CAPACITY_MAX, HISTORY_MIN, HISTORY_MAX, Op, Bytes, key_cmp, is_load_given, Outcome, Part, Shown, WorldEvent, CallState, has_number, after_report, after_reports, keys_reported, reported_now, with_met_by, reported_at, all_fit, is_fit, EndsAs, Happens, Picks, Run, StartsAs, fits, may_change, may_leave, may_look, may_report, may_start, opening_events, WorldState, join_cmp, start, has_progress, of_call, open_call, part_of, waits_for_load, waits_for_process, waits_for_report, is_all_answered, is_untouched, with_stored, Command, Fault, SetTooLate, ScriptAct, events_of_act, keys_of_act, load_code, single, start_events, Line, Open, Set, Begin, BeginBulk, OfCall, Foreign, Invalidate, Reopen, Audit, Untold, read_line, event_text, fails_text, texts, RunEnd, OpenedWorld, Plays, PlaysAct, PlaysBegin, PlaysOne, PlaysRead, Prints, Transcript}
 use Rattle.std.proofs.Math.Bool.{and-false}
 use Rattle.jc_types.specs.declared.caller.Caller.{Caller}
 use Rattle.jc_types.specs.declared.config.Field.TheVariants.{Stripes, Capacity, History}
@@ -54,7 +54,7 @@ starts_fresh w new caller key op from to outcome.Joins h = ap fresh h.2
 starts_fresh w new caller key op from to seen h = absurd h
 
 -- a last phase
-ends_fresh : (w new : WorldState) (call : ℕ) (key : Bytes) (part : Part) (from to : State) (seen : Outcome) → Ends w call key part from to seen new → fresh new ≡ fresh w
+ends_fresh : (w new : WorldState) (call : ℕ) (key : Bytes) (part : Part) (from to : State) (seen : Outcome) → EndsAs w call key part from to seen new → fresh new ≡ fresh w
 ends_fresh w new call key part from to (outcome.Stepped x) h = ap fresh h.2
 ends_fresh w new call key part from to seen h = absurd h
 
@@ -79,10 +79,11 @@ reports_fresh w call answer [] = refl
 reports_fresh w call answer (key ∷ keys) =
     reports_fresh (reported_at w key (answer key) (part_of w call key)) call answer keys ∙ reported_fresh w key (answer key) (part_of w call key)
 
--- a call's begin, a foreign write and a reopening: no world is fresh after them
+-- a call's begin, a foreign write, an invalidation and a reopening: no world is fresh after them
 abbrev is_mark : WorldEvent → Bool
 is_mark (event.Call call session command) = true
 is_mark (event.Foreign key value) = true
+is_mark (event.Invalidate key) = true
 is_mark (event.Reopen config) = true
 is_mark e = false
 
@@ -101,6 +102,7 @@ happens_fresh w new (event.Withdraw call key) seen h stale = ap fresh h.7 ∙ st
 happens_fresh w new (event.Leave call) seen h stale = ap fresh h.1 ∙ stale
 happens_fresh w new (event.PickUp call key) seen h stale = picks_fresh w new call key h.0 h.2 h.4 seen.outcome h.5 ∙ stale
 happens_fresh w new (event.Foreign key value) seen h stale = ap fresh h.1
+happens_fresh w new (event.Invalidate key) seen h stale = ap fresh h.5
 happens_fresh w new (event.Reopen config) seen h stale = ap fresh h.1
 
 run_fresh : (w new : WorldState) (es : List WorldEvent) (ss : List Shown) → Run w es ss new → fresh w ≡ false → fresh new ≡ false
@@ -147,6 +149,7 @@ idle_unfit w idle e other = cc
 first_marks : (w new : WorldState) (e : WorldEvent) (seen : Shown) → IsIdle w → fits w e ≡ true → Happens w e seen new → fresh new ≡ false
 first_marks w new (event.Call call session command) seen idle fit h = ap fresh h.1
 first_marks w new (event.Foreign key value) seen idle fit h = ap fresh h.1
+first_marks w new (event.Invalidate key) seen idle fit h = ap fresh h.5
 first_marks w new (event.Reopen config) seen idle fit h = ap fresh h.1
 first_marks w new e seen idle fit h = absurd (true≢false (sym fit ∙ idle_unfit w idle e refl))
 
@@ -154,6 +157,7 @@ first_marks w new e seen idle fit h = absurd (true≢false (sym fit ∙ idle_unf
 stored_unfit : (w : WorldState) (key value : Bytes) (e : WorldEvent) → IsIdle w → fits w e ≡ false → fits (with_stored w key value) e ≡ false
 stored_unfit w key value (event.Call call session command) idle unfit = unfit
 stored_unfit w key value (event.Foreign k v) idle unfit = unfit
+stored_unfit w key value (event.Invalidate k) idle unfit = unfit
 stored_unfit w key value (event.Reopen config) idle unfit = unfit
 stored_unfit w key value e idle unfit = idle_unfit (with_stored w key value) (idle_stored w key value idle) e refl
 
@@ -266,6 +270,7 @@ line_stays starts es ss (Some w) (Begin number session operation) text new reach
 line_stays starts es ss (Some w) (BeginBulk number session call) text new reached none (command, named, h) = begin_stays es ss w number session command text new reached h
 line_stays starts es ss (Some w) (OfCall number act) text new reached none h = act_stays es ss w number act (open_call w number) text new reached h
 line_stays starts es ss (Some w) (Foreign key value) text new reached none h = one_stays es ss w (event.Foreign key value) text new reached h
+line_stays starts es ss (Some w) (Invalidate key) text new reached none h = one_stays es ss w (event.Invalidate key) text new reached h
 line_stays starts es ss (Some w) (Reopen config) text new reached none h = one_stays es ss w (event.Reopen config) text new reached h
 line_stays starts es ss (Some w) Audit text new reached none (audited, is) = no_event es ss text new (subst (IsReachedBy es ss) (sym is) reached) (inr (inr (inl (w, is, audited))))
 line_stays starts es ss (Some w) Untold text new reached none (told, is) = no_event es ss text new (subst (IsReachedBy es ss) (sym is) reached) (inr (inr (inr (inl (w, is, told)))))

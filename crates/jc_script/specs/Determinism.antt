@@ -27,7 +27,7 @@ use Rattle.jc_world.specs.World.{WorldState, open_call}
 use Rattle.jc_text.specs.declared.fault.Fault.{Fault}
 use Rattle.jc_text.specs.declared.read.line.ScriptAct.{ScriptAct}
 use Rattle.jc_text.specs.declared.read.line.Line.{Line}
-use Rattle.jc_text.specs.declared.read.line.Line.TheVariants.{Open, Set, Begin, BeginBulk, OfCall, Foreign, Reopen, Audit, Untold}
+use Rattle.jc_text.specs.declared.read.line.Line.TheVariants.{Open, Set, Begin, BeginBulk, OfCall, Foreign, Invalidate, Reopen, Audit, Untold}
 use Rattle.jc_text.specs.Lines.{read_line}
 use Rattle.jc_text.specs.Printing.{evict_line}
 use Rattle.jc_text.specs.Pieces.{pieces_of}
@@ -65,6 +65,8 @@ shown_by_line (Some w) (OfCall number act) text new h =
     shown_by_act w number act (open_call w number) text new h
 shown_by_line (Some w) (Foreign key value) text new h =
     shown_by_one w (event.Foreign key value) text new h
+shown_by_line (Some w) (Invalidate key) text new h =
+    shown_by_one w (event.Invalidate key) text new h
 shown_by_line (Some w) (Reopen config) text new h =
     shown_by_one w (event.Reopen config) text new h
 shown_by_line (Some w) Audit text new h = []

@@ -17,7 +17,7 @@ use Rattle.jc_world.specs.Fits.{fits, is_new}
 use Rattle.jc_text.specs.declared.fault.Fault.{Fault}
 use Rattle.jc_text.specs.declared.fault.Fault.TheVariants.{NotOpen, OpenTwice, BadConfig, SetTooLate, NotRising, CallerBusy, NoSuchCall, NotNow}
 use Rattle.jc_text.specs.declared.read.line.Line.{Line}
-use Rattle.jc_text.specs.declared.read.line.Line.TheVariants.{Open, Set, Begin, BeginBulk, OfCall, Foreign, Reopen, Audit, Untold}
+use Rattle.jc_text.specs.declared.read.line.Line.TheVariants.{Open, Set, Begin, BeginBulk, OfCall, Foreign, Invalidate, Reopen, Audit, Untold}
 use Rattle.jc_text.specs.declared.read.line.ScriptAct.{ScriptAct}
 use Rattle.jc_script.specs.LineEvents.{is_time_for, allows_but, has_but}
 
@@ -55,6 +55,7 @@ state_fault (Some w) (Begin number session command) = begin_fault w number sessi
 state_fault (Some w) (BeginBulk number session call) = begin_fault w number session
 state_fault (Some w) (OfCall number act) = act_fault w number act (open_call w number)
 state_fault (Some w) (Foreign key value) = None
+state_fault (Some w) (Invalidate key) = if fits w (event.Invalidate key) then None else Some NotNow
 state_fault (Some w) (Reopen config) = reopen_fault (config_fault (check config)) (fits w (event.Reopen config))
 state_fault (Some w) Audit = None
 state_fault (Some w) Untold = None

@@ -41,7 +41,7 @@ use Rattle.jc_world.specs.World.{WorldState, has_progress, is_joined, part_of, w
 use Rattle.jc_world.specs.Fits.{fits, is_being_written, is_single, passes_in}
 use Rattle.jc_text.specs.declared.read.line.Operation.{Operation}
 use Rattle.jc_text.specs.declared.read.line.Line.{Line}
-use Rattle.jc_text.specs.declared.read.line.Line.TheVariants.{Open, Set, Begin, BeginBulk, OfCall, Foreign, Reopen, Audit, Untold}
+use Rattle.jc_text.specs.declared.read.line.Line.TheVariants.{Open, Set, Begin, BeginBulk, OfCall, Foreign, Invalidate, Reopen, Audit, Untold}
 use Rattle.jc_text.specs.declared.read.line.BulkLine.{BulkLine}
 use Rattle.jc_text.specs.declared.read.line.BulkLine.TheVariants as bulk
 use Rattle.jc_text.specs.declared.read.line.ScriptAct.{ScriptAct}
@@ -198,6 +198,7 @@ is_callable (Open config) = true
 is_callable (Set key value) = true
 is_callable (OfCall number act) = true
 is_callable (Foreign key value) = true
+is_callable (Invalidate key) = true
 is_callable (Reopen config) = true
 is_callable Audit = true
 is_callable Untold = true

@@ -34,7 +34,7 @@ use Rattle.jc_world.specs.Coherent.{all_hold}
 use Rattle.jc_text.specs.declared.fault.Fault.{Fault}
 use Rattle.jc_text.specs.declared.fault.Fault.TheVariants.{CutLine}
 use Rattle.jc_text.specs.declared.read.line.Line.{Line}
-use Rattle.jc_text.specs.declared.read.line.Line.TheVariants.{Open, Set, Begin, BeginBulk, OfCall, Foreign, Reopen, Audit, Untold}
+use Rattle.jc_text.specs.declared.read.line.Line.TheVariants.{Open, Set, Begin, BeginBulk, OfCall, Foreign, Invalidate, Reopen, Audit, Untold}
 use Rattle.jc_text.specs.declared.read.line.BulkLine.{BulkLine}
 use Rattle.jc_text.specs.declared.read.line.ScriptAct.{ScriptAct}
 use Rattle.jc_text.specs.Lines.{read_line}
@@ -117,6 +117,7 @@ Plays (Some w) (Begin number session operation) text new = PlaysBegin w number s
 Plays (Some w) (BeginBulk number session call) text new = PlaysBulk w number session call text new
 Plays (Some w) (OfCall number act) text new = PlaysAct w number act (open_call w number) text new
 Plays (Some w) (Foreign key value) text new = PlaysOne w (event.Foreign key value) text new
+Plays (Some w) (Invalidate key) text new = PlaysOne w (event.Invalidate key) text new
 Plays (Some w) (Reopen config) text new = PlaysOne w (event.Reopen config) text new
 Plays (Some w) Audit text new = Audited w text × (new ≡ Some w)
 Plays (Some w) Untold text new = (text ≡ untold_text w) × (new ≡ Some w)

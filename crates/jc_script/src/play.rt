@@ -147,6 +147,7 @@ fn play_line_on(
             play_one(world, WorldEvent::Foreign { key, value }, buffers, out)?;
             Ok(None)
         }
+        Line::Invalidate(key) => invalidate(world, key, buffers, out),
         Line::Reopen(config) => reopen(world, config, buffers, out),
         Line::Audit => {
             audit(alloc, world, out)?;
@@ -268,6 +269,25 @@ fn play_one(
     buffers.events.push(event)?;
     buffers.play(world, out)?;
     Ok(())
+}
+
+/// The cache forgets a key, if a place is free for that.
+#[tactic(auto, using(crate::proofs::Fitting::invalid_fits))]
+#[inline(never)]
+fn invalidate(
+    world: &mut World,
+    key: &Key,
+    buffers: &mut LineBuffers,
+    out: &mut Vec<u8>,
+) -> Result<Option<Fault>, AllocError>
+    ensures { IfOk result (λ r. PlaysLine (Some world.old.world) (lines.Invalidate key.now) r out.old.items out.new.items (Some world.new.world)) }
+{
+    let event = WorldEvent::Invalidate { key: *key };
+    if !world.fits(&event) {
+        return Ok(Some(Fault::NotNow));
+    }
+    play_one(world, event, buffers, out)?;
+    Ok(None)
 }
 
 /// Opens the world again, if the shape has no fault and no call is under way.

@@ -1,5 +1,6 @@
 -- Line feeds of a script: a rest of one that has none is empty.
 --     AreFed      each rest of some bytes that isn't empty has a line feed
+--     fed_line    a line that has its end has one
 --     no_feed     a rest of a script without one is empty
 use Rattle.jc_shell.proofs.Common.{◌≡◌, ◌==◌, ◌||◌, ◌∙◌, ◌∷◌, ◌++◌, ℕ, Bool, List, [], true, false, ap, append_assoc, refl, subst, sym, has_feed, script_of}
 
@@ -11,7 +12,7 @@ or_true : (b : Bool) → (b || true) ≡ true
 or_true true = refl
 or_true false = refl
 
-fed_line : (line rest : List ℕ) → has_feed (line ++ 10 ∷ rest) ≡ true
+pub fed_line : (line rest : List ℕ) → has_feed (line ++ 10 ∷ rest) ≡ true
 fed_line [] rest = refl
 fed_line (b ∷ bs) rest = ap (λ (x : Bool). (b == 10) || x) (fed_line bs rest) ∙ or_true (b == 10)
 

@@ -1,7 +1,9 @@
 -- What was read, answered and written, one part after another.
-use Rattle.jc_shell.proofs.Common.{◌≡◌, ◌-◌, ◌+◌, ℕ, List, [], ◌∷◌, ◌++◌, length, drop, Option, None, Some, Result, Ok, Err, OnOk, IfErr, inl, inr, ◌⊎◌, false, refl, sym, ap, ◌∙◌, append_assoc, append-nil, arith, drop-append_seam, take-append-add, take-length, flat_map-append, length-append, take-append-le, Appends, Consumes, IsAtEnd, BeginsWithQuit, Read, TooLong, OutOfMemory, Write, OpenedWorld, Holds, LateCalls, Calls, SaveCall, Accepted, AnswersLine, AreAnswered, has_feed, nobody, script_of, appends-then}
+use Rattle.jc_shell.proofs.Common.{◌≡◌, ◌-◌, ◌+◌, ◌≤◌, ℕ, List, [], ◌∷◌, ◌++◌, length, drop, Option, None, Some, Result, Ok, Err, OnOk, IfErr, inl, inr, ◌⊎◌, Bool, false, true, refl, subst, sym, ap, ◌∙◌, append_assoc, append-nil, arith, drop-append_seam, take-append-add, take-length, flat_map-append, length-append, take-append-le, Appends, Consumes, IsAtEnd, BeginsWithQuit, Read, TooLong, OutOfMemory, Write, OpenedWorld, Holds, LateCalls, Calls, SaveCall, Accepted, AnswersLine, AreAnswered, has_feed, nobody, script_of, appends-then}
 use Rattle.jc_shell.specs.declared.run.ShellFault.{ShellFault}
-use Rattle.jc_shell.specs.Running.{EndsDialogue, LastText, RunsDialogue, Stopped, WrittenBy}
+use Rattle.jc_types.specs.declared.limits.TheConstants.{SCRIPT_MAX}
+use Rattle.jc_shell.specs.Running.{EndsDialogue, FitsLimit, LastText, RunsDialogue, Stopped, StopsAtAnswer, WrittenBy}
+use Rattle.jc_shell.proofs.Feeds.{fed_line}
 use Rattle.jc_shell.proofs.Turns.{calls_none, calls_then, script_more}
 
 -- ---- lines after lines
@@ -69,6 +71,33 @@ written_whole other said = refl
 pub written_more : (said after written : List ℕ) → WrittenBy Write said written → WrittenBy Write (said ++ after) written
 written_more said after written (n, le, is) = (n, omega (arith, le, length-append said after), is ∙ sym (take-append-le n said after le))
 
+-- ---- where a failed write stops
+
+pub stops_at_one : (prompt : List ℕ) (a : Accepted) (line answer : List ℕ) (calls : List SaveCall) (b : Accepted) (out : List ℕ)
+    → AnswersLine a line answer calls b → StopsAtAnswer prompt [] a (line ∷ []) (answer ++ prompt) calls b out
+stops_at_one prompt a line answer calls b out answers =
+    ([], line, [], answer, [], calls, a, refl, (refl, refl, refl), answers, refl, refl, omega arith)
+
+-- after lines whose answers were written
+pub stops_then : (prompt front : List ℕ) (ls ms : List (List ℕ)) (o p w : List ℕ) (s t : List SaveCall) (a b c : Accepted)
+    → AreAnswered prompt a ls o s b → StopsAtAnswer prompt [] b ms p t c w
+    → StopsAtAnswer prompt front a (ls ++ ms) (o ++ p) (s ++ t) c ((front ++ o) ++ w)
+stops_then prompt front ls ms o p w s t a b c are (before, line, said, answer, now, later, d, lines_are, firsts, answers, p_is, t_is, le) = (
+  ls ++ before,
+  line,
+  o ++ said,
+  answer,
+  s ++ now,
+  later,
+  d,
+  ap (λ (x : List (List ℕ)). ls ++ x) lines_are ∙ sym (append_assoc ls before (line ∷ [])),
+  answered_then prompt ls before o said s now a b d are firsts,
+  answers,
+  ap (λ (x : List ℕ). o ++ x) p_is ∙ sym (append_assoc o said (answer ++ prompt)),
+  ap (λ (x : List SaveCall). s ++ x) t_is ∙ sym (append_assoc s now later),
+  omega (arith, le, length-append front (o ++ said), length-append o said, length-append front o, length-append (front ++ o) w),
+)
+
 -- the line, if it was answered, and what is left
 pub left_of : (rest line after : List ℕ) (answered : List (List ℕ)) → rest ≡ line ++ 10 ∷ after → (answered ≡ []) ⊎ (answered ≡ line ∷ [])
     → (left : List ℕ) × (rest ≡ script_of answered ++ left)
@@ -84,6 +113,10 @@ ok_then (Err e) P Q f p = p
 pub err_then : {A E : Type 0} (r : Result A E) (P Q : E → Type 0) → ((e : E) → P e → Q e) → IfErr r P → IfErr r Q
 err_then (Ok x) P Q f p = p
 err_then (Err e) P Q f p = f e p
+
+pub err_both : {A E : Type 0} (r : Result A E) (P Q : E → Type 0) → IfErr r P → IfErr r Q → IfErr r (λ e. P e × Q e)
+err_both (Ok x) P Q p q = p
+err_both (Err e) P Q p q = (p, q)
 
 -- ---- a session so far
 
@@ -147,14 +180,20 @@ talked_next prompt before after later old new newer kept saved latest input byte
 
 -- ---- how a session ends
 
+not_both : {b : Bool} {P : Type 0} → b ≡ true → b ≡ false → P
+not_both is isnt = absurd cc
+
+quit_is_fed : (rest : List ℕ) {P : Type 0} → BeginsWithQuit rest → has_feed rest ≡ false → P
+quit_is_fed rest (line, others, asked, is) none = not_both (ap has_feed is ∙ fed_line line others) none
+
 pub ran_quit : (prompt : List ℕ) (before after later old new newer : Option (List ℕ)) (kept saved latest : Option (List SaveCall)) (input bytes grown : List ℕ) (at : ℕ)
     (script : List ℕ) (count : ℕ) (world : OpenedWorld) (lines : List (List ℕ)) (answers : List ℕ) (more : List SaveCall) (rest : List ℕ) (c : Accepted)
     → (t : Talked prompt before after old new kept saved input at script count world)
     → Consumes after later bytes → grown ≡ input ++ bytes
     → AreAnswered prompt t.b lines answers more c → drop at grown ≡ script_of lines ++ rest → Appends new newer answers → Calls saved latest more
-    → BeginsWithQuit rest
+    → BeginsWithQuit rest → length grown ≤ SCRIPT_MAX + 1
     → RunsDialogue prompt before later old newer kept latest
-ran_quit prompt before after later old new newer kept saved latest input bytes grown at script count world lines answers more rest c t read is are cut app sv quit =
+ran_quit prompt before after later old new newer kept saved latest input bytes grown at script count world lines answers more rest c t read is are cut app sv quit few =
     let all = read_then grown (drop at grown) rest t.lines lines (all_of (script_of t.lines) t.rest bytes input grown at t.input_is t.at_is is) cut in
     let taken = consumes_then before after later input bytes t.read read in
     record {
@@ -165,6 +204,8 @@ ran_quit prompt before after later old new newer kept saved latest input bytes g
       calls = t.more ++ more;
       accepted = c;
       read = rw (← all, is) taken;
+      few = rw (← all) few;
+      fits = quit_is_fed rest quit;
       answered = answered_then prompt t.lines lines t.answers answers t.more more nobody t.b c t.answered are;
       ends = inl (refl, quit);
       written = rw (append-nil (prompt ++ (t.answers ++ answers)), ← append_assoc prompt t.answers answers) (appends-then old new newer (prompt ++ t.answers) answers t.written app);
@@ -175,9 +216,9 @@ pub ran_out : (prompt : List ℕ) (before after later old new newer : Option (Li
     (script : List ℕ) (count : ℕ) (world : OpenedWorld) (text : List ℕ)
     → (t : Talked prompt before after old new kept saved input at script count world)
     → Consumes after later bytes → grown ≡ input ++ bytes → bytes ≡ [] → IsAtEnd later
-    → LastText prompt t.b (drop at grown) text → Appends new newer text
+    → LastText prompt t.b (drop at grown) text → Appends new newer text → length input ≤ SCRIPT_MAX
     → RunsDialogue prompt before later old newer kept saved
-ran_out prompt before after later old new newer kept saved input bytes grown at script count world text t read is none at_end last app =
+ran_out prompt before after later old new newer kept saved input bytes grown at script count world text t read is none at_end last app few =
     let here = rest_at (script_of t.lines) t.rest bytes input grown at t.input_is t.at_is is ∙ ap (λ (xs : List ℕ). t.rest ++ xs) none ∙ append-nil t.rest in
     let all = is ∙ ap (λ (xs : List ℕ). input ++ xs) none ∙ append-nil input ∙ t.input_is in
     record {
@@ -188,6 +229,8 @@ ran_out prompt before after later old new newer kept saved input bytes grown at 
       calls = t.more;
       accepted = t.b;
       read = rw (← all, is) (consumes_then before after later input bytes t.read read);
+      few = omega (arith, few, ap length t.input_is);
+      fits = λ no_feed. omega (arith, few, ap length t.input_is);
       answered = t.answered;
       ends = inr (t.whole, rw here at last, at_end);
       written = appends-then old new newer (prompt ++ t.answers) text t.written app;
@@ -201,6 +244,22 @@ not_reading e (inl write) (inl read) = absurd cc
 not_reading e (inl write) (inr long) = absurd cc
 not_reading e (inr none) (inl read) = absurd cc
 not_reading e (inr none) (inr long) = absurd cc
+
+fits_over : (e : ShellFault) (read : List ℕ) → (e ≡ Write) ⊎ (e ≡ OutOfMemory) → length read ≤ SCRIPT_MAX + 1 → FitsLimit e read
+fits_over e read (inl write) few = rw write few
+fits_over e read (inr none) few = rw none few
+
+-- a read that is within the limit, whatever stops it but the limit
+pub fits_reading : (e : ShellFault) (input bytes : List ℕ) → (e ≡ TooLong → ⊥) → (e ≡ Read → bytes ≡ []) → length input ≤ SCRIPT_MAX
+    → length input + length bytes ≤ SCRIPT_MAX + 1 → FitsLimit e (input ++ bytes)
+fits_reading Read input bytes none nothing small few = omega (arith, small, length-append input bytes, ap length (nothing refl))
+fits_reading TooLong input bytes none nothing small few = absurd (none refl)
+fits_reading OutOfMemory input bytes none nothing small few = omega (arith, few, length-append input bytes)
+fits_reading Write input bytes none nothing small few = omega (arith, few, length-append input bytes)
+
+-- at the end of the input
+fits_ending : (e : ShellFault) (read : List ℕ) → (e ≡ Write) ⊎ (e ≡ OutOfMemory) → length read ≤ SCRIPT_MAX → FitsLimit e read
+fits_ending e read kinds few = fits_over e read kinds (omega (arith, few))
 
 -- a failed read takes nothing
 pub nothing_taken : {e : ShellFault} {bytes : List ℕ} → (e ≡ Read → bytes ≡ []) → (e ≡ TooLong → ⊥) → (e ≡ Read) ⊎ (e ≡ TooLong) → bytes ≡ []
@@ -225,10 +284,12 @@ stopped_first prompt e reader old new kept out is part app = record {
   late = [];
   accepted = nobody;
   read = consumes_none reader;
+  few = subst (λ (x : ShellFault). FitsLimit x []) (sym is) (omega arith);
   whole = λ reading. refl;
   answered = (refl, refl, refl);
   ends = inl refl;
   part = rw (is, append-nil (prompt ++ []), append-nil prompt) part;
+  halts = λ write. inr (refl, inl (refl, refl));
   written = app;
   unanswered = late_none e;
   saves = calls_none kept;
@@ -238,8 +299,8 @@ stopped_first prompt e reader old new kept out is part app = record {
 pub stopped_reading : (prompt : List ℕ) (e : ShellFault) (before after later old new : Option (List ℕ)) (kept saved : Option (List SaveCall)) (input bytes : List ℕ) (at : ℕ)
     (script : List ℕ) (count : ℕ) (world : OpenedWorld)
     → Talked prompt before after old new kept saved input at script count world → Consumes after later bytes
-    → ((e ≡ Read) ⊎ (e ≡ TooLong) → bytes ≡ []) → Stopped prompt e before later old new kept saved
-stopped_reading prompt e before after later old new kept saved input bytes at script count world t read none = record {
+    → ((e ≡ Read) ⊎ (e ≡ TooLong) → bytes ≡ []) → FitsLimit e (input ++ bytes) → Stopped prompt e before later old new kept saved
+stopped_reading prompt e before after later old new kept saved input bytes at script count world t read none few = record {
   lines = t.lines;
   rest = t.rest ++ bytes;
   answers = t.answers;
@@ -249,10 +310,12 @@ stopped_reading prompt e before after later old new kept saved input bytes at sc
   late = [];
   accepted = t.b;
   read = rw (← append_assoc (script_of t.lines) t.rest bytes, ← t.input_is) (consumes_then before after later input bytes t.read read);
+  few = rw (← append_assoc (script_of t.lines) t.rest bytes, ← t.input_is) few;
   whole = λ reading. rw (none reading, append-nil t.rest) t.whole;
   answered = t.answered;
   ends = inl refl;
   part = rw (append-nil (prompt ++ t.answers)) (written_whole e (prompt ++ t.answers));
+  halts = λ write. inl (omega arith);
   written = t.written;
   unanswered = late_none e;
   saves = rw (append-nil t.more) t.saves;
@@ -264,9 +327,10 @@ pub stopped_answering : (prompt : List ℕ) (e : ShellFault) (before after later
     → (t : Talked prompt before after old new kept saved input at script count world)
     → Consumes after later bytes → grown ≡ input ++ bytes
     → AreAnswered prompt t.b lines answers more c → drop at grown ≡ script_of lines ++ rest → WrittenBy e answers out → Appends new newer out
-    → LateCalls e late → Calls saved latest (more ++ late) → (e ≡ Write) ⊎ (e ≡ OutOfMemory)
+    → LateCalls e late → Calls saved latest (more ++ late) → (e ≡ Write) ⊎ (e ≡ OutOfMemory) → length grown ≤ SCRIPT_MAX + 1
+    → (e ≡ Write → StopsAtAnswer prompt [] t.b lines answers more c out)
     → Stopped prompt e before later old newer kept latest
-stopped_answering prompt e before after later old new newer kept saved latest input bytes grown at script count world lines answers out more late rest c t read is are cut part app refused sv kinds =
+stopped_answering prompt e before after later old new newer kept saved latest input bytes grown at script count world lines answers out more late rest c t read is are cut part app refused sv kinds few halts =
     let all = read_then grown (drop at grown) rest t.lines lines (all_of (script_of t.lines) t.rest bytes input grown at t.input_is t.at_is is) cut in
     record {
       lines = t.lines ++ lines;
@@ -278,10 +342,12 @@ stopped_answering prompt e before after later old new newer kept saved latest in
       late = late;
       accepted = c;
       read = rw (← all, is) (consumes_then before after later input bytes t.read read);
+      few = rw (← all) (fits_over e grown kinds few);
       whole = not_reading e kinds;
       answered = answered_then prompt t.lines lines t.answers answers t.more more nobody t.b c t.answered are;
       ends = inl refl;
       part = rw (append-nil (prompt ++ (t.answers ++ answers)), ← append_assoc prompt t.answers answers) (written_then e (prompt ++ t.answers) answers out part);
+      halts = λ write. inr (refl, inr (stops_then prompt prompt t.lines lines t.answers answers out t.more more nobody t.b c t.answered (halts write)));
       written = appends-then old new newer (prompt ++ t.answers) out t.written app;
       unanswered = refused;
       saves = rw (append_assoc t.more more late) (calls_then kept saved latest t.more (more ++ late) t.saves sv);
@@ -293,8 +359,9 @@ pub stopped_ending : (prompt : List ℕ) (e : ShellFault) (before after later ol
     → (t : Talked prompt before after old new kept saved input at script count world)
     → Consumes after later bytes → grown ≡ input ++ bytes → bytes ≡ [] → IsAtEnd later
     → (text ≡ []) ⊎ ((e ≡ Write) × LastText prompt t.b (drop at grown) text) → WrittenBy e text out → Appends new newer out
+    → (e ≡ Write) ⊎ (e ≡ OutOfMemory) → length input ≤ SCRIPT_MAX
     → Stopped prompt e before later old newer kept saved
-stopped_ending prompt e before after later old new newer kept saved input bytes grown at script count world text out t read is none at_end said part app =
+stopped_ending prompt e before after later old new newer kept saved input bytes grown at script count world text out t read is none at_end said part app kinds few =
     let all = is ∙ ap (λ (xs : List ℕ). input ++ xs) none ∙ append-nil input ∙ t.input_is in
     record {
       lines = t.lines;
@@ -306,10 +373,12 @@ stopped_ending prompt e before after later old new newer kept saved input bytes 
       late = [];
       accepted = t.b;
       read = rw (← all, is) (consumes_then before after later input bytes t.read read);
+      few = fits_ending e (script_of t.lines ++ t.rest) kinds (omega (arith, few, ap length t.input_is));
       whole = λ reading. t.whole;
       answered = t.answered;
       ends = ending said;
       part = written_then e (prompt ++ t.answers) text out part;
+      halts = λ write. inl (omega (arith, length-append (prompt ++ t.answers) out));
       written = appends-then old new newer (prompt ++ t.answers) out t.written app;
       unanswered = late_none e;
       saves = rw (append-nil t.more) t.saves;

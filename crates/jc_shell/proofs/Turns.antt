@@ -1,5 +1,5 @@
 -- Sessions: what is answered keeps to the transcript of the accepted lines.
-use Rattle.jc_shell.proofs.Common.{◌≡◌, ℕ, ◌+◌, Bool, true, cond, take, Option, List, [], ◌∷◌, ◌++◌, length, None, Some, false, refl, sym, ap, ◌∙◌, append_assoc, append-nil, inl, inr, flat_map-append, codes, drop, drop-append_seam, length-append, undone_text, OpenedWorld, Prints, IsTranscript, fault_of, Fault, Clean, LineFault, complaint, fault_line, Help, HelpOn, Quit, Save, Undo, Line, PlaysOn, Holds, SaveCall, Calls, SavesNothing, Accepted, AnswersWord, AreAnswered, IsLineAccepted, IsLineRejected, has_feed, next_line_number, nobody, script_of, with_accepted}
+use Rattle.jc_shell.proofs.Common.{◌≡◌, ℕ, ◌+◌, Option, List, [], ◌∷◌, ◌++◌, length, None, Some, false, refl, sym, ap, ◌∙◌, append_assoc, append-nil, inl, inr, flat_map-append, codes, drop, drop-append_seam, length-append, undone_text, OpenedWorld, Prints, IsTranscript, fault_of, Fault, Clean, LineFault, complaint, fault_line, Help, HelpOn, Quit, Save, Undo, Line, PlaysOn, Holds, SaveCall, Calls, SavesNothing, Accepted, AnswersWord, AreAnswered, IsLineAccepted, IsLineRejected, has_feed, next_line_number, nobody, script_of, with_accepted}
 use Rattle.jc_shell.specs.declared.words.Word.{Word}
 use Rattle.jc_shell.proofs.Lines.{at_fault, at_line}
 

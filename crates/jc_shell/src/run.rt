@@ -3,7 +3,7 @@ ghost use Rattle.std.specs.Prelude.{◌≡◌, ◌≢◌, ◌⊎◌, ◌↔◌, 
 ghost use Rattle.std.specs.Io.KnownBytes.{Appends, Consumes, IsAtEnd};
 ghost use Rattle.jc_script.specs.Transcript.{opened_world};
 ghost use Rattle.jc_shell.specs.Holding.{Holds};
-ghost use Rattle.jc_shell.specs.Running.{BeginsWithQuit, LastText, LateCalls, RunsDialogue, Stopped, WrittenBy, cut_text, prompt_end};
+ghost use Rattle.jc_shell.specs.Running.{BeginsWithQuit, LastText, LateCalls, RunsDialogue, Stopped, StopsAtAnswer, WrittenBy, cut_text, prompt_end};
 ghost use Rattle.jc_shell.specs.Saving.{Calls, SaveCall};
 ghost use Rattle.jc_shell.specs.Sessions.{Accepted, AnswersLine, AreAnswered, has_feed, nobody, script_of};
 ghost use Rattle.jc_shell.specs.ShellWords.{word_of};
@@ -86,7 +86,8 @@ fn answer_line<W: Write, S: Save>(
         × AreAnswered prompt.now a answered answers calls b
         × WrittenBy e answers written
         × Appends (W.contents writer.old.inner) (W.contents writer.new.inner) written
-        × LateCalls e late × Calls (S.calls saves.old) (S.calls saves.new) (calls ++ late)) }
+        × LateCalls e late × Calls (S.calls saves.old) (S.calls saves.new) (calls ++ late)
+        × (e ≡ ShellFault.Write → StopsAtAnswer prompt.now [] a answered answers calls b written)) }
     ensures failed { writer.old.failed ≡ false → (result ≡ Err ShellFault.Write ↔ writer.new.failed ≡ true) }
 {
     let mut out = Vec::new(alloc);
@@ -122,7 +123,8 @@ fn answer_lines<W: Write, S: Save>(
         × (bytes.now ≡ script_of lines ++ rest)
         × WrittenBy e answers written
         × Appends (W.contents writer.old.inner) (W.contents writer.new.inner) written
-        × LateCalls e late × Calls (S.calls saves.old) (S.calls saves.new) (calls ++ late)) }
+        × LateCalls e late × Calls (S.calls saves.old) (S.calls saves.new) (calls ++ late)
+        × (e ≡ ShellFault.Write → StopsAtAnswer prompt.now [] a lines answers calls b written)) }
     ensures failed { writer.old.failed ≡ false → (result ≡ Err ShellFault.Write ↔ writer.new.failed ≡ true) }
 {
     let mut rest = bytes;
@@ -215,7 +217,8 @@ fn read_more<R: Read>(reader: &mut Noted<R>, input: &mut Vec<u8>) -> Result<bool
         × (more ≡ false → (bytes ≡ []) × IsAtEnd (R.remaining reader.new.inner))) }
     // A read that fails takes nothing.
     ensures err { IfErr result (λ e. (e ≢ ShellFault.Write) × (e ≢ ShellFault.TooLong)
-        × ((bytes : List ℕ) × (e ≡ ShellFault.Read → bytes ≡ []) × Consumes (R.remaining reader.old.inner) (R.remaining reader.new.inner) bytes)) }
+        × ((bytes : List ℕ) × (e ≡ ShellFault.Read → bytes ≡ []) × Consumes (R.remaining reader.old.inner) (R.remaining reader.new.inner) bytes
+        × (length input.old.items + length bytes ≤ SCRIPT_MAX + 1))) }
     ensures failed { reader.old.failed ≡ false → (result ≡ Err ShellFault.Read ↔ reader.new.failed ≡ true) }
 {
     let mut chunk = [0u8; 4096];
@@ -234,8 +237,8 @@ fn read_more<R: Read>(reader: &mut Noted<R>, input: &mut Vec<u8>) -> Result<bool
 ///
 /// The bytes written are the answers to the lines that were read, and the calls of `save` are those that these lines ask for. After
 /// an error this holds up to there; if reading failed or the input is too long, no complete line is left over; after a failed
-/// write, a prefix of the answers was written. `TooLong` means that the input is over the limit. Reading failed exactly if the
-/// reader did, and writing exactly if the writer did, in this call.
+/// write, a prefix of the answers was written, and all but the last one whole. At most a byte over the limit is read, and `TooLong`
+/// means that this one was. Reading failed exactly if the reader did, and writing exactly if the writer did, in this call.
 fn converse<R: Read, W: Write, S: Save>(
     alloc: Global,
     prompt: &[u8],
@@ -289,11 +292,12 @@ pub fn run<R: Read, W: Write, S: Save>(
     writer: &mut Noted<W>,
     saves: &mut S,
 ) -> Result<(), ShellFault>
-    // The bytes written are the answers to the lines that were read, and the calls of `save` are those that these lines ask for.
+    // The bytes written are the answers to the lines that were read, and the calls of `save` are those that these lines ask for. At
+    // most a byte over the limit was read.
     ensures ran { OnOk result (RunsDialogue prompt.now (R.remaining reader.old.inner) (R.remaining reader.new.inner) (W.contents writer.old.inner)
         (W.contents writer.new.inner) (S.calls saves.old) (S.calls saves.new)) }
     // After an error this holds up to there. If reading failed or the input is too long, no complete line is left over; after a
-    // failed write, a prefix of the answers was written.
+    // failed write, a prefix of the answers was written, and all but the last one whole, so no line is answered after it.
     ensures stopped { IfErr result (λ e. Stopped prompt.now e (R.remaining reader.old.inner) (R.remaining reader.new.inner) (W.contents writer.old.inner)
         (W.contents writer.new.inner) (S.calls saves.old) (S.calls saves.new)) }
     // `TooLong` means that the input is over the limit.

@@ -29,7 +29,7 @@ const HELP_ON: &str = "help ";
 /// The answer to `help`.
 pub const HELP: &str = "\
 A line of a script is answered by what it prints. A line with a fault does nothing.
-  open reopen set begin more read readfail say apply applyfail applylie process end drop take foreign audit untold
+  open reopen set begin more read readfail say apply applyfail applylie process end drop take foreign invalidate audit untold
 Beside these:
   help       says this
   help NAME  says what a line NAME is; docs/SCRIPT.md says all of it
@@ -97,9 +97,6 @@ fn act_help(name: &[u8]) -> &'static str
         _ if is(name, "take") => {
             "take N: call N asks for the answer of each load that it has joined\n"
         }
-        _ if is(name, "foreign") => {
-            "foreign K V, foreign K -: another program writes V in the store, or deletes K there\n"
-        }
         _ if is(name, "audit") => {
             "audit: what is cached, what the store has, whether they agree, and the history\n"
         }
@@ -127,6 +124,12 @@ pub fn line_help(name: &[u8]) -> &'static str
         }
         _ if is(name, "more") => {
             "more N: call N makes the first phase again of each key that was put off or told to retry\n"
+        }
+        _ if is(name, "foreign") => {
+            "foreign K V, foreign K -: another program writes V in the store, or deletes K there\n"
+        }
+        _ if is(name, "invalidate") => {
+            "invalidate K: the cache forgets K, at once or at the end of the call that has reserved it\n"
         }
         _ => act_help(name),
     }

@@ -105,6 +105,8 @@ stripe_told s x y row h k =
       reservations = rs i;
       joiners = js i;
       history = [];
+      marked = [];
+      shut = false;
       next = next i;
     })
     ∙ sym k.rest_is

@@ -41,7 +41,7 @@ abbrev pub scalars_of : ℕ → StripeEssence → List ℕ
 scalars_of config x =
     config ∷ x.rest.stripe ∷ origin_word x.rest.origin ∷ bit x.rest.lives ∷ x.events ∷ x.rest.next ∷ []
 
--- no generation of it has ended, and its entries are the cached ones
+-- no generation of it has ended, its entries are the cached ones, no key is marked, and it isn't shut
 pub record IsStripeRow (seen : Seen) (x : StripeEssence) (row : List ℕ) : Type 0 where
   pub config : ℕ
   pub entries : List ℕ
@@ -54,7 +54,7 @@ pub record IsStripeRow (seen : Seen) (x : StripeEssence) (row : List ℕ) : Type
   pub reservations_are : AreNumbers seen.reservations x.rest.reservations reservations
   pub joiners_are : AreNumbers seen.joiners x.rest.joiners joiners
   pub answers_are : AreNumbers seen.answers x.answers answers
-  pub rest_is : x.rest ≡ record x.rest { ended = []; opening = []; cache = map.from_entries x.entries; history = [] }
+  pub rest_is : x.rest ≡ record x.rest { ended = []; opening = []; cache = map.from_entries x.entries; history = []; marked = []; shut = false }
 
 -- 2. Calls.
 

@@ -35,7 +35,7 @@ pub use Rattle.jc_text.specs.declared.read.line.ScriptAct.{ScriptAct}
 pub use Rattle.jc_text.specs.declared.read.line.ScriptAct.TheVariants.{Apply, ApplyFail, ApplyLie, Drop, End, More, Process, Read, ReadFail, Say, Take}
 pub use Rattle.jc_text.specs.declared.read.line.BulkLine.{BulkLine}
 pub use Rattle.jc_text.specs.declared.read.line.Line.{Line}
-pub use Rattle.jc_text.specs.declared.read.line.Line.TheVariants.{Audit, Begin, BeginBulk, Foreign, OfCall, Open, Reopen, Set, Untold}
+pub use Rattle.jc_text.specs.declared.read.line.Line.TheVariants.{Audit, Begin, BeginBulk, Foreign, Invalidate, OfCall, Open, Reopen, Set, Untold}
 pub use Rattle.jc_types.specs.Limits.{is_session}
 pub use Rattle.jc_types.specs.declared.config.Config.{Config}
 pub use Rattle.jc_types.specs.declared.limits.TheConstants.{KEY_MAX, SESSIONS_MAX, VALUE_MAX}

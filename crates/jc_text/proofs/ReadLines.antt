@@ -9,7 +9,7 @@ use Rattle.jc_text.specs.declared.read.commands.BulkName.{BulkName}
 use Rattle.jc_text.specs.declared.read.commands.BulkName.TheVariants as name
 use Rattle.jc_text.specs.declared.read.commands.Form.TheVariants as form
 use Rattle.jc_text.specs.declared.read.line.BulkLine.TheVariants as bulk
-use Rattle.jc_text.specs.Lines.{form_named, flags_of, takes_words, bare_op, valued_op, bare_of, valued_of, value_alone, replace_if_of, begin_with, is_load_mode, has_load_shape, bulk_takes, keys_of, load_all_of, bulk_of, has_but_shape, left_of, apply_of, apply_fail_of, command_of, shape_of, open_of, reopen_of, set_of, begin_of, number_alone, lone_of, coded_of, process_of, say_of, foreign_of, audit_of, untold_of, line_of, are_words, parsed, is_plain, is_comment, some_line, read_line}
+use Rattle.jc_text.specs.Lines.{form_named, flags_of, takes_words, bare_op, valued_op, bare_of, valued_of, value_alone, replace_if_of, begin_with, is_load_mode, has_load_shape, bulk_takes, keys_of, load_all_of, bulk_of, has_but_shape, left_of, apply_of, apply_fail_of, command_of, shape_of, open_of, reopen_of, set_of, begin_of, number_alone, lone_of, coded_of, process_of, say_of, foreign_of, invalidate_of, audit_of, untold_of, line_of, are_words, parsed, is_plain, is_comment, some_line, read_line}
 use Rattle.jc_text.proofs.ReadProcess.{SaysSource, source_read, SaysCalls, calls_read}
 use Rattle.jc_text.proofs.Given.{ok_bind, ok_then, ok_if, ok_unless, ok_since, ok_word, ok_weaker}
 use Rattle.jc_text.proofs.AreKeyWords.{SaysKeys, keys_read}
@@ -278,6 +278,13 @@ foreign_read (k ∷ v ∷ []) =
     ok_then (key_of k) _ (SaysKey k) P (key_read k) (λ key a. ok_then (value_or_none_of v) _ (SaysValueOrNone v) P (value_or_none_read v) (λ value b. ((a.0, b.0), rw (a.1, b.1) refl)))
 foreign_read words = tt
 
+invalidate_read : (words : List (List ℕ)) → IfOk (invalidate_of words) (SaysLine (codes "invalidate" ∷ words))
+unfolding invalidate_of
+invalidate_read (k ∷ []) =
+    let P : Line → Type 0 = SaysLine (codes "invalidate" ∷ k ∷ []) in
+    ok_then (key_of k) _ (SaysKey k) P (key_read k) (λ key a. (a.0, rw a.1 refl))
+invalidate_read words = tt
+
 audit_read : (words : List (List ℕ)) → IfOk (audit_of words) (SaysLine (codes "audit" ∷ words))
 audit_read [] = (tt, refl)
 audit_read (x ∷ more) = tt
@@ -297,7 +304,8 @@ line_read w words =
     (ok_word w (codes "say") _ _ P (say_read words) (ok_word w (codes "readfail") _ _ P (coded_read ReadFail _ words (λ code known. known) (λ call code. refl))
     (ok_word w (codes "applyfail") _ _ P (apply_fail_read words) (ok_word w (codes "applylie") _ _ P (coded_read ApplyLie _ words (λ code known. known) (λ call code. refl))
     (ok_word w (codes "process") _ _ P (process_read words) (ok_word w (codes "reopen") _ _ P (reopen_read words)
-    (ok_word w (codes "untold") _ (Err BadLine) P (untold_read words) tt)))))))))))))))))
+    (ok_word w (codes "untold") _ _ P (untold_read words)
+    (ok_word w (codes "invalidate") _ (Err BadLine) P (invalidate_read words) tt))))))))))))))))))
 
 parsed_read : (words : List (List ℕ)) → IfOk (parsed words) (SaysLine words)
 unfolding parsed

@@ -1,10 +1,10 @@
 -- Lines that are spelled are read as what they say.
-use Rattle.jc_text.proofs.Common.{◌≡◌, ℕ, ◌≤◌, Bool, true, false, List, [], ◌∷◌, ◌++◌, length, map, Option, None, Some, Ok, refl, sym, ap, subst, decimal, codes, All, and_from, lt-ltb, le-leb, length-map, Bytes, Config, Form, Op, Line, Open, Set, Begin, BeginBulk, OfCall, Foreign, Reopen, Audit, Untold, BulkLine, ScriptAct, Read, ReadFail, Say, Apply, ApplyFail, ApplyLie, End, Drop, More, Take, Process, source_words, call_text, fail_words, ◌>>=◌, Pairs, value_text, value_or_none_text, IsNumber, IsShape, IsSession, IsKey, IsValue, IsValueOrNone, IsPair, AreKeyWords, AreLeftKeys, HasKeys, IsOperation, IsAct, LinesReadBack, spelling, session_text, pair_text, flag_words, shape_words, operation_words, load_word, bulk_words, left_words}
+use Rattle.jc_text.proofs.Common.{◌≡◌, ℕ, ◌≤◌, Bool, true, false, List, [], ◌∷◌, ◌++◌, length, map, Option, None, Some, Ok, refl, sym, ap, subst, decimal, codes, All, and_from, lt-ltb, le-leb, length-map, Bytes, Config, Form, Op, Line, Open, Set, Begin, BeginBulk, OfCall, Foreign, Invalidate, Reopen, Audit, Untold, BulkLine, ScriptAct, Read, ReadFail, Say, Apply, ApplyFail, ApplyLie, End, Drop, More, Take, Process, source_words, call_text, fail_words, ◌>>=◌, Pairs, value_text, value_or_none_text, IsNumber, IsShape, IsSession, IsKey, IsValue, IsValueOrNone, IsPair, AreKeyWords, AreLeftKeys, HasKeys, IsOperation, IsAct, LinesReadBack, spelling, session_text, pair_text, flag_words, shape_words, operation_words, load_word, bulk_words, left_words}
 use Rattle.jc_text.specs.declared.read.commands.BulkName.TheVariants as name
 use Rattle.jc_text.specs.declared.read.commands.Form.TheVariants as form
 use Rattle.jc_model.specs.declared.event.Op.TheVariants as op
 use Rattle.jc_text.specs.declared.read.line.BulkLine.TheVariants as bulk
-use Rattle.jc_text.specs.Lines.{form_named, flags_of, takes_words, bare_of, valued_of, replace_if_of, begin_with, has_load_shape, load_all_of, bulk_with, has_but_shape, left_of, apply_of, apply_fail_of, command_of, shape_of, set_of, begin_of, lone_of, coded_of, say_of, foreign_of, read_line}
+use Rattle.jc_text.specs.Lines.{form_named, flags_of, takes_words, bare_of, valued_of, replace_if_of, begin_with, has_load_shape, load_all_of, bulk_with, has_but_shape, left_of, apply_of, apply_fail_of, command_of, shape_of, set_of, begin_of, lone_of, coded_of, say_of, foreign_of, invalidate_of, read_line}
 use Rattle.jc_text.proofs.AreKeyWords.{key_back, keys_back, keys_are_words}
 use Rattle.jc_text.proofs.AreDistinctPairs.{distinct_pairs_back}
 use Rattle.jc_text.proofs.SpelledPairs.{pairs_back, pairs_are_words}
@@ -41,6 +41,10 @@ set_back key value k v = rw (key_back key k, value_back value v) refl
 foreign_back : (key : Bytes) (value : Option Bytes) → IsKey key → IsValueOrNone value → foreign_of (key ∷ value_or_none_text value ∷ []) ≡ Ok (Foreign key value)
 unfolding foreign_of
 foreign_back key value k v = rw (key_back key k, value_or_none_back value v) refl
+
+invalidate_back : (key : Bytes) → IsKey key → invalidate_of (key ∷ []) ≡ Ok (Invalidate key)
+unfolding invalidate_of
+invalidate_back key k = rw (key_back key k) refl
 
 -- 2. Operations.
 
@@ -215,6 +219,8 @@ line_back (OfCall call act) known = act_back call act known.0.0 known.0.1 known.
 line_back (Foreign key value) known =
     line_of_words (codes "foreign") (key ∷ value_or_none_text value ∷ []) _ refl (and_from _ _ (text_word _ key known.0.0) (and_from _ _ (value_or_none_word value known.0.1) refl)) known.1
     (foreign_back key value known.0.0 known.0.1)
+line_back (Invalidate key) known =
+    line_of_words (codes "invalidate") (key ∷ []) _ refl (and_from _ _ (text_word _ key known.0) refl) known.1 (invalidate_back key known.0)
 line_back (Reopen config) known =
     line_of_words (codes "reopen") (shape_words config) _ refl (shape_are_words config known.0) known.1 (ap (λ r. r >>= λ config. Ok (Reopen config)) (shape_back config known.0))
 line_back Audit known = line_of_words (codes "audit") [] Audit refl refl known.1 refl

@@ -1,4 +1,4 @@
--- What is said of a fault.
+-- The words that are printed for a fault of a line (`bad number`, `not now`, ..).
 --     text_of    the words of a fault
 use Rattle.std.specs.Prelude.{ℕ, List, codes}
 use Rattle.jc_types.specs.declared.config.Field.TheVariants.{Stripes, Capacity, History}

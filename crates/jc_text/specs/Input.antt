@@ -1,4 +1,4 @@
--- What a reader gives.
+-- That all bytes of a reader were taken, within a limit.
 --     ReadsAll    all the bytes of a reader were taken, and they are these, within the limit
 use Rattle.std.specs.Prelude.{◌≤◌, ℕ, List, length, Option}
 use Rattle.std.specs.Io.KnownBytes.{Consumes, IsAtEnd}

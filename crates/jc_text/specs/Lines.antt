@@ -26,7 +26,7 @@
 --     left_of                       the keys that the writer leaves, if `but` is there
 --     apply_of, apply_fail_of       what the words after `apply` and `applyfail` ask for
 --     process_of                    what the words after `process` ask for
---     say_of, foreign_of            what the words after `say` and `foreign` ask for
+--     say_of, foreign_of, invalidate_of    what the words after `say`, `foreign` and `invalidate` ask for
 --     audit_of, untold_of           what the words after `audit` and `untold` ask for: there are none
 --     line_of                       what a first word and the words after it ask for
 --     are_words                     no two spaces are next to each other, and none at either end: no word is empty
@@ -49,7 +49,7 @@ use Rattle.jc_text.specs.declared.fault.Fault.TheVariants.{LineTooLong, BadByte,
 use Rattle.jc_text.specs.declared.fault.ReadError.{ReadError}
 use Rattle.jc_text.specs.declared.fault.ReadError.TheVariants as errors
 use Rattle.jc_text.specs.declared.read.line.Line.{Line}
-use Rattle.jc_text.specs.declared.read.line.Line.TheVariants.{Open, Set, Begin, BeginBulk, OfCall, Foreign, Reopen, Audit, Untold}
+use Rattle.jc_text.specs.declared.read.line.Line.TheVariants.{Open, Set, Begin, BeginBulk, OfCall, Foreign, Invalidate, Reopen, Audit, Untold}
 use Rattle.jc_text.specs.declared.read.line.BulkLine.{BulkLine}
 use Rattle.jc_text.specs.declared.read.line.BulkLine.TheVariants as bulk
 use Rattle.jc_text.specs.declared.read.line.ScriptAct.{ScriptAct}
@@ -352,6 +352,12 @@ foreign_of (k ∷ v ∷ []) = do
   Ok (Foreign key value)
 foreign_of words = Err BadLine
 
+unfoldable pub invalidate_of : List (List ℕ) → Result Line Fault
+invalidate_of (k ∷ []) = do
+  key ← key_of k
+  Ok (Invalidate key)
+invalidate_of words = Err BadLine
+
 abbrev pub audit_of : List (List ℕ) → Result Line Fault
 audit_of [] = Ok Audit
 audit_of (x ∷ more) = Err BadLine
@@ -380,6 +386,7 @@ line_of first words =
     if bytes_eq first (codes "process") then process_of words else
     if bytes_eq first (codes "reopen") then reopen_of words else
     if bytes_eq first (codes "untold") then untold_of words else
+    if bytes_eq first (codes "invalidate") then invalidate_of words else
     Err BadLine
 
 -- no two spaces together, and none at either end

@@ -118,6 +118,7 @@ bad_in_line search first words =
     bad_among search (kind.First ∷ kind.Number ∷ kind.Number ∷ kind.Number ∷ kind.Flag ∷ kind.Flag ∷ []) kind.Nothing words else
     if bytes_eq first (codes "set") then bad_among search (kind.First ∷ kind.Key ∷ kind.Value ∷ []) kind.Nothing words else
     if bytes_eq first (codes "foreign") then bad_among search (kind.First ∷ kind.Key ∷ kind.ValueOrNone ∷ []) kind.Nothing words else
+    if bytes_eq first (codes "invalidate") then bad_among search (kind.First ∷ kind.Key ∷ []) kind.Nothing words else
     if bytes_eq first (codes "audit") || bytes_eq first (codes "untold") then bad_among search (kind.First ∷ []) kind.Nothing words else
     if bytes_eq first (codes "say") then bad_among search (kind.First ∷ kind.Number ∷ []) kind.Pair words else
     if bytes_eq first (codes "apply") then bad_among search (kind.First ∷ kind.Number ∷ kind.But ∷ []) kind.Key words else
@@ -207,6 +208,8 @@ not_now_hint (first ∷ words) =
     if bytes_eq first (codes "take") then codes " (it fits if a key is joined, and none is started)" else
     if bytes_eq first (codes "more") then
     codes " (it fits if a key was put off or told to retry, and none is started or joined)" else
+    if bytes_eq first (codes "invalidate") then
+    codes " (it fits if the key is reserved, or isn't cached, or the history of its stripe has a free place)" else
     codes " (it fits if no call is under way)"
 
 abbrev pub hint_of : Fault → List (List ℕ) → List ℕ
@@ -218,7 +221,7 @@ hint_of NotOpen words = codes " (a script begins with open)"
 hint_of (BadConfig Stripes) words = codes " (1 to 64)"
 hint_of (BadConfig Capacity) words = codes " (1 to 4096)"
 hint_of (BadConfig History) words = codes " (16 to 65536)"
-hint_of SetTooLate words = codes " (it fits before the first begin, foreign or reopen)"
+hint_of SetTooLate words = codes " (it fits before the first begin, foreign, invalidate or reopen)"
 hint_of NotRising words = codes " (the number of each call is above those before)"
 hint_of CallerBusy words = codes " (its call isn't over)"
 hint_of NotNow words = not_now_hint words

@@ -9,6 +9,7 @@
 --     cause_name                             the word for an eviction's cause
 --     evict_line, victim_text, evicted_text      an eviction; the one directly before a step, if there is one; the one of a
 --                                            step's own key, if there is one
+--     invalidated_at_text                    that of an invalidated key which no step tells, if there is one
 --     outcome_text                           what a call's key is, and where
 --     stepped_text                           a step, with the evictions before and after it
 --     picked_line                            the answer of a load that the call had joined
@@ -36,6 +37,8 @@
 --     begun_text                             what is printed of the beginning of a call: nothing, unless it is refused whole
 --     left_text                              a call that is given up
 --     foreign_line                           a write or a delete of somebody else
+--     invalidate_line, invalidated_text      that a key is invalidated, with what follows the key; an invalidation, with the eviction of
+--                                            the entry, or that the key is marked
 --     key_text, keys_line                    a key after a space; a word, and after it keys
 --     reopened_text                          that the cache was opened again, with the keys that were dropped
 --     told                                   what is printed of an event, from its outcome
@@ -54,7 +57,7 @@ use Rattle.jc_types.specs.declared.refusal.Refusal.TheVariants.{HistoryFull, Bus
 use Rattle.jc_types.specs.Refusals.{refusal_name}
 use Rattle.jc_model.specs.Cache.{Bytes}
 use Rattle.jc_model.specs.declared.event.Cause.{Cause}
-use Rattle.jc_model.specs.declared.event.Cause.TheVariants.{Full, Memory}
+use Rattle.jc_model.specs.declared.event.Cause.TheVariants.{Full, Memory, Invalidated}
 use Rattle.jc_model.specs.declared.event.Change.{Change}
 use Rattle.jc_model.specs.declared.event.Change.TheVariants.{Write, Delete}
 use Rattle.jc_model.specs.declared.event.LoadAnswer.{LoadAnswer}
@@ -70,6 +73,7 @@ use Rattle.jc_world.specs.declared.event.Outcome.TheVariants as outcome
 use Rattle.jc_world.specs.declared.event.Over.{Over}
 use Rattle.jc_world.specs.declared.event.Shown.{Shown}
 use Rattle.jc_stripe.specs.declared.begun.Eviction.{Eviction}
+use Rattle.jc_world.specs.declared.event.EvictionPlace.{EvictionPlace}
 use Rattle.jc_world.specs.declared.event.Stepped.{Stepped}
 use Rattle.jc_world.specs.declared.event.JoinAnswer.{JoinAnswer}
 use Rattle.jc_world.specs.declared.reports.Reported.{Reported}
@@ -148,6 +152,7 @@ piece_text (piece.Place stripe place) = place_text stripe place
 abbrev pub cause_name : Cause → List ℕ
 cause_name Full = codes "full"
 cause_name Memory = codes "memory"
+cause_name Invalidated = codes "invalidated"
 
 unfoldable pub evict_line : Bytes → Cause → ℕ → ℕ → List ℕ
 evict_line key cause stripe place = codes "evict " ++ key ++ codes " " ++ cause_name cause ++ place_text stripe place ++ codes "\n"
@@ -161,6 +166,11 @@ victim_text (Some victim) stripe place = evict_line victim Full stripe (place - 
 abbrev pub evicted_text : Bytes → Option Eviction → ℕ → List ℕ
 evicted_text key None stripe = []
 evicted_text key (Some gone) stripe = evict_line key gone.cause stripe gone.place
+
+-- after the end of a reservation that was given back, and after an invalidation
+abbrev pub invalidated_at_text : Bytes → Option EvictionPlace → List ℕ
+invalidated_at_text key None = []
+invalidated_at_text key (Some at) = evict_line key Invalidated at.stripe at.place
 
 -- what a call's key is, and where
 unfoldable pub outcome_text : ℕ → Bytes → Reply → ℕ → ℕ → List ℕ
@@ -301,12 +311,14 @@ shown_text call key (outcome.Reads answer) = answer_text call key (codes " reads
 shown_text call key (outcome.Says answer) = answer_text call key (codes " says ") answer
 shown_text call key outcome.Changed = []
 shown_text call key (outcome.Reported seen) = []
-shown_text call key outcome.Withdrawn = []
+shown_text call key (outcome.Withdrawn evicted) = invalidated_at_text key evicted
 shown_text call key outcome.Left = []
 shown_text call key (outcome.PickedUp seen) = picked_line call key seen
 shown_text call key outcome.Waits = waits_line call key
 shown_text call key outcome.Again = again_line call key
 shown_text call key outcome.Written = []
+shown_text call key (outcome.Invalidated evicted) = []
+shown_text call key outcome.Marked = []
 shown_text call key (outcome.Reopened keys) = []
 shown_text call key outcome.Unfit = []
 
@@ -319,6 +331,14 @@ process_outcome_text call key source seen = shown_text call key seen
 
 unfoldable pub foreign_line : Bytes → Option Bytes → List ℕ
 foreign_line key value = codes "foreign " ++ key ++ codes " " ++ value_or_none_text value ++ codes "\n"
+
+unfoldable pub invalidate_line : Bytes → List ℕ → List ℕ
+invalidate_line key text = codes "invalidate " ++ key ++ text
+
+abbrev pub invalidated_text : Bytes → Outcome → List ℕ
+invalidated_text key (outcome.Invalidated evicted) = invalidate_line key (codes "\n") ++ invalidated_at_text key evicted
+invalidated_text key outcome.Marked = invalidate_line key (codes " marked\n")
+invalidated_text key seen = []
 
 -- a call that is refused whole
 abbrev pub begun_text : ℕ → Outcome → List ℕ
@@ -357,6 +377,7 @@ told (event.Withdraw call key) seen = shown_text call key seen
 told (event.Leave call) seen = left_text call seen
 told (event.PickUp call key) seen = shown_text call key seen
 told (event.Foreign key value) seen = foreign_line key value
+told (event.Invalidate key) seen = invalidated_text key seen
 told (event.Reopen config) seen = reopened_text seen
 
 -- a call that is given up, or refused whole, or has one key, is not said to be over

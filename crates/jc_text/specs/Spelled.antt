@@ -37,7 +37,7 @@ use Rattle.jc_model.specs.Cache.{Bytes}
 use Rattle.jc_model.specs.declared.event.Op.{Op}
 use Rattle.jc_model.specs.Table.{op_values}
 use Rattle.jc_text.specs.declared.read.line.Line.{Line}
-use Rattle.jc_text.specs.declared.read.line.Line.TheVariants.{Open, Set, Begin, BeginBulk, OfCall, Foreign, Reopen, Audit, Untold}
+use Rattle.jc_text.specs.declared.read.line.Line.TheVariants.{Open, Set, Begin, BeginBulk, OfCall, Foreign, Invalidate, Reopen, Audit, Untold}
 use Rattle.jc_text.specs.declared.read.line.BulkLine.{BulkLine}
 use Rattle.jc_text.specs.declared.read.line.BulkLine.TheVariants as bulk
 use Rattle.jc_text.specs.declared.read.line.ScriptAct.{ScriptAct}
@@ -145,6 +145,7 @@ line_words (Begin call session command) = codes "begin" ∷ decimal call ∷ ses
 line_words (BeginBulk call session many) = codes "begin" ∷ decimal call ∷ session_text session ∷ bulk_words many
 line_words (OfCall call act) = act_words call act
 line_words (Foreign key value) = codes "foreign" ∷ key ∷ value_or_none_text value ∷ []
+line_words (Invalidate key) = codes "invalidate" ∷ key ∷ []
 line_words (Reopen config) = codes "reopen" ∷ shape_words config
 line_words Audit = codes "audit" ∷ []
 line_words Untold = codes "untold" ∷ []
@@ -224,6 +225,7 @@ SaysWords (Begin call session command) = IsNumber call × IsSession session × I
 SaysWords (BeginBulk call session many) = IsNumber call × IsSession session × HasKeys many
 SaysWords (OfCall call act) = IsNumber call × IsAct act
 SaysWords (Foreign key value) = IsKey key × IsValueOrNone value
+SaysWords (Invalidate key) = IsKey key
 SaysWords (Reopen config) = IsShape config
 SaysWords Audit = Unit {0}
 SaysWords Untold = Unit {0}

@@ -120,7 +120,7 @@ fn put_reply(out: &mut Vec<u8>, reply: &Reply) -> Result<(), AllocError>
 
 /// A stripe, and a place in its history.
 #[tactic(auto, unfolding(crate::specs::Printing::place_text))]
-fn put_place(out: &mut Vec<u8>, stripe: usize, place: u32) -> Result<(), AllocError>
+fn put_place(out: &mut Vec<u8>, stripe: usize, place: usize) -> Result<(), AllocError>
     ensures { OnOk result (out.new.items ≡ out.old.items ++ place_text stripe place) }
 {
     put(out, " at ")?;
@@ -169,7 +169,7 @@ pub enum Piece<'a> {
     /// A reply.
     Reply(&'a Reply),
     /// A stripe, and a place in its history.
-    Place(usize, u32),
+    Place(usize, usize),
 }
 
 fn put_piece(out: &mut Vec<u8>, piece: &Piece) -> Result<(), AllocError>

@@ -1,11 +1,14 @@
 -- Stripes that are alike make the same phases, and are alike behind them.
-use Rattle.std.proofs.Common.{◌≡◌, ◌≤◌, ℕ, zero, suc, ◌+◌, List, [], ◌∷◌, ◌++◌, length, filter, find, Bool, true, false, not, ◌&&◌, Option, None, Some, is_some, option_map, slice_get, nat_le, nat_lt, if◌then◌else◌, sym, refl, ap, ◌∙◌, subst, true≢false, arith}
-use Rattle.jc_world.proofs.Common.{length-append, Caller, Refusal, Op, Out, Event, Bytes, Group, events_of, step_place, nothing_said, Joiner, JoinState, Waiting, Answered, Again, waits_for, callers_of, belongs_to, answered_from, after_dissolve, JoinClaim, Begun, StepDone, Reservation}
+use Rattle.std.proofs.Common.{◌≡◌, ◌≤◌, ℕ, zero, suc, ◌+◌, List, [], ◌∷◌, ◌++◌, length, filter, find, Bool, true, false, not, ◌&&◌, ◌||◌, map, Option, None, Some, is_some, is_none, option_map, slice_get, nat_le, nat_lt, if◌then◌else◌, sym, refl, ap, ◌∙◌, subst, true≢false, arith}
+use Rattle.jc_world.proofs.Common.{length-append, Caller, Refusal, Op, Out, Event, Bytes, entry_at, Group, events_of, step_place, nothing_said, Joiner, JoinState, Waiting, Answered, Again, waits_for, callers_of, belongs_to, answered_from, after_dissolve, JoinClaim, Begun, StepDone, Reservation}
 use Rattle.jc_model.specs.Lawful.{IsLawful}
 use Rattle.jc_stripe.specs.OrderOfUse.{by_use}
-use Rattle.jc_stripe.specs.State.{State, with_reservation, promised, is_reserved}
+use Rattle.jc_stripe.specs.State.{State, with_reservation, promised, is_reserved, is_marked, with_mark, is_barred}
+use Rattle.jc_stripe.specs.Invalidating.{dropped_event, has_place, without_entry, is_dropped, end_with, told_drop, Ends, GivesBack, drop_or_shut, after_invalidation, Invalidates}
+use Rattle.jc_model.specs.declared.event.Cause.TheVariants.{Invalidated}
+use Rattle.jc_world.proofs.Dropping.{marked_is}
 use Rattle.jc_types.specs.declared.refusal.Refusal.TheVariants as refusal
-use Rattle.jc_types.specs.declared.limits.TheConstants.{RESERVATIONS_MAX, JOINERS_MAX}
+use Rattle.jc_types.specs.declared.limits.TheConstants.{HIT_PLACES, RESERVATIONS_MAX, JOINERS_MAX}
 use Rattle.jc_stripe.specs.Outcomes as begun
 use Rattle.jc_stripe.specs.Polled.{Polled}
 use Rattle.jc_stripe.specs.Polled as polled
@@ -13,6 +16,7 @@ use Rattle.jc_stripe.specs.Refusals.{first_refusal, load_joined, full_refusal, l
 use Rattle.jc_stripe.specs.Phases.{Steps, Begins, Commits, Withdraws, PicksUp, with_joiner, without_joiner, new_group, own_cause, own_eviction, inserts_here, overflows, victim, after_group, after_commit, after_withdrawal}
 use Rattle.jc_stripe.proofs.CallerLemmas.{by_use-append}
 use Rattle.jc_world.specs.Alike.{AgreeAt, Agree, IsLike}
+use Rattle.jc_world.specs.Fits.{may_invalidate}
 use Rattle.jc_world.proofs.Facts.{some_back}
 
 -- 1. Joiners' answers.
@@ -153,7 +157,7 @@ past-like a o h order count answers = record { is = refl; order = order; count =
 abbrev refusal_at : State → ℕ → Caller → Bytes → Op → Option Refusal
 refusal_at a events caller key op =
     if not (nat_le (events + promised a + places_needed (needs_free_key a key op)) a.config.history && nat_lt caller.call last_number && nat_lt a.next last_number) then Some (full_refusal a caller.call)
-    else (if is_reserved a key && needs_free_key a key op then Some refusal.Busy
+    else (if is_barred a key || (is_reserved a key && needs_free_key a key op) then Some refusal.Busy
     else (if needs_reservation a key op && nat_le RESERVATIONS_MAX (length a.reservations) then Some refusal.TooManyInFlight
     else (if is_some (load_joined a key op) && nat_le JOINERS_MAX (length a.joiners) then Some refusal.TooManyJoiners else None)))
 
@@ -210,6 +214,118 @@ withdraws-like a b n r like one =
     let m : State = after_withdrawal (with_past a b.opening b.history) r in
     let alike : IsLike (after_withdrawal a r) m = record { is = refl; order = like.order; count = like.count; answers = agree-dissolve r.number a.joiners a.history b.history like.answers } in
     subst P (sym like.is) (m, (one.0, refl), subst (λ (x : State). IsLike x m) (sym one.1) alike)
+
+-- an eviction of an invalidated key
+drop-past : (a : State) (o : List (Bytes × Bytes)) (h : List Event) (key : Bytes) → by_use o h ≡ by_use a.opening a.history → length h ≡ length a.history → Agree a.joiners a.history h
+    → IsLike (without_entry a key) (without_entry (with_past a o h) key)
+drop-past a o h key order count answers =
+    let e : List Event = dropped_event key ∷ [] in
+    record {
+      is = refl;
+      order = by_use-append o h e ∙ ap (λ (x : List (Bytes × Bytes)). by_use x e) order ∙ sym (by_use-append a.opening a.history e);
+      count = length-append h e ∙ ap (λ (n : ℕ). n + length e) count ∙ sym (length-append a.history e);
+      answers = agree-more a.joiners a.history h e count answers;
+    }
+
+end-past : (a : State) (o : List (Bytes × Bytes)) (h : List Event) (marked : Bool) (key : Bytes) → by_use o h ≡ by_use a.opening a.history → length h ≡ length a.history → Agree a.joiners a.history h
+    → IsLike (end_with marked a key) (end_with marked (with_past a o h) key)
+end-past a o h marked key order count answers =
+    elim (is_dropped marked a key) as (λ b. IsLike (if b then without_entry a key else a) (if b then without_entry (with_past a o h) key else with_past a o h)) [
+      | true ↦ drop-past a o h key order count answers
+      | false ↦ past-like a o h order count answers
+    ]
+
+end-like : (a b : State) (marked : Bool) (key : Bytes) → IsLike a b → IsLike (end_with marked a key) (end_with marked b key)
+end-like a b marked key like =
+    let P : State → Type 0 = λ s. IsLike (end_with marked a key) (end_with marked s key) in
+    subst P (sym like.is) (end-past a b.opening b.history marked key like.order like.count like.answers)
+
+same_mark : (a b : State) (key : Bytes) → IsLike a b → is_marked b key ≡ is_marked a key
+same_mark a b key like = ap (λ (s : State). is_marked s key) like.is
+
+same_told : (a b : State) (marked : Bool) (key : Bytes) (done : StepDone) → IsLike a b → told_drop marked b key done ≡ told_drop marked a key done
+same_told a b marked key done like =
+    ap (λ (s : State). told_drop marked (record s { history = b.history }) key done) like.is
+    ∙ ap (λ (n : ℕ). if is_dropped marked a key then record done { evicted = Some (record { cause = Invalidated; place = n }) } else done) like.count
+
+pub ends-like : (a b n : State) (r : Reservation) (out : Out) (done : StepDone) → IsLike a b → Ends a r out done n
+    → (m : State) × Ends b r out done m × IsLike n m
+ends-like a b n r out done like (ended, step, commits, done_is, n_is) =
+    let made = commits-like a b ended r out step like commits in
+    let marked : is_marked b r.key ≡ is_marked a r.key = same_mark a b r.key like in
+    let m : State = end_with (is_marked b r.key) made.0 r.key in
+    let told : done ≡ told_drop (is_marked b r.key) made.0 r.key step = done_is ∙ sym (same_told ended made.0 (is_marked a r.key) r.key step made.2) ∙ ap (λ (x : Bool). told_drop x made.0 r.key step) (sym marked) in
+    let alike : IsLike (end_with (is_marked a r.key) ended r.key) m =
+    subst (λ (x : Bool). IsLike (end_with (is_marked a r.key) ended r.key) (end_with x made.0 r.key)) (sym marked) (end-like ended made.0 (is_marked a r.key) r.key made.2)
+    in
+    (m, (made.0, step, made.1, told, refl), subst (λ (x : State). IsLike x m) (sym n_is) alike)
+
+pub gives_back-like : (a b n : State) (r : Reservation) → IsLike a b → GivesBack a r n → (m : State) × GivesBack b r m × IsLike n m
+gives_back-like a b n r like (ended, withdraws, n_is) =
+    let made = withdraws-like a b ended r like withdraws in
+    let marked : is_marked b r.key ≡ is_marked a r.key = same_mark a b r.key like in
+    let m : State = end_with (is_marked b r.key) made.0 r.key in
+    let alike : IsLike (end_with (is_marked a r.key) ended r.key) m =
+    subst (λ (x : Bool). IsLike (end_with (is_marked a r.key) ended r.key) (end_with x made.0 r.key)) (sym marked) (end-like ended made.0 (is_marked a r.key) r.key made.2)
+    in
+    (m, (made.0, made.1, refl), subst (λ (x : State). IsLike x m) (sym n_is) alike)
+
+-- an invalidation
+place-past : (a : State) (o : List (Bytes × Bytes)) (h : List Event) → length h ≡ length a.history → has_place (with_past a o h) ≡ has_place a
+place-past a o h count = ap (λ (n : ℕ). nat_le (n + promised a + HIT_PLACES) a.config.history) count
+
+drops-past : (a : State) (o : List (Bytes × Bytes)) (h : List Event) (key : Bytes) → by_use o h ≡ by_use a.opening a.history → length h ≡ length a.history → Agree a.joiners a.history h
+    → IsLike (drop_or_shut a key) (drop_or_shut (with_past a o h) key)
+drops-past a o h key order count answers =
+    let b : State = with_past a o h in
+    subst (λ (x : Bool). IsLike (drop_or_shut a key) (if x then without_entry b key else record b { shut = true })) (sym (place-past a o h count))
+    (elim (has_place a) as (λ x. IsLike (if x then without_entry a key else record a { shut = true }) (if x then without_entry b key else record b { shut = true })) [
+      | true ↦ drop-past a o h key order count answers
+      | false ↦ record { is = refl; order = order; count = count; answers = answers }
+    ])
+
+marks-past : (a : State) (o : List (Bytes × Bytes)) (h : List Event) (key : Bytes) → by_use o h ≡ by_use a.opening a.history → length h ≡ length a.history → Agree a.joiners a.history h
+    → IsLike (with_mark a key) (with_mark (with_past a o h) key)
+marks-past a o h key order count answers =
+    let one : IsLike (record a { marked = (with_mark a key).marked }) (record (with_past a o h) { marked = (with_mark a key).marked }) = record { is = refl; order = order; count = count; answers = answers } in
+    let same : (with_mark (with_past a o h) key).marked ≡ (with_mark a key).marked = mark-same (is_marked a key) (nat_lt (length a.marked) RESERVATIONS_MAX) in
+    let b_is : with_mark (with_past a o h) key ≡ record (with_past a o h) { marked = (with_mark a key).marked } = marked_is (with_past a o h) key ∙ ap (λ (l : List Bytes). record (with_past a o h) { marked = l }) same in
+    subst (λ (x : State). IsLike x (with_mark (with_past a o h) key)) (sym (marked_is a key)) (subst (IsLike (record a { marked = (with_mark a key).marked })) (sym b_is) one)
+  where
+    more : List Bytes
+    more = a.marked ++ key ∷ []
+
+    all : List Bytes
+    all = map (λ (r : Reservation). r.key) a.reservations
+
+    mark-same : (x y : Bool) → (if x then with_past a o h else (if y then record (with_past a o h) { marked = more } else record (with_past a o h) { marked = all })).marked
+        ≡ (if x then a else (if y then record a { marked = more } else record a { marked = all })).marked
+    mark-same true y = refl
+    mark-same false true = refl
+    mark-same false false = refl
+
+invalidates-past : (a : State) (o : List (Bytes × Bytes)) (h : List Event) (key : Bytes) → by_use o h ≡ by_use a.opening a.history → length h ≡ length a.history → Agree a.joiners a.history h
+    → IsLike (after_invalidation a key) (after_invalidation (with_past a o h) key)
+invalidates-past a o h key order count answers =
+    let b : State = with_past a o h in
+    elim (is_reserved a key) as (λ x. IsLike (if x then with_mark a key else (if is_some (entry_at a.cache key) then drop_or_shut a key else a)) (if x then with_mark b key else (if is_some (entry_at a.cache key) then drop_or_shut b key else b))) [
+      | true ↦ marks-past a o h key order count answers
+      | false ↦ elim (is_some (entry_at a.cache key)) as (λ x. IsLike (if x then drop_or_shut a key else a) (if x then drop_or_shut b key else b)) [
+        | true ↦ drops-past a o h key order count answers
+        | false ↦ past-like a o h order count answers
+      ]
+    ]
+
+pub may-like : (a b : State) (key : Bytes) → IsLike a b → may_invalidate (Some b) key ≡ may_invalidate (Some a) key
+may-like a b key like =
+    let P : State → Type 0 = λ s. may_invalidate (Some s) key ≡ may_invalidate (Some a) key in
+    subst P (sym like.is) (λ i. is_reserved a key || is_none (entry_at a.cache key) || place-past a b.opening b.history like.count i)
+
+pub invalidates-like : (a b n : State) (key : Bytes) → IsLike a b → Invalidates a key n → (m : State) × Invalidates b key m × IsLike n m
+invalidates-like a b n key like n_is =
+    let m : State = after_invalidation b key in
+    let P : State → Type 0 = λ s. IsLike (after_invalidation a key) (after_invalidation s key) in
+    (m, refl, subst (λ (x : State). IsLike x m) (sym n_is) (subst P (sym like.is) (invalidates-past a b.opening b.history key like.order like.count like.answers)))
 
 without-like : (a : State) (o : List (Bytes × Bytes)) (h : List Event) (join : JoinClaim) → by_use o h ≡ by_use a.opening a.history → length h ≡ length a.history → Agree a.joiners a.history h
     → IsLike (without_joiner a join) (without_joiner (with_past a o h) join)

@@ -1,5 +1,5 @@
 -- Worlds that are alike show the same of an event, and are alike behind it.
-use Rattle.std.proofs.Common.{◌≡◌, ℕ, zero, suc, List, [], ◌∷◌, ◌++◌, map, Bool, true, false, Option, None, Some, is_none, option_map, slice_get, slice_set, if◌then◌else◌, sym, refl, ap, ◌∙◌, subst, inl, inr}
+use Rattle.std.proofs.Common.{◌≡◌, ℕ, zero, suc, List, [], ◌∷◌, ◌++◌, map, Bool, true, false, Option, None, Some, is_none, nat_lt, option_map, slice_get, slice_set, if◌then◌else◌, sym, refl, ap, ◌∙◌, subst, inl, inr}
 use Rattle.jc_world.proofs.Common.{Again, Change, Joins, Stepped, entries, keys_of, Caller, Config, WriterFailed, Op, Event, WriteAnswer, Bytes, entry_at, with_entry, by_use, AreKeys, State, JoinClaim, Played, WorldEvent, Outcome, Shown, Part, new_call, WorldState, start, home, part_of, out_of_part, waits_for_report, read_answer, report_for, load_from, opens_coherent, opens_as_told, with_foreign, without_foreign, with_doubt, is_misled, is_agreed, Refusal, entry_in, PartProgress, Reservation, fits}
 use Rattle.std.specs.List.Sorted.{IsPermutation}
 use Rattle.jc_stripe.specs.Reopening.{all_entries}
@@ -8,11 +8,14 @@ use Rattle.jc_stripe.specs.Polled as polled
 use Rattle.jc_stripe.specs.Reopening.{dropped, opened_stripes}
 use Rattle.jc_world.specs.declared.event.WorldEvent.TheVariants as event
 use Rattle.jc_world.specs.declared.event.Outcome.TheVariants as outcome
-use Rattle.jc_world.specs.Events.{Happens, Step, Run, StartsAs, Ends, Picks, with_call, with_look, after_answer, after_change, after_process, run_result, after_report, after_reports, reported_at, with_met_by, keys_reported, reported_now, with_stripe, with_phase, with_settled, fault_in, new_progress, with_new_part, with_join, without_part, with_commit, without_join, without_call, over_by, step_of, not_over}
+use Rattle.jc_world.specs.Events.{Happens, Step, Run, StartsAs, EndsAs, Picks, eviction_place, invalidated_as, with_call, with_look, after_answer, after_change, after_process, run_result, after_report, after_reports, reported_at, with_met_by, keys_reported, reported_now, with_stripe, with_phase, with_settled, fault_in, new_progress, with_new_part, with_join, without_part, with_commit, without_join, without_call, over_by, step_of, not_over}
 use Rattle.jc_world.specs.Reopening.{foreign_reopened, after_reopening}
 use Rattle.jc_world.specs.Alike.{IsLike, AreLike, WorldsAlike}
 use Rattle.jc_world.proofs.Facts.{none_some, some_back}
-use Rattle.jc_world.proofs.AlikeStripes.{begins-like, commits-like, withdraws-like, picks-like, like-refl}
+use Rattle.jc_world.proofs.AlikeStripes.{begins-like, ends-like, gives_back-like, invalidates-like, may-like, picks-like, like-refl}
+use Rattle.jc_world.specs.Fits.{may_invalidate}
+use Rattle.jc_stripe.specs.State.{is_reserved}
+use Rattle.jc_world.specs.declared.event.EvictionPlace.{EvictionPlace}
 
 -- 1. Stripes, one by one.
 
@@ -110,10 +113,10 @@ commit-past w ss o key part from to b new call met like =
     ap (λ (e : Option Bytes). record m { foreign = without_foreign (with_doubt w.foreign key (is_misled part)) key (is_agreed e (entry_at w.store key)) }) (ap (λ (x : State). entry_at x.cache key) like.is)
 
 ends-past : (w n : WorldState) (ss : List State) (o : List Event) (call : ℕ) (key : Bytes) (part : Part) (from to b : State) (x : Outcome)
-    → AreLike w.stripes ss → IsLike from b → Ends w call key part from to x n
-    → (m : WorldState) × (new : State) × Ends (with_past w ss o) call key part b new x m × WorldsAlike n m
+    → AreLike w.stripes ss → IsLike from b → EndsAs w call key part from to x n
+    → (m : WorldState) × (new : State) × EndsAs (with_past w ss o) call key part b new x m × WorldsAlike n m
 ends-past w n ss o call key part from to b (outcome.Stepped seen) alike like one =
-    let made = commits-like from b to part.reservation (out_of_part part) (step_of seen) like one.0 in
+    let made = ends-like from b to part.reservation (out_of_part part) (step_of seen) like one.0 in
     let m : WorldState = with_commit (with_past w ss o) key part b made.0 call (fault_in seen.reply) in
     (m, made.0, (made.1, one.1, refl), alike-as n (with_commit w key part from to call (fault_in seen.reply)) m one.2 (commit-past w ss o key part from to b made.0 call (fault_in seen.reply) made.2) (like-set w.stripes ss (home w key) to made.0 alike made.2))
 ends-past w n ss o call key part from to b x alike like one = absurd one
@@ -162,9 +165,24 @@ over-same : (w : WorldState) (ss : List State) (o : List Event) (call : ℕ) (ke
 over-same w ss o call key (outcome.Stepped x) = refl
 over-same w ss o call key x = refl
 
-fits-same : (w : WorldState) (ss : List State) (o : List Event) (e : WorldEvent) → fits (with_past w ss o) e ≡ fits w e
-fits-same w ss o (event.Call call session command) = refl
-fits-same w ss o e = refl
+may-all : (ss ts : List State) (i : ℕ) (key : Bytes) → AreLike ss ts → may_invalidate (slice_get ts i) key ≡ may_invalidate (slice_get ss i) key
+may-all [] [] i key h = refl
+may-all [] (t ∷ ts) i key h = absurd h
+may-all (s ∷ ss) [] i key h = absurd h
+may-all (s ∷ ss) (t ∷ ts) zero key h = may-like s t key h.0
+may-all (s ∷ ss) (t ∷ ts) (suc i) key h = may-all ss ts i key h.1
+
+fits-same : (w : WorldState) (ss : List State) (o : List Event) (e : WorldEvent) → AreLike w.stripes ss → fits (with_past w ss o) e ≡ fits w e
+fits-same w ss o (event.Call call session command) alike = refl
+fits-same w ss o (event.Invalidate key) alike = may-all w.stripes ss (home w key) key alike
+fits-same w ss o e alike = refl
+
+-- the eviction that is shown is at the same place
+same-place : (stripe : ℕ) (from to b new : State) → IsLike from b → IsLike to new → eviction_place stripe from to ≡ eviction_place stripe b new
+same-place stripe from to b new was is = λ i. place-of (sym was.count i) (sym is.count i)
+  where
+    place-of : ℕ → ℕ → Option EvictionPlace
+    place-of n m = if nat_lt n m then Some (record { stripe = stripe; place = n }) else None
 
 abbrev after_foreign : WorldState → Bytes → Option Bytes → WorldState
 after_foreign w key value = record w { store = with_entry w.store key value; foreign = with_foreign w.foreign key; is_fresh = false }
@@ -224,9 +242,10 @@ happens-past w n ss o (event.Commit call key) s alike one =
     (made.0, (one.0, one.1, there.0, there.1, made.1, made.2, one.6 ∙ sym (over-same w ss o call key s.outcome)), made.3)
 happens-past w n ss o (event.Withdraw call key) s alike one =
     let there = like-at w.stripes ss (home w key) one.2 alike one.3 in
-    let made = withdraws-like one.2 there.0 one.4 one.0.reservation there.2 one.5 in
-    let m : WorldState = without_part (with_stripe (with_past w ss o) key made.0) key in
-    (m, (one.0, one.1, there.0, there.1, made.0, made.1, one.6, refl), alike-as n (without_part (with_stripe w key one.4) key) m one.7 refl (like-set w.stripes ss (home w key) one.4 made.0 alike made.2))
+    let made = gives_back-like one.2 there.0 one.4 one.0.reservation there.2 one.5 in
+    let m : WorldState = without_part (with_phase (with_past w ss o) key there.0 made.0) key in
+    let shows = one.6 ∙ ap (λ (x : Option EvictionPlace). not_over (outcome.Withdrawn x)) (same-place (home w key) one.2 one.4 there.0 made.0 there.2 made.2) in
+    (m, (one.0, one.1, there.0, there.1, made.0, made.1, shows, refl), alike-as n (without_part (with_phase w key one.2 one.4) key) m one.7 refl (like-set w.stripes ss (home w key) one.4 made.0 alike made.2))
 happens-past w n ss o (event.Leave call) s alike one =
     let m : WorldState = without_call (with_past w ss o) call in
     (m, (one.0, refl), alike-as n (without_call w call) m one.1 refl alike)
@@ -237,6 +256,14 @@ happens-past w n ss o (event.PickUp call key) s alike one =
 happens-past w n ss o (event.Foreign key value) s alike one =
     let m : WorldState = after_foreign (with_past w ss o) key value in
     (m, (one.0, refl), alike-as n (after_foreign w key value) m one.1 refl alike)
+happens-past w n ss o (event.Invalidate key) s alike one =
+    let there = like-at w.stripes ss (home w key) one.0 alike one.1 in
+    let made = invalidates-like one.0 there.0 one.2 key there.2 one.3 in
+    let m : WorldState = record (with_phase (with_past w ss o) key there.0 made.0) { is_fresh = false } in
+    let reserved : is_reserved there.0 key ≡ is_reserved one.0 key = ap (λ (x : State). is_reserved x key) there.2.is in
+    let place : eviction_place (home w key) one.0 one.2 ≡ eviction_place (home w key) there.0 made.0 = same-place (home w key) one.0 one.2 there.0 made.0 there.2 made.2 in
+    let shows = one.4 ∙ (λ i. not_over (if sym reserved i then outcome.Marked else outcome.Invalidated (place i))) in
+    (m, (there.0, there.1, made.0, made.1, shows, refl), alike-as n (record (with_phase w key one.0 one.2) { is_fresh = false }) m one.5 refl (like-set w.stripes ss (home w key) one.2 made.0 alike made.2))
 happens-past w n ss o (event.Reopen config) s alike one =
     let same : all_entries ss ≡ all_entries w.stripes = like-entries w.stripes ss alike in
     let m : WorldState = after_reopening config (with_past w ss o) in
@@ -249,9 +276,9 @@ step-past : (w n : WorldState) (ss : List State) (o : List Event) (e : WorldEven
     → (m : WorldState) × Step (with_past w ss o) e s m × WorldsAlike n m
 step-past w n ss o e s alike (inl one) =
     let made = happens-past w n ss o e s alike one.1 in
-    (made.0, inl (fits-same w ss o e ∙ one.0, made.1), made.2)
+    (made.0, inl (fits-same w ss o e alike ∙ one.0, made.1), made.2)
 step-past w n ss o e s alike (inr one) =
-    (with_past w ss o, inr (fits-same w ss o e ∙ one.0, one.1, refl), alike-as n w (with_past w ss o) one.2 refl alike)
+    (with_past w ss o, inr (fits-same w ss o e alike ∙ one.0, one.1, refl), alike-as n w (with_past w ss o) one.2 refl alike)
 
 pub step-alike : (w v n : WorldState) (e : WorldEvent) (s : Shown) → WorldsAlike w v → Step w e s n → (m : WorldState) × Step v e s m × WorldsAlike n m
 step-alike w v n e s like one =

@@ -134,6 +134,7 @@ opened_empty config n fits = record {
   reservations = refl;
   joiners = refl;
   history = refl;
+  marked = refl;
 }
 
 -- and each stripe of the start is an empty one

@@ -18,7 +18,9 @@ use Rattle.jc_world.proofs.Joiners.{joiner_of, unanswered, told_resolved, told_w
 use Rattle.jc_world.proofs.Beginning.{unless, fits_left, fits_same, fits_taken, calls_same, order_stored, owned_part, order_foreign, order_parted, order_called, MayStart, not_own, apart_or, unserved, begins_with, order_beside}
 use Rattle.jc_world.proofs.Facts.{same_found, some_back}
 use Rattle.jc_world.proofs.Entries.{tied}
-use Rattle.jc_world.proofs.KeyChanges.{KeyChange, by_answer, by_commit, by_join, by_nothing, by_refusal, by_reservation, by_retry, by_step, by_withdrawal, key_change, may_of}
+use Rattle.jc_world.proofs.KeyChanges.{KeyChange, by_answer, by_commit, by_join, by_nothing, by_refusal, by_reservation, by_retry, by_step, by_withdrawal, by_mark, key_change, may_of}
+use Rattle.jc_world.proofs.Dropping.{Drop, with_dropped}
+use Rattle.jc_stripe.specs.Invalidating.{dropped_event, without_entry}
 
 -- 1. A key that is settled.
 
@@ -547,7 +549,7 @@ pub part_key : (w : WorldState) (call : ℕ) (key : Bytes) (part : Part) → par
 part_key w call key part is old = (some_of (stripe_for w key) (λ s. IsHeld s key part) (old.held key part (of_call-at call (get w.parts key) part is).0)).2.key_is
 
 -- by the kind of the change at a key
-order_key : StaysReached → (w new : WorldState) (e : WorldEvent) (key : Bytes) (seen : Shown) → KeyChange w new e key seen → fits w e ≡ true → IsSoundWorld w → HasOrder new
+pub order_key : StaysReached → (w new : WorldState) (e : WorldEvent) (key : Bytes) (seen : Shown) → KeyChange w new e key seen → fits w e ≡ true → IsSoundWorld w → HasOrder new
 order_key stays w new e key seen (by_nothing is none ends) fit old = subst HasOrder (sym is) (order_half w old)
 order_key stays w new e key seen (by_refusal u op refusal start is none ends) fit old = subst HasOrder (sym is) (order_refused w u key op (Some refusal) (may_of w e key u op start fit old) old)
 order_key stays w new e key seen (by_step u op from to x start there h home_is is shows ends) fit old =
@@ -566,9 +568,51 @@ order_key stays w new e key seen (by_commit call part from to x e_is part_is the
     let reached = stays.commits from to part.reservation (out_of_part part) (step_of x) (old.shape.each (home w key) from there).reached h in
     subst HasOrder (sym is) (order_foreign (ended_world w key from to call (fault_in x.reply)) (foreign_committed w key part to) (order_commit w call key (fault_in x.reply) from to old there end reached))
 order_key stays w new e key seen (by_withdrawal call part from to e_is part_is there h is shows) fit old = subst HasOrder (sym is) (order_withdrawn stays w key part.reservation from to (part_key w call key part part_is old) there h old)
+order_key stays w new e key seen (by_mark from to there out h reached is none ends) fit old =
+    subst HasOrder (sym is)
+    (order_aside w key from to w.joins there (ap (λ (s : State). s.config) h) (ap (λ (s : State). s.stripe) h) (ap (λ (s : State). s.origin) h) (ap (λ (s : State). s.ended) h) (ap (λ (s : State). s.history) h) (ap (λ (s : State). s.reservations) h)
+    (reached stays (old.shape.each (home w key) from there).reached)
+    (calls_same w (with_stripe w key to) w.calls refl refl (served_set w key from to there (same_told from to (ap (λ (s : State). s.joiners) h))) old.calls) old)
 order_key stays w new e key seen (by_answer call join from to x e_is join_is there h home_is is shows ends) fit old =
     subst HasOrder (sym is) (order_picked stays w call key (fault_in x.reply) join from to (Polled.Answer x.reply x.place x.shared) join_is there h h.3 old)
 order_key stays w new e key seen (by_retry call join from to e_is join_is there h is shows ends) fit old = subst HasOrder (sym is) (order_again stays w call key join from to join_is there h old)
+
+-- a stripe that evicts a key extends what it was
+dropped_extends : (from : State) (key : Bytes) → Extends from (without_entry from key)
+dropped_extends from key = record {
+  same = record { config = refl; stripe = refl; origin = refl; lives = refl; ended = refl; opening = refl };
+  more = dropped_event key ∷ [];
+  history = refl;
+}
+
+-- the entry of an invalidated key is evicted
+pub order_dropped : StaysReached → (w mid new : WorldState) (key : Bytes) → Drop w mid new key → IsSoundWorld w → IsSoundWorld mid → HasOrder new
+unfolding dropped_extends
+order_dropped stays w mid new key d was old =
+    let from = d.from in
+    let to = without_entry from key in
+    let next = with_dropped mid key from d.told in
+    let at = old.shape.each (home mid key) from d.there in
+    let reached = d.reached stays was in
+    let g = dropped_extends from key in
+    let kept : (rs : List Reservation) → AllOwned mid rs → AllOwned next rs = λ rs. each_map (IsOwned mid) (IsOwned next) rs (λ r h. record { part = h.part; call = h.call }) in
+    subst HasOrder (sym d.is)
+    (record {
+      shape = shape_set mid next key from to refl refl old.shape d.there refl refl refl refl reached (share_grows mid (home mid key) from to g at reached) (λ m apart. share_stays mid (home mid key) m from to g at reached apart);
+      order = added_order mid.order from to g reached old.order tt;
+      numbers = numbers_added mid.last mid.order from to g old.numbers tt;
+      calls = calls_on mid next (IsFound mid) mid.calls
+          (λ u found h. record {
+            number = h.number;
+            keys = λ q op is. record {
+              comes = λ e. comes_added mid.order from to u.caller q g ((h.keys q op is).comes (unless (is_served mid u.caller q) (is_served next u.caller q) (served_set mid key from to d.there (same_told from to refl) u.caller q) e)) tt;
+            };
+          })
+          (each_found mid mid.calls old.calls) old.calls;
+      owned = λ n s. set_cases mid.stripes (home mid key) n to s
+          (λ same here. subst (AllOwned next) (ap (λ (s : State). s.reservations) here) (kept from.reservations (old.owned (home mid key) from d.there)))
+          (λ apart here. kept s.reservations (old.owned n s here));
+    })
 
 -- by the kind of the event
 pub order_happens : StaysReached → (w new : WorldState) (e : WorldEvent) (seen : Shown) → fits w e ≡ true → Happens w e seen new → (IsWhole e → IsSoundWorld new) → IsSoundWorld w → HasOrder new
@@ -581,6 +625,9 @@ order_happens stays w new (WorldEvent.Change call key) seen fit h back old = sub
 order_happens stays w new (WorldEvent.Report call left fault) seen fit h back old = order_half new (back tt)
 order_happens stays w new (WorldEvent.Leave call) seen fit h back old = subst HasOrder (sym h.1) (order_left w call fit old)
 order_happens stays w new (WorldEvent.Foreign key value) seen fit h back old = subst HasOrder (sym h.1) (order_stored w _ _ w.premises false old)
+order_happens stays w new (WorldEvent.Commit call key) seen fit h back old = order_half new (back tt)
+order_happens stays w new (WorldEvent.Withdraw call key) seen fit h back old = order_half new (back tt)
+order_happens stays w new (WorldEvent.Invalidate key) seen fit h back old = order_half new (back tt)
 order_happens stays w new (WorldEvent.Reopen config) seen fit h back old = order_half new (back tt)
 order_happens stays w new e seen fit h back old = let k = key_change w new e seen refl h in order_key stays w new e k.0 seen k.1 fit old
 

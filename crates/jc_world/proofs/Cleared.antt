@@ -2,8 +2,9 @@
 --     free_cleared      of what the cache has nothing of, nobody has lied
 --     told_cleared      a clear that is done leaves neither an entry nor a reservation
 --     forgets           what is cached then is what the groups since leave of an empty cache
-use Rattle.jc_world.proofs.Common.{◌≡◌, ℕ, Bool, true, false, cond, ◌&&◌, ◌||◌, List, [], ◌∷◌, ◌++◌, is_some, IsSomeAnd, Some, None, Option, sym, refl, ap, ◌∙◌, subst, inl, inr, and_right, false_from_ne_true, nat_list_cmp_total, eq_by_cmp, empty, get-empty, get, remove, get-remove, get-with_entry, Caller, Bytes, Cache, entry_at, key_cmp, Group, nothing_said, without_victim, cache_before_step, cache_after_step, without_own, cache_after_group, cache_after_groups, entry_after, Cause, Op, Clear, Begins, StepDone, Begun, State, is_reserved, first_refusal, Stepped, Shown, Outcome, Over, WorldEvent, op_at, Step, with_settled, with_phase, step_of, fault_in, Agrees, IsSoundWorld, WorldState, home, entry_in, cached_entry, has_any, is_untold, is_foreign, has_progress, is_misled, or_parts, Part}
+use Rattle.jc_world.proofs.Common.{◌≡◌, ℕ, Bool, true, false, cond, ◌&&◌, ◌||◌, List, [], ◌∷◌, ◌++◌, is_some, IsSomeAnd, Some, None, Option, sym, refl, ap, ◌∙◌, subst, inl, inr, and_right, false_from_ne_true, nat_list_cmp_total, eq_by_cmp, empty, get-empty, get, remove, get-remove, get-with_entry, Caller, Bytes, Cache, entry_at, key_cmp, Group, nothing_said, without_victim, cache_before_step, cache_after_step, without_own, cache_after_group, cache_after_part, cache_after_parts, entry_after, Cause, Op, Clear, Begins, StepDone, Begun, State, is_reserved, first_refusal, Stepped, Shown, Outcome, Over, WorldEvent, op_at, Step, with_settled, with_phase, step_of, fault_in, Agrees, IsSoundWorld, WorldState, home, entry_in, cached_entry, has_any, is_untold, is_foreign, has_progress, is_misled, or_parts, Part}
 use Rattle.jc_model.specs.Table.{seq_entry}
+use Rattle.jc_model.specs.Group.{Part as HistoryPart, Made, Dropped}
 use Rattle.jc_world.specs.Told.{IsClear, is_misled_at}
 use Rattle.jc_world.proofs.Lemmas.{agrees_stepped, stripe_put, tied, split}
 use Rattle.jc_world.proofs.Facts.{some_back}
@@ -76,10 +77,15 @@ same_group c d g key same = own g.evicted (step (before g.victim))
     own None e = e
     own (Some cause) e = without (cache_after_step c g) (cache_after_step d g) g.step.key key e
 
+-- and after a part
+same_part : (c d : Cache) (p : HistoryPart) (key : Bytes) → entry_at c key ≡ entry_at d key → entry_at (cache_after_part c p) key ≡ entry_at (cache_after_part d p) key
+same_part c d (Made g) key same = same_group c d g key same
+same_part c d (Dropped k) key same = get-remove nat_list_cmp_total c k key ∙ ap (cond (eq_by_cmp key_cmp key k) None) same ∙ sym (get-remove nat_list_cmp_total d k key)
+
 -- so it is after many
-same_groups : (c d : Cache) (gs : List Group) (key : Bytes) → entry_at c key ≡ entry_at d key → entry_at (cache_after_groups c gs) key ≡ entry_at (cache_after_groups d gs) key
-same_groups c d [] key same = same
-same_groups c d (g ∷ gs) key same = same_groups (cache_after_group c g) (cache_after_group d g) gs key (same_group c d g key same)
+same_parts : (c d : Cache) (ps : List HistoryPart) (key : Bytes) → entry_at c key ≡ entry_at d key → entry_at (cache_after_parts c ps) key ≡ entry_at (cache_after_parts d ps) key
+same_parts c d [] key same = same
+same_parts c d (p ∷ ps) key same = same_parts (cache_after_part c p) (cache_after_part d p) ps key (same_part c d p key same)
 
 -- a clear leaves nothing at its key
 cleared_group : (c : Cache) (g : Group) → g.step.op ≡ Clear → g.step.out ≡ nothing_said → entry_at (cache_after_group c g) g.step.key ≡ None
@@ -95,7 +101,13 @@ cleared_group c g op_is out_is = own g.evicted
     own None = made
     own (Some cause) = get-remove nat_list_cmp_total (cache_after_step c g) g.step.key g.step.key ∙ ap (λ b. cond b None (entry_at (cache_after_step c g) g.step.key)) (tied g.step.key)
 
-pub forgets : (cache : Cache) (before after : List Group) (clear : Group) → clear.step.op ≡ Clear → clear.step.out ≡ nothing_said → entry_at (cache_after_groups cache (before ++ clear ∷ after)) clear.step.key ≡ entry_at (cache_after_groups empty after) clear.step.key
+pub forgets : (cache : Cache) (before after : List HistoryPart) (clear : Group) → clear.step.op ≡ Clear → clear.step.out ≡ nothing_said → entry_at (cache_after_parts cache (before ++ Made clear ∷ after)) clear.step.key ≡ entry_at (cache_after_parts empty after) clear.step.key
 forgets cache [] after clear op_is out_is =
-    same_groups (cache_after_group cache clear) empty after clear.step.key (cleared_group cache clear op_is out_is ∙ sym (get-empty key_cmp clear.step.key))
-forgets cache (g ∷ gs) after clear op_is out_is = forgets (cache_after_group cache g) gs after clear op_is out_is
+    same_parts (cache_after_group cache clear) empty after clear.step.key (cleared_group cache clear op_is out_is ∙ sym (get-empty key_cmp clear.step.key))
+forgets cache (p ∷ ps) after clear op_is out_is = forgets (cache_after_part cache p) ps after clear op_is out_is
+
+-- and an eviction of an invalidated key leaves nothing
+pub forgets_dropped : (cache : Cache) (before after : List HistoryPart) (key : Bytes) → entry_at (cache_after_parts cache (before ++ Dropped key ∷ after)) key ≡ entry_at (cache_after_parts empty after) key
+forgets_dropped cache [] after key =
+    same_parts (remove cache key) empty after key (get-remove nat_list_cmp_total cache key key ∙ ap (λ b. cond b None (entry_at cache key)) (tied key) ∙ sym (get-empty key_cmp key))
+forgets_dropped cache (p ∷ ps) after key = forgets_dropped (cache_after_part cache p) ps after key

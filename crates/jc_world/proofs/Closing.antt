@@ -3,8 +3,8 @@
 --     none_reserved  with nothing held no key is reserved
 --     never_waits    if no key is reserved, no joiner waits
 --     held_out, joins_out    what is out in a world that is sound
-use Rattle.jc_world.proofs.Common.{◌≡◌, ℕ, ◌+◌, ◌<◌, Bool, true, false, cond, not, ◌&&◌, ◌⊎◌, List, [], ◌∷◌, length, get_or, is_some, IsSomeAnd, ◌==◌, slice_get, slice_set, Some, None, Option, option_map, find, sym, refl, ap, ◌∙◌, subst, inl, inr, arith, not-true, eqb-true, and_parts, and_from, false_from_ne_true, nat_list_cmp_total, eq_by_cmp_equiv, pointwise, texts_ties, empty, get, remove, get-empty, get-remove, list_all, eq_by_cmp, all_imply, all_filter, stripe_of, Config, Bytes, key_cmp, Out, belongs_to, Waiting, Joiner, StaysReached, Commits, Withdraws, without_joiner, PicksUp, JoinFits, AllJoin, IsReached, State, is_of, is_key, without_key, IsOut, IsJoined, JoinClaim, Polled, StepDone, Reservation, Part, IsLeftStripe, AreLeft, out_at, IsPartOut, HasHeld, IsJoinOut, HasJoins, NoneReserved, IsHeld, IsOwned, IsSoundWorld, Parts, JoinKey, join_key, Joins, WorldState, stripe_for}
-use Rattle.jc_world.proofs.Lemmas.{set_cases, length-slice_set, each_test, others_left, same_bytes, find_kept, joined_resolved, joined_dissolved, at_stripe, found_left, some_of, within, at_index}
+use Rattle.jc_world.proofs.Common.{◌≡◌, ℕ, ◌+◌, ◌<◌, Bool, true, false, cond, not, ◌&&◌, ◌⊎◌, List, [], ◌∷◌, length, get_or, is_some, IsSomeAnd, ◌==◌, slice_get, slice_set, Some, None, Option, option_map, find, sym, refl, ap, ◌∙◌, subst, inl, inr, arith, not-true, eqb-true, and_parts, and_from, false_from_ne_true, nat_list_cmp_total, eq_by_cmp_equiv, pointwise, texts_ties, empty, get, remove, get-empty, get-remove, list_all, eq_by_cmp, all_imply, all_filter, stripe_of, Config, Bytes, key_cmp, Out, belongs_to, Waiting, Joiner, StaysReached, Ends, GivesBack, without_joiner, PicksUp, JoinFits, AllJoin, IsReached, State, is_of, is_key, without_key, IsOut, IsJoined, JoinClaim, Polled, StepDone, Reservation, Part, IsLeftStripe, AreLeft, out_at, IsPartOut, HasHeld, IsJoinOut, HasJoins, NoneReserved, IsHeld, IsOwned, IsSoundWorld, Parts, JoinKey, join_key, Joins, WorldState, stripe_for}
+use Rattle.jc_world.proofs.Lemmas.{set_cases, length-slice_set, each_test, others_left, same_bytes, find_kept, joined_resolved, joined_dissolved, at_stripe, found_left, some_of, within, at_index, EndLeaves, end_leaves, BackLeaves, back_leaves}
 use Rattle.jc_world.proofs.Maps.{joins_ordered, each_left}
 
 -- 1. A reservation that is over.
@@ -18,32 +18,36 @@ pub record IsOver (key : Bytes) (from to : State) : Type 0 where
   pub joins : (j : JoinClaim) → IsJoined from j → IsJoined to j
   pub reached : IsReached to
 
--- its commit
-committed : StaysReached → (from to : State) (r : Reservation) (out : Out) (done : StepDone) → IsReached from → Commits from r out done to → IsOver r.key from to
-committed stays from to r out done reached h = record {
-  config_is = ap (λ (s : State). s.config) h.1.after;
-  number_is = ap (λ (s : State). s.stripe) h.1.after;
-  origin_is = ap (λ (s : State). s.origin) h.1.after;
-  left = ap (λ (s : State). s.reservations) h.1.after;
-  joins = λ j t.
-      rw (ap (λ (s : State). s.joiners) h.1.after) (joined_resolved (λ x. x.load ≡ j.load) r.number done.place (done.place + 1) j.caller j.key from.joiners (λ place x k. k) t);
-  reached = stays.commits from to r out done reached h;
-}
+-- its end
+committed : StaysReached → (from to : State) (r : Reservation) (out : Out) (done : StepDone) → IsReached from → Ends from r out done to → IsOver r.key from to
+committed stays from to r out done reached h =
+    let left = end_leaves from to r out done h in
+    record {
+      config_is = left.config;
+      number_is = left.stripe;
+      origin_is = left.origin;
+      left = left.reservations;
+      joins = λ j t.
+          rw left.joiners (joined_resolved (λ x. x.load ≡ j.load) r.number done.place (done.place + 1) j.caller j.key from.joiners (λ place x k. k) t);
+      reached = stays.ends from to r out done reached h;
+    }
 
 -- its withdrawal
-given_back : StaysReached → (from to : State) (r : Reservation) → IsReached from → Withdraws from r to → IsOver r.key from to
-given_back stays from to r reached h = record {
-  config_is = ap (λ (s : State). s.config) h.1;
-  number_is = ap (λ (s : State). s.stripe) h.1;
-  origin_is = ap (λ (s : State). s.origin) h.1;
-  left = ap (λ (s : State). s.reservations) h.1;
-  joins = λ j t.
-      rw (ap (λ (s : State). s.joiners) h.1) (joined_dissolved (λ x. x.load ≡ j.load) r.number j.caller j.key from.joiners (λ x k. k) t);
-  reached = stays.withdraws from to r reached h;
-}
+given_back : StaysReached → (from to : State) (r : Reservation) → IsReached from → GivesBack from r to → IsOver r.key from to
+given_back stays from to r reached h =
+    let left = back_leaves from to r h in
+    record {
+      config_is = left.config;
+      number_is = left.stripe;
+      origin_is = left.origin;
+      left = left.reservations;
+      joins = λ j t.
+          rw left.joiners (joined_dissolved (λ x. x.load ≡ j.load) r.number j.caller j.key from.joiners (λ x k. k) t);
+      reached = stays.gives_back from to r reached h;
+    }
 
 -- the one or the other
-pub over : StaysReached → (from to : State) (r : Reservation) → IsReached from → ((out : Out) × (done : StepDone) × Commits from r out done to) ⊎ Withdraws from r to → IsOver r.key from to
+pub over : StaysReached → (from to : State) (r : Reservation) → IsReached from → ((out : Out) × (done : StepDone) × Ends from r out done to) ⊎ GivesBack from r to → IsOver r.key from to
 over stays from to r reached (inl h) = committed stays from to r h.0 h.1 reached h.2
 over stays from to r reached (inr h) = given_back stays from to r reached h
 

@@ -36,13 +36,13 @@ pub use Rattle.jc_types.specs.Limits.{is_between, is_session, check}
 pub use Rattle.jc_types.specs.Stripes.{stripe_of}
 pub use Rattle.jc_types.specs.declared.caller.Caller.{Caller}
 pub use Rattle.jc_types.specs.declared.config.Config.{Config}
-pub use Rattle.jc_types.specs.declared.limits.TheConstants.{JOINERS_MAX, STEP_PLACES, STRIPES_MAX}
+pub use Rattle.jc_types.specs.declared.limits.TheConstants.{HIT_PLACES, JOINERS_MAX, STEP_PLACES, STRIPES_MAX}
 pub use Rattle.jc_types.specs.declared.refusal.Refusal.{Refusal}
 pub use Rattle.jc_types.specs.declared.refusal.Refusal.TheVariants.{TooManyKeys, WriterFailed}
 pub use Rattle.jc_model.proofs.CallerLemmas.{none_is, same_key, same_cache, get-with_entry}
 pub use Rattle.jc_model.specs.Batches.{is_among}
 pub use Rattle.jc_model.specs.Cache.{Bytes, Cache, entry_at, with_entry, key_cmp}
-pub use Rattle.jc_model.specs.Group.{Group, nothing_said, load_only, write_only, victim_events, evicted_events, step_event, shared_event, step_place, events_of, history_of, without_victim, cache_before_step, cache_after_step, without_own, cache_after_group, cache_after_groups}
+pub use Rattle.jc_model.specs.Group.{Group, nothing_said, load_only, write_only, victim_events, evicted_events, step_event, shared_event, step_place, events_of, history_of, without_victim, cache_before_step, cache_after_step, without_own, cache_after_group, cache_after_part, cache_after_parts}
 pub use Rattle.jc_model.specs.Lawful.{loads_whole}
 pub use Rattle.jc_model.specs.Legal.{may_come, may_follow, in_order, event_key, is_of_stripe, of_stripe, IsHistory, IsOpening}
 pub use Rattle.jc_model.specs.Processor.{found_in}
@@ -72,12 +72,13 @@ pub use Rattle.jc_outside.proofs.CallerLemmas.{get-entries, insert-entries}
 pub use Rattle.jc_outside.specs.declared.done.Origin.TheVariants.{Played}
 pub use Rattle.jc_stripe.proofs.CallerLemmas.{step_at, joined_parks, withdrawn_parks, beginner_parks, commit_parks, committer_parks, sharers_park, picker_parks, picked_parks, others_park, again_parks_same, asks_invoking, invokes, keys_once, keys_own}
 pub use Rattle.jc_stripe.specs.Effects.{change_due}
+pub use Rattle.jc_stripe.specs.Invalidating.{Ends, GivesBack, Invalidates}
 pub use Rattle.jc_stripe.specs.Keys.{AreKeys}
 pub use Rattle.jc_stripe.specs.Laws.{StaysReached, IsSameStripe, Extends, Grows, KeepsReserved}
 pub use Rattle.jc_stripe.specs.OnePhase.{is_answered, is_parked}
 pub use Rattle.jc_stripe.specs.OrderOfUse.{by_use, least_used}
 pub use Rattle.jc_stripe.specs.OwnSteps.{may_come_all}
-pub use Rattle.jc_stripe.specs.Phases.{is_other_call, is_other_join, MayBegin, overflows, victim, new_group, Steps, with_joiner, Begins, after_commit, Commits, Withdraws, without_joiner, told_to, PicksUp, polled_with}
+pub use Rattle.jc_stripe.specs.Phases.{is_other_call, is_other_join, MayBegin, overflows, victim, new_group, Steps, with_joiner, Begins, after_commit, Commits, Withdraws, after_withdrawal, without_joiner, told_to, PicksUp, polled_with}
 pub use Rattle.jc_stripe.specs.Reached.{AllAsk, JoinFits, AllJoin, are_apart, is_own, IsReached, IsOpened}
 pub use Rattle.jc_stripe.specs.Refusals.{first_by, first_asked, reserves, answers_at_once, load_of, load_at, load_joined, needs_free_key, places_needed, first_refusal}
 pub use Rattle.jc_stripe.specs.State.{State, is_of, is_key, is_reserved, reservation_of, new_reservation, with_reservation, without_key, without_reservation, IsOut, IsJoined}
@@ -90,6 +91,7 @@ pub use Rattle.jc_stripe.specs.declared.ticket.First.TheVariants.{Loader, Nobody
 pub use Rattle.jc_stripe.specs.declared.ticket.Reservation.{Reservation}
 pub use Rattle.jc_world.specs.declared.command.Command.{Command}
 pub use Rattle.jc_world.specs.declared.event.Outcome.{Outcome}
+pub use Rattle.jc_world.specs.declared.event.EvictionPlace.{EvictionPlace}
 pub use Rattle.jc_world.specs.declared.event.Over.{Over}
 pub use Rattle.jc_world.specs.declared.event.Part.{Part}
 pub use Rattle.jc_world.specs.declared.event.JoinAnswer.{JoinAnswer}
@@ -104,9 +106,9 @@ pub use Rattle.jc_world.specs.Audit.{IsCache, differs, differing, cache_in, cach
 pub use Rattle.jc_world.specs.Calls.{Task, at_each, put_each_of, SweepState, sweep_of, keeps_open, CallState, new_call, has_number, is_of_session, op_in, op_at, op_found, op_or_found, op_for, is_open, open_in, open_keys, is_going, has_too_many_keys, opened, going_on, over_of, with_met, settled, replaced, settle, over_settled, drop_call, has_looked, has_looked_at_each, next_sweep, with_swept_keys, look}
 pub use Rattle.jc_world.specs.Coherent.{IsCoherentAt, Coherent, CoherentAsTold, all_hold}
 pub use Rattle.jc_world.specs.Ending.{IsLeftStripe, AreLeft, out_at, IsPartOut, HasHeld, IsJoinOut, HasJoins, NoneReserved}
-pub use Rattle.jc_world.specs.Events.{with_stripe, with_phase, step_of, not_over, shown_begun, fault_in, with_settled, over_by, with_met_by, without_call, with_look, asks_as, new_progress, new_part, with_part, with_new_part, without_part, with_join, without_join, BeginsAs, ReservesAs, StartsAs, RefusesAs, Ends, Picks, with_heard, foreign_committed, with_commit, with_loaded, after_answer, with_change, after_change, with_report, after_report, reported_part, reported_in, reported_key, reported_keys, reported_now, keys_reported, reported_at, after_reports, run_result, progress_after, after_process, Happens, Step, Run, RunAppending, is_fit, AllFit}
+pub use Rattle.jc_world.specs.Events.{with_stripe, with_phase, step_of, not_over, shown_begun, fault_in, with_settled, over_by, with_met_by, without_call, with_look, asks_as, new_progress, new_part, with_part, with_new_part, without_part, with_join, without_join, BeginsAs, ReservesAs, StartsAs, RefusesAs, EndsAs, eviction_place, invalidated_as, Picks, with_heard, foreign_committed, with_commit, with_loaded, after_answer, with_change, after_change, with_report, after_report, reported_part, reported_in, reported_key, reported_keys, reported_now, keys_reported, reported_at, after_reports, run_result, progress_after, after_process, Happens, Step, Run, RunAppending, is_fit, AllFit}
 pub use Rattle.jc_world.specs.Reopening.{keys_dropped, stripes_reopened, after_reopening}
-pub use Rattle.jc_world.specs.Fits.{is_playable, is_new, is_free, may_start, may_leave, passes_in, waits_at, is_in_batch, batch_of, writer_batch, is_asked_in, may_change, is_being_written, may_report, is_to_look, may_look, fits}
+pub use Rattle.jc_world.specs.Fits.{is_playable, is_new, is_free, may_start, may_leave, passes_in, waits_at, is_in_batch, batch_of, writer_batch, is_asked_in, may_change, is_being_written, may_report, is_to_look, may_look, may_invalidate, fits}
 pub use Rattle.jc_world.specs.Gathered.{or_else, found_after}
 pub use Rattle.jc_world.specs.Headline.{IsOpeningStripe, IsOpeningWorld, start_with, ReachesSince, is_reopening, reopens, with_all_premises, is_answer, is_load, is_loaded}
 pub use Rattle.jc_world.specs.Held.{IsAnswerable, parts_of, joins_of}

@@ -1,12 +1,16 @@
 -- A phase of a stripe is determined, but for insertions that are out of memory.
-use Rattle.std.proofs.Common.{◌≡◌, ℕ, List, [], length, Bool, true, false, ◌&&◌, Option, None, Some, is_some, is_none, option_map, if◌then◌else◌, sym, refl, ap, ◌∙◌, true≢false}
-use Rattle.jc_world.proofs.Common.{Caller, Refusal, Op, Get, Out, Reply, Cause, Bytes, entry_at, Group, step_place, nothing_said, callers_of, State, new_reservation, with_reservation, TicketClaim, JoinClaim, asks_loader, Begun, StepDone, First, Nobody, Reservation, first_asked, first_by, load_joined, reserves, Change}
+use Rattle.std.proofs.Common.{◌≡◌, ℕ, List, [], length, Bool, true, false, ◌&&◌, Option, None, Some, is_some, is_none, option_map, cond, if◌then◌else◌, sym, refl, ap, ◌∙◌, true≢false}
+use Rattle.jc_world.proofs.Common.{Caller, Refusal, Op, Get, Out, Reply, Cause, Bytes, Cache, entry_at, and-false, nat_list_cmp_total, get-remove, cache_after_step, without_own, Group, step_place, nothing_said, callers_of, State, new_reservation, with_reservation, TicketClaim, JoinClaim, asks_loader, Begun, StepDone, First, Nobody, Reservation, first_asked, first_by, load_joined, reserves, Change}
 use Rattle.jc_model.specs.Table.{reply_after}
 use Rattle.jc_stripe.specs.Outcomes as begun
 use Rattle.jc_stripe.specs.declared.begun.Eviction.{Eviction}
 use Rattle.jc_model.specs.Table.{loader_ask}
 use Rattle.jc_stripe.specs.Phases.{Steps, Begins, Commits, with_joiner, new_group, own_cause, own_eviction, inserts_here, overflows, victim, after_group, after_commit}
 use Rattle.jc_world.specs.Determinism.{eviction_has_memory}
+use Rattle.jc_model.specs.declared.event.Cause.TheVariants.{Invalidated}
+use Rattle.jc_stripe.specs.State.{is_marked}
+use Rattle.jc_stripe.specs.Invalidating.{is_dropped, end_with, told_drop, Ends, GivesBack}
+use Rattle.jc_world.proofs.Entries.{tied}
 use Rattle.jc_world.proofs.Facts.{none_some, some_back}
 
 -- 1. The group of a step.
@@ -127,3 +131,55 @@ commits-determined old n m r out a b one ample other ample_too =
     let y = steps-as (after_commit old r b.place) m r.caller r.key r.op out (callers_of r.number old.joiners) b other.1 ample_too in
     let place : a.place ≡ b.place = ap (λ (d : StepDone). d.place) x.0 ∙ sym (ap (λ (d : StepDone). d.place) y.0) in
     (x.0 ∙ sym y.0, x.1 ∙ ap (λ (p : ℕ). after_group (after_commit old r p) (ample_group (after_commit old r p) r.caller r.key r.op out (callers_of r.number old.joiners))) place ∙ sym y.1)
+
+-- 4. The end of a reservation.
+
+-- whose entry is there after its step was not evicted with it
+kept_amply : (old new : State) (caller : Caller) (key : Bytes) (op : Op) (out : Out) (callers : List Caller) (step : StepDone) → Steps old caller key op out callers step new → is_some (entry_at new.cache key) ≡ true → eviction_has_memory step.evicted ≡ true
+kept_amply old new caller key op out callers step steps there =
+    let group : Group = new_group old caller key op out callers steps.short in
+    go group.evicted refl
+  where
+    at : ℕ
+    at = length old.history
+
+    made : Cache
+    made = cache_after_step old.cache (new_group old caller key op out callers steps.short)
+
+    go : (cause : Option Cause) → (new_group old caller key op out callers steps.short).evicted ≡ cause → eviction_has_memory step.evicted ≡ true
+    go None is =
+        let group : Group = new_group old caller key op out callers steps.short in
+        ap eviction_has_memory (steps.evicted ∙ ap (λ (c : Option Cause). own_eviction at (record group { evicted = c })) is)
+    go (Some cause) is =
+        let group : Group = new_group old caller key op out callers steps.short in
+        let gone : entry_at new.cache key ≡ None =
+        ap (λ (s : State). entry_at s.cache key) steps.after ∙ ap (λ (c : Option Cause). entry_at (without_own made key c) key) is
+        ∙ get-remove nat_list_cmp_total made key key ∙ ap (λ (b : Bool). cond b None (entry_at made key)) (tied key)
+        in
+        absurd (true≢false (sym there ∙ ap is_some gone))
+
+-- a step's own eviction is not that of the invalidated key, which needs an entry
+step_amply : (old ended : State) (r : Reservation) (out : Out) (done step : StepDone) → Commits old r out step ended → done ≡ told_drop (is_marked old r.key) ended r.key step → eviction_has_memory done.evicted ≡ true → eviction_has_memory step.evicted ≡ true
+step_amply old ended r out done step commits done_is ample =
+    elim (is_some (entry_at ended.cache r.key)) as (λ b. is_some (entry_at ended.cache r.key) ≡ b → eviction_has_memory step.evicted ≡ true) [
+      | true ↦ λ there. kept_amply (after_commit old r step.place) ended r.caller r.key r.op out (callers_of r.number old.joiners) step commits.1 there
+      | false ↦ λ none.
+          let apart : is_dropped (is_marked old r.key) ended r.key ≡ false = ap (λ (b : Bool). is_marked old r.key && b) none ∙ and-false (is_marked old r.key) in
+          let same : done ≡ step = done_is ∙ ap (λ (b : Bool). cond b (record step { evicted = Some (record { cause = Invalidated; place = length ended.history }) }) step) apart in
+          ap (λ (d : StepDone). eviction_has_memory d.evicted) (sym same) ∙ ample
+    ] refl
+
+pub end-determined : (old n m : State) (r : Reservation) (out : Out) (a b : StepDone)
+    → Ends old r out a n → eviction_has_memory a.evicted ≡ true
+    → Ends old r out b m → eviction_has_memory b.evicted ≡ true
+    → (a ≡ b) × (n ≡ m)
+end-determined old n m r out a b (one, x, one_commits, a_is, n_is) ample (other, y, other_commits, b_is, m_is) ample_too =
+    let marked = is_marked old r.key in
+    let same = commits-determined old one other r out x y one_commits (step_amply old one r out a x one_commits a_is ample) other_commits (step_amply old other r out b y other_commits b_is ample_too) in (
+      a_is ∙ (λ i. told_drop marked (same.1 i) r.key (same.0 i)) ∙ sym b_is,
+      n_is ∙ ap (λ (s : State). end_with marked s r.key) same.1 ∙ sym m_is,
+    )
+
+pub gives_back-determined : (old n m : State) (r : Reservation) → GivesBack old r n → GivesBack old r m → n ≡ m
+gives_back-determined old n m r (one, one_back, n_is) (other, other_back, m_is) =
+    n_is ∙ ap (λ (s : State). end_with (is_marked old r.key) s r.key) (one_back.1 ∙ sym other_back.1) ∙ sym m_is

@@ -3,14 +3,15 @@ use Rattle.jc_world.proofs.Common.{◌≡◌, ℕ, List, [], ◌∷◌, Bool, tr
 use Rattle.jc_model.specs.declared.event.Reply.TheVariants as reply
 use Rattle.jc_model.specs.declared.event.Event.TheVariants as stripe
 use Rattle.jc_stripe.specs.Outcomes as begun
-use Rattle.jc_stripe.specs.Phases.{Begins, after_withdrawal}
+use Rattle.jc_stripe.specs.Phases.{Begins}
+use Rattle.jc_stripe.specs.Invalidating.{GivesBack, after_invalidation}
 use Rattle.jc_world.specs.declared.command.CallKind.{CallKind}
 use Rattle.jc_world.specs.declared.event.WorldEvent.TheVariants as event
 use Rattle.jc_world.specs.declared.event.Outcome.TheVariants as outcome
 use Rattle.jc_world.proofs.SortedKeys.{sorted-once}
-use Rattle.jc_world.specs.Events.{Happens, Step, Run, after_answer, after_change, after_process, run_result, shown_process, after_reports, with_met_by, keys_reported, reported_now, StartsAs, RefusesAs, Ends, Picks, with_stripe, with_phase, step_of, with_settled, fault_in, asks_as, new_progress, with_new_part, with_join, with_commit, without_part, without_join, not_over, over_by, with_look}
+use Rattle.jc_world.specs.Events.{Happens, Step, Run, after_answer, after_change, after_process, run_result, shown_process, after_reports, with_met_by, keys_reported, reported_now, StartsAs, RefusesAs, EndsAs, Picks, eviction_place, invalidated_as, with_stripe, with_phase, step_of, with_settled, fault_in, asks_as, new_progress, with_new_part, with_join, with_commit, without_part, without_join, not_over, over_by, with_look}
 use Rattle.jc_world.specs.Determinism.{has_memory, have_memory}
-use Rattle.jc_world.proofs.DeterminedStripes.{begun_amply, begins-determined, commits-determined}
+use Rattle.jc_world.proofs.DeterminedStripes.{begun_amply, begins-determined, end-determined, gives_back-determined}
 use Rattle.jc_world.proofs.Facts.{some_back}
 
 -- 1. A first phase, by what it returns.
@@ -66,9 +67,9 @@ starts-determined w kind caller key op from to too o p n m one other =
 -- 2. A last phase, and a pick-up.
 
 ends-determined : (w : WorldState) (call : ℕ) (key : Bytes) (part : Part) (from to too : State) (o p : Outcome) (n m : WorldState)
-    → Ends w call key part from to o n → has_memory o ≡ true → Ends w call key part from too p m → has_memory p ≡ true → (o ≡ p) × (n ≡ m)
+    → EndsAs w call key part from to o n → has_memory o ≡ true → EndsAs w call key part from too p m → has_memory p ≡ true → (o ≡ p) × (n ≡ m)
 ends-determined w call key part from to too (outcome.Stepped a) (outcome.Stepped b) n m one ample other ample_too =
-    let same = commits-determined from to too part.reservation (out_of_part part) (step_of a) (step_of b) one.0 ample other.0 ample_too in (
+    let same = end-determined from to too part.reservation (out_of_part part) (step_of a) (step_of b) one.0 ample other.0 ample_too in (
       ap (λ (h : ℕ). outcome.Stepped (record a { stripe = h })) one.1 ∙ ap (λ (d : StepDone). outcome.Stepped (stepped_of (home w key) d)) same.0 ∙ sym (ap (λ (h : ℕ). outcome.Stepped (record b { stripe = h })) other.1),
       one.2 ∙ ap (λ (d : StepDone). with_commit w key part from to call (fault_in d.reply)) same.0
           ∙ ap (λ (s : State). with_commit w key part from s call (fault_in b.reply)) same.1 ∙ sym other.2,
@@ -192,15 +193,19 @@ happens-determined w n m (event.Process call key source calls fail) s t one _ ot
 happens-determined w n m (event.Commit call key) s t one ample other ample_too =
     let part : one.0 ≡ other.0 = some_back one.0 other.0 (sym one.1 ∙ other.1) in
     let from : one.2 ≡ other.2 = some_back one.2 other.2 (sym one.3 ∙ other.3) in
-    let by_part = subst (λ (x : Part). Ends w call key x other.2 other.4 t.outcome m) (sym part) other.5 in
-    let by_from = subst (λ (x : State). Ends w call key one.0 x other.4 t.outcome m) (sym from) by_part in
+    let by_part = subst (λ (x : Part). EndsAs w call key x other.2 other.4 t.outcome m) (sym part) other.5 in
+    let by_from = subst (λ (x : State). EndsAs w call key one.0 x other.4 t.outcome m) (sym from) by_part in
     let same = ends-determined w call key one.0 one.2 one.4 other.4 s.outcome t.outcome n m one.5 ample by_from ample_too in
     (shown-as s t same.0 (one.6 ∙ ap (λ (o : Outcome). over_by w call key o) same.0 ∙ sym other.6), same.1)
 happens-determined w n m (event.Withdraw call key) s t one _ other _ =
     let part : one.0 ≡ other.0 = some_back one.0 other.0 (sym one.1 ∙ other.1) in
     let from : one.2 ≡ other.2 = some_back one.2 other.2 (sym one.3 ∙ other.3) in
-    let to : one.4 ≡ other.4 = one.5.1 ∙ ap (λ (x : State). after_withdrawal x one.0.reservation) from ∙ ap (λ (p : Part). after_withdrawal other.2 p.reservation) part ∙ sym other.5.1 in
-    (one.6 ∙ sym other.6, one.7 ∙ ap (λ (x : State). without_part (with_stripe w key x) key) to ∙ sym other.7)
+    let by_part = subst (λ (p : Part). GivesBack other.2 p.reservation other.4) (sym part) other.5 in
+    let by_from = subst (λ (x : State). GivesBack x one.0.reservation other.4) (sym from) by_part in
+    let to : one.4 ≡ other.4 = gives_back-determined one.2 one.4 other.4 one.0.reservation one.5 by_from in (
+      one.6 ∙ (λ i. not_over (outcome.Withdrawn (eviction_place (home w key) (from i) (to i)))) ∙ sym other.6,
+      one.7 ∙ (λ i. without_part (with_phase w key (from i) (to i)) key) ∙ sym other.7,
+    )
 happens-determined w n m (event.Leave call) s t one _ other _ = (one.0 ∙ sym other.0, one.1 ∙ sym other.1)
 happens-determined w n m (event.PickUp call key) s t one _ other _ =
     let join : one.0 ≡ other.0 = some_back one.0 other.0 (sym one.1 ∙ other.1) in
@@ -210,6 +215,12 @@ happens-determined w n m (event.PickUp call key) s t one _ other _ =
     let same = picks-determined w call key one.0 one.2 one.4 other.4 s.outcome t.outcome n m one.5 by_from in
     (shown-as s t same.0 (one.6 ∙ ap (λ (o : Outcome). over_by w call key o) same.0 ∙ sym other.6), same.1)
 happens-determined w n m (event.Foreign key value) s t one _ other _ = (one.0 ∙ sym other.0, one.1 ∙ sym other.1)
+happens-determined w n m (event.Invalidate key) s t one _ other _ =
+    let from : one.0 ≡ other.0 = some_back one.0 other.0 (sym one.1 ∙ other.1) in
+    let to : one.2 ≡ other.2 = one.3 ∙ ap (λ (x : State). after_invalidation x key) from ∙ sym other.3 in (
+      one.4 ∙ (λ i. not_over (invalidated_as (home w key) key (from i) (to i))) ∙ sym other.4,
+      one.5 ∙ (λ i. record (with_phase w key (from i) (to i)) { is_fresh = false }) ∙ sym other.5,
+    )
 happens-determined w n m (event.Reopen config) s t one _ other _ = (one.0 ∙ sym other.0, one.1 ∙ sym other.1)
 
 pub step-determined : (w n m : WorldState) (e : WorldEvent) (s t : Shown)

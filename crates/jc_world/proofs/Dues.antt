@@ -7,7 +7,7 @@ use Rattle.jc_world.proofs.Common.{Change, and_parts, fits, asks_loader, is_unan
 use Rattle.jc_world.proofs.Committing.{due_told, due_heard}
 use Rattle.jc_world.proofs.Holding.{is_part}
 use Rattle.jc_world.proofs.Maps.{keys_ordered, each_put, each_left}
-use Rattle.jc_world.proofs.Lemmas.{KeyChange, by_nothing, by_refusal, by_step, by_reservation, by_join, by_commit, by_withdrawal, by_answer, by_retry, key_change, each_report}
+use Rattle.jc_world.proofs.Lemmas.{KeyChange, by_nothing, by_refusal, by_step, by_reservation, by_join, by_commit, by_withdrawal, by_mark, by_answer, by_retry, key_change, ends_as, each_report}
 
 -- 1. One part more, and one less.
 
@@ -43,7 +43,7 @@ due_of : (w : WorldState) (call : ℕ) (key : Bytes) (part : Part) → part_of w
 due_of w call key part is old = old key part (is_part (get w.parts key) call part is)
 
 -- by the kind of the change at a key
-dues_key : (w new : WorldState) (e : WorldEvent) (key : Bytes) (seen : Shown) → KeyChange w new e key seen → AllDueAt w → AllDueAt new
+pub dues_key : (w new : WorldState) (e : WorldEvent) (key : Bytes) (seen : Shown) → KeyChange w new e key seen → AllDueAt w → AllDueAt new
 dues_key w new e key seen (by_nothing is none ends) old = subst AllDueAt (sym is) old
 dues_key w new e key seen (by_refusal u op refusal may is none ends) old = subst AllDueAt (sym is) old
 dues_key w new e key seen (by_step u op from to x may there h home_is is shows ends) old = subst AllDueAt (sym is) old
@@ -51,6 +51,7 @@ dues_key w new e key seen (by_reservation u op from to p r may there h is none e
 dues_key w new e key seen (by_join u op from to join may there h is none ends) old = subst AllDueAt (sym is) old
 dues_key w new e key seen (by_commit call part from to x e_is part_is there h home_is is shows) old = subst AllDueAt (sym is) (dues_remove w.config w.parts key old)
 dues_key w new e key seen (by_withdrawal call part from to e_is part_is there h is shows) old = subst AllDueAt (sym is) (dues_remove w.config w.parts key old)
+dues_key w new e key seen (by_mark from to there out h reached is none ends) old = subst AllDueAt (sym is) old
 dues_key w new e key seen (by_answer call join from to x e_is join_is there h home_is is shows ends) old = subst AllDueAt (sym is) old
 dues_key w new e key seen (by_retry call join from to e_is join_is there h is shows ends) old = subst AllDueAt (sym is) old
 
@@ -84,6 +85,9 @@ dues_happens w new (WorldEvent.Change call key) seen fit h old =
 dues_happens w new (WorldEvent.Report call left fault) seen fit h old =
     let answer = report_for h.0.kind left fault in
     subst AllDueAt (sym h.3) (each_report AllDueAt call answer (λ v key part at waits o. dues_reported v call key part (answer key) at o) (with_met_by w call (option_map WriterFailed fault)) (keys_reported (reported_now w call h.0)) old)
+dues_happens w new (WorldEvent.Commit call key) seen fit h old = subst AllDueAt (sym (ends_as w new call key h.0 h.2 h.4 seen.outcome h.5).4) (dues_remove w.config w.parts key old)
+dues_happens w new (WorldEvent.Withdraw call key) seen fit h old = subst AllDueAt (sym h.7) (dues_remove w.config w.parts key old)
+dues_happens w new (WorldEvent.Invalidate key) seen fit h old = subst AllDueAt (sym h.5) old
 dues_happens w new (WorldEvent.Call call session command) seen fit h old = subst AllDueAt (sym h.1) old
 dues_happens w new (WorldEvent.Leave call) seen fit h old = subst AllDueAt (sym h.1) old
 dues_happens w new (WorldEvent.Foreign key value) seen fit h old = subst AllDueAt (sym h.1) old

@@ -5,7 +5,7 @@
 --                    a call with a new number isn't under way, and is free of every key
 --     looks_begun    the looks of a call, behind its begin
 --     unjoined_held  a call that has reserved its key has not joined a load of it
-use Rattle.jc_world.proofs.Common.{◌≡◌, ℕ, zero, suc, ◌+◌, ◌<◌, ◌≤◌, true, false, cond, not, ◌||◌, List, [], ◌∷◌, ◌++◌, is_some, is_none, IsSomeAnd, nat_lt, nat_le, Some, None, Option, find, sym, refl, ap, ◌∙◌, subst, inl, inr, arith, lt-ltb, and_parts, and_from, false_from_ne_true, nat_tests, nat_eq_equiv, find-append, get, list_any, option_or, Caller, Bytes, Op, Get, State, JoinClaim, Command, Outcome, Part, Shown, WorldEvent, at_each, SweepState, sweep_of, CallState, new_call, has_number, op_at, is_open, is_going, has_too_many_keys, opened, going_on, has_looked, has_looked_at_each, with_swept_keys, with_look, StartsAs, Ends, Picks, Happens, is_fit, AllFit, is_new, is_free, is_to_look, may_look, fits, is_up_to, IsCallOf, IsSoundWorld, looks, WorldState, open_call, part_of, has_progress, is_untouched, is_joined}
+use Rattle.jc_world.proofs.Common.{◌≡◌, ℕ, zero, suc, ◌+◌, ◌<◌, ◌≤◌, true, false, cond, not, ◌||◌, List, [], ◌∷◌, ◌++◌, is_some, is_none, IsSomeAnd, nat_lt, nat_le, Some, None, Option, find, sym, refl, ap, ◌∙◌, subst, inl, inr, arith, lt-ltb, and_parts, and_from, false_from_ne_true, nat_tests, nat_eq_equiv, find-append, get, list_any, option_or, Caller, Bytes, Op, Get, State, JoinClaim, Command, Outcome, Part, Shown, WorldEvent, at_each, SweepState, sweep_of, CallState, new_call, has_number, op_at, is_open, is_going, has_too_many_keys, opened, going_on, has_looked, has_looked_at_each, with_swept_keys, with_look, StartsAs, EndsAs, invalidated_as, eviction_place, EvictionPlace, home, Bool, is_reserved, Picks, Happens, is_fit, AllFit, is_new, is_free, is_to_look, may_look, fits, is_up_to, IsCallOf, IsSoundWorld, looks, WorldState, open_call, part_of, has_progress, is_untouched, is_joined}
 use Rattle.jc_world.proofs.Holding.{call_on}
 use Rattle.jc_world.proofs.Lemmas.{missing, same_found, found_number, fits_found, of_call-at, begun_cases, found_replaced, join_there, joined_no_part}
 use Rattle.jc_world.proofs.Unseen.{missed, unseen, seen_below}
@@ -17,13 +17,17 @@ started_fits : (w new : WorldState) (caller : Caller) (key : Bytes) (op : Op) (f
 started_fits w new caller key op from to Outcome.Unfit h = absurd h
 started_fits w new caller key op from to o h = refl
 
-ended_fits : (w new : WorldState) (call : ℕ) (key : Bytes) (part : Part) (from to : State) (o : Outcome) → Ends w call key part from to o new → is_fit o ≡ true
+ended_fits : (w new : WorldState) (call : ℕ) (key : Bytes) (part : Part) (from to : State) (o : Outcome) → EndsAs w call key part from to o new → is_fit o ≡ true
 ended_fits w new call key part from to Outcome.Unfit h = absurd h
 ended_fits w new call key part from to o h = refl
 
 picked_fits : (w new : WorldState) (call : ℕ) (key : Bytes) (join : JoinClaim) (from to : State) (o : Outcome) → Picks w call key join from to o new → is_fit o ≡ true
 picked_fits w new call key join from to Outcome.Unfit h = absurd h
 picked_fits w new call key join from to o h = refl
+
+invalid_fits : (b : Bool) (place : Option EvictionPlace) → is_fit (cond b Outcome.Marked (Outcome.Invalidated place)) ≡ true
+invalid_fits true place = refl
+invalid_fits false place = refl
 
 -- what happens is none
 fit_shown : (old new : WorldState) (e : WorldEvent) (seen : Shown) → Happens old e seen new → is_fit seen.outcome ≡ true
@@ -35,6 +39,7 @@ fit_shown old new (WorldEvent.Commit call key) seen h = ended_fits old new call 
 fit_shown old new (WorldEvent.Withdraw call key) seen h = ap (λ (s : Shown). is_fit s.outcome) h.6
 fit_shown old new (WorldEvent.Leave call) seen h = ap (λ (s : Shown). is_fit s.outcome) h.0
 fit_shown old new (WorldEvent.PickUp call key) seen h = picked_fits old new call key h.0 h.2 h.4 seen.outcome h.5
+fit_shown old new (WorldEvent.Invalidate key) seen h = ap (λ (s : Shown). is_fit s.outcome) h.4 ∙ invalid_fits (is_reserved h.0 key) (eviction_place (home old key) h.0 h.2)
 fit_shown old new (WorldEvent.Reopen config) seen h = ap (λ (s : Shown). is_fit s.outcome) h.0
 fit_shown old new (WorldEvent.Foreign key value) seen h = ap (λ (s : Shown). is_fit s.outcome) h.0
 fit_shown old new e seen h = ap (λ (s : Shown). is_fit s.outcome) h.2

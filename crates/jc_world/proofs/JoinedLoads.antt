@@ -3,7 +3,7 @@
 --     TellsIn            a stripe has the joiner of a join, whose state tells that of the load
 --     tells_kept         it does later, if the joiners are the same or more, and the load stays out
 --     tells_committed, tells_withdrawn      it does where any load is over
-use Rattle.jc_world.proofs.Common.{◌≡◌, ℕ, ◌+◌, ◌<◌, Bool, true, false, cond, ◌&&◌, ◌||◌, List, [], ◌∷◌, ◌++◌, length, IsSomeAnd, ◌==◌, slice_get, Some, Option, find, sym, refl, ap, ◌∙◌, subst, arith, take-append_seam, eqb-true, eq-eqb, and_parts, false_from_ne_true, take-append-le, list_any-append, slice_get_within, pointwise, list_any, Caller, Bytes, after_dissolve, belongs_to, is_waiting, waits_for, with_answer, answered_from, after_resolve, JoinState, Again, Answered, Waiting, Joiner, IsReached, State, is_key, without_key, IsOut, JoinClaim, Reservation, Outcome, Over, Shown, Stepped, WorldEvent, not_over, is_fit, ends_load, IsLoadEnd}
+use Rattle.jc_world.proofs.Common.{◌≡◌, ℕ, ◌+◌, ◌<◌, Bool, true, false, cond, ◌&&◌, ◌||◌, List, [], ◌∷◌, ◌++◌, length, IsSomeAnd, ◌==◌, slice_get, Some, Option, find, sym, refl, ap, ◌∙◌, subst, arith, take-append_seam, eqb-true, eq-eqb, and_parts, false_from_ne_true, take-append-le, list_any-append, slice_get_within, pointwise, list_any, Caller, Bytes, after_dissolve, belongs_to, is_waiting, waits_for, with_answer, answered_from, after_resolve, JoinState, Again, Answered, Waiting, Joiner, IsReached, State, is_key, without_key, IsOut, JoinClaim, Reservation, Outcome, EvictionPlace, Over, Shown, Stepped, WorldEvent, not_over, is_fit, ends_load, IsLoadEnd}
 use Rattle.jc_world.proofs.Lemmas.{still_at, same_bytes, joiner_of, joined_front, same_number, split, found_left}
 use Rattle.jc_world.proofs.Kept.{some_map}
 
@@ -20,7 +20,7 @@ step_shown step over = record { outcome = Outcome.Stepped step; over = over }
 abbrev pub Tells : ℕ → Shows → State → Reservation → JoinState → Type 0
 Tells number shows s r Waiting = IsOut s r × (list_any (ends_load r) shows ≡ false)
 Tells number shows s r (Answered place shared) = (at : ℕ) × (step : Stepped) × IsLoadEnd shows r at (WorldEvent.Commit r.caller.call r.key) (Outcome.Stepped step) × (step.stripe ≡ number) × (step.place ≡ shared)
-Tells number shows s r Again = (at : ℕ) × IsLoadEnd shows r at (WorldEvent.Withdraw r.caller.call r.key) Outcome.Withdrawn
+Tells number shows s r Again = (at : ℕ) × (evicted : Option EvictionPlace) × IsLoadEnd shows r at (WorldEvent.Withdraw r.caller.call r.key) (Outcome.Withdrawn evicted)
 
 -- of a joiner of this load
 abbrev pub TellsOf : ℕ → Shows → State → Reservation → Joiner → Type 0
@@ -55,7 +55,7 @@ pub tells_on : (number : ℕ) (shows more : Shows) (s t : State) (r : Reservatio
     → Tells number (shows ++ more) t r state
 tells_on number shows more s t r Waiting on (out, none) = let k = on refl out in (k.0, list_any-append (ends_load r) shows more ∙ (λ i. none i || k.1 i))
 tells_on number shows more s t r (Answered place shared) on (at, step, end, stripe, same) = (at, step, end_more shows more r at _ _ end, stripe, same)
-tells_on number shows more s t r Again on (at, end) = (at, end_more shows more r at _ _ end)
+tells_on number shows more s t r Again on (at, evicted, end) = (at, evicted, end_more shows more r at _ _ end)
 
 -- a joiner that waits tells that the load is out
 tells_out : (number : ℕ) (shows : Shows) (s : State) (r : Reservation) (state : JoinState) → is_waiting state ≡ true → Tells number shows s r state → IsOut s r × (list_any (ends_load r) shows ≡ false)
@@ -161,11 +161,11 @@ tells_committed number call key shows join p r from to seen end reached over cal
     (λ j other k. tells_past number shows more p r from to j over left (λ apart. ap (λ b. b || false) (none_of_key r call key (step_shown seen end) (λ same. apart (same ∙ sym key_is)))) other k) h)
 
 -- a load was withdrawn
-pub tells_withdrawn : (number call : ℕ) (key : Bytes) (shows : Shows) (join : JoinClaim) (p r : Reservation) (from to : State) → IsReached from → IsOut from p → p.caller.call ≡ call → p.key ≡ key
+pub tells_withdrawn : (number call : ℕ) (key : Bytes) (shows : Shows) (join : JoinClaim) (p r : Reservation) (from to : State) (evicted : Option EvictionPlace) → IsReached from → IsOut from p → p.caller.call ≡ call → p.key ≡ key
     → to.reservations ≡ without_key p.key from.reservations → to.joiners ≡ after_dissolve p.number from.joiners
-    → TellsIn number shows join r from → TellsIn number (shows ++ (WorldEvent.Withdraw call key, not_over Outcome.Withdrawn) ∷ []) join r to
-tells_withdrawn number call key shows join p r from to reached over call_is key_is left joiners h =
-    let more : Shows = (WorldEvent.Withdraw call key, not_over Outcome.Withdrawn) ∷ [] in
+    → TellsIn number shows join r from → TellsIn number (shows ++ (WorldEvent.Withdraw call key, not_over (Outcome.Withdrawn evicted)) ∷ []) join r to
+tells_withdrawn number call key shows join p r from to evicted reached over call_is key_is left joiners h =
+    let more : Shows = (WorldEvent.Withdraw call key, not_over (Outcome.Withdrawn evicted)) ∷ [] in
     let Q : Joiner → Type 0 = TellsOf number (shows ++ more) to r in
     subst (λ js. IsSomeAnd (joiner_of join.caller join.key js) Q) (sym joiners)
     (dissolved_by (TellsOf number shows from r) Q p.number join.caller join.key from.joiners
@@ -173,6 +173,6 @@ tells_withdrawn number call key shows join p r from to reached over call_is key_
     let one = load_over number shows p r from j reached over waits k in
     let call_of : call ≡ r.caller.call = sym call_is ∙ ap (λ (x : Reservation). x.caller.call) one.0 in
     let key_of : key ≡ r.key = sym key_is ∙ ap (λ (x : Reservation). x.key) one.0 in
-    let E : WorldEvent → Type 0 = λ e. IsLoadEnd (shows ++ more) r (length shows) e Outcome.Withdrawn in
-    (k.0, (length shows, subst E (λ i. WorldEvent.Withdraw (call_of i) (key_of i)) (end_last shows r (WorldEvent.Withdraw call key) (not_over Outcome.Withdrawn) one.1))))
-    (λ j other k. tells_past number shows more p r from to j over left (λ apart. ap (λ b. b || false) (none_of_key r call key (not_over Outcome.Withdrawn) (λ same. apart (same ∙ sym key_is)))) other k) h)
+    let E : WorldEvent → Type 0 = λ e. IsLoadEnd (shows ++ more) r (length shows) e (Outcome.Withdrawn evicted) in
+    (k.0, (length shows, evicted, subst E (λ i. WorldEvent.Withdraw (call_of i) (key_of i)) (end_last shows r (WorldEvent.Withdraw call key) (not_over (Outcome.Withdrawn evicted)) one.1))))
+    (λ j other k. tells_past number shows more p r from to j over left (λ apart. ap (λ b. b || false) (none_of_key r call key (not_over (Outcome.Withdrawn evicted)) (λ same. apart (same ∙ sym key_is)))) other k) h)

@@ -3,7 +3,8 @@
 --     joins_phase, joins_joined, joins_picked, joins_key        by the kind of the change at a key
 --     joins_happens                    after any event that fits
 use Rattle.jc_world.proofs.Common.{foreign_committed, ◌≡◌, ℕ, ◌+◌, Bool, true, false, not, ◌&&◌, List, [], ◌∷◌, ◌++◌, is_some, is_none, IsSomeAnd, ◌==◌, slice_get, slice_set, Some, None, Option, find, sym, refl, ap, ◌∙◌, subst, eqb-true, eq-eqb, and_parts, and_from, false_from_ne_true, nat_eq_equiv, nat_list_eq_equiv, pointwise, get, insert, remove, list_all, Caller, Refusal, none_is, Bytes, Cache, Event, Op, Get, belongs_to, after_resolve, Waiting, Joiner, with_joiner, without_joiner, State, IsJoined, JoinClaim, Reservation, Command, Part, Premises, Shown, WorldEvent, SweepState, CallState, new_call, has_number, op_at, open_keys, opened, settle, drop_call, with_stripe, with_phase, fault_in, with_settled, with_met_by, without_call, with_look, new_part, with_join, Happens, is_free, may_leave, fits, IsCallOf, IsWaitedFor, AllWaitedFor, IsCalled, AllCalled, IsSoundWorld, Parts, JoinKey, join_key, WorldState, home, stripe_for, start, open_call, of_call, part_of, join_of, is_joined, with_new_part}
-use Rattle.jc_world.proofs.Lemmas.{denied, missing, joins_half, is_some_and, set_cases, found_test, each_map, fact_found, each_pushed, each_kept, find_over, find_pushed, same_bytes, of_call-at, open_now, still_called, joiner_of, find_kept, joined_resolved, joined_dissolved, joined_front, joined_last, called_resolved, called_dissolved, joined_no_part, other_key, none_inserted, none_removed, part_other, joins_get, MayStart, Picking, picking, looked_called, met_called, at_stripe, stripe_put, KeyChange, by_nothing, by_refusal, by_step, by_reservation, by_join, by_commit, by_withdrawal, by_answer, by_retry, key_change, may_of, some_of, IsWhole}
+use Rattle.jc_world.proofs.Lemmas.{denied, missing, joins_half, is_some_and, set_cases, found_test, each_map, fact_found, each_pushed, each_kept, find_over, find_pushed, same_bytes, of_call-at, open_now, still_called, joiner_of, find_kept, joined_resolved, joined_dissolved, joined_front, joined_last, called_resolved, called_dissolved, joined_no_part, other_key, none_inserted, none_removed, part_other, joins_get, MayStart, Picking, picking, looked_called, met_called, at_stripe, stripe_put, KeyChange, by_nothing, by_refusal, by_step, by_reservation, by_join, by_commit, by_withdrawal, by_mark, by_answer, by_retry, key_change, may_of, some_of, IsWhole, Drop, with_dropped}
+use Rattle.jc_stripe.specs.Invalidating.{without_entry}
 use Rattle.jc_inflight.specs.Taking.{joiners_without as without}
 use Rattle.jc_world.proofs.Halves.{HasJoins}
 use Rattle.jc_world.proofs.Maps.{joins_ordered, get-here, get-left, still-there, each_put, each_left}
@@ -258,7 +259,7 @@ joins_picked w call key join from to calls joined there is go old =
 
 -- 7. By the kind of the change at a key.
 
-joins_key : (w new : WorldState) (e : WorldEvent) (key : Bytes) (seen : Shown) → KeyChange w new e key seen → fits w e ≡ true → IsSoundWorld w → HasJoins new
+pub joins_key : (w new : WorldState) (e : WorldEvent) (key : Bytes) (seen : Shown) → KeyChange w new e key seen → fits w e ≡ true → IsSoundWorld w → HasJoins new
 joins_key w new e key seen (by_nothing is none ends) fit old = subst HasJoins (sym is) (joins_half w old)
 joins_key w new e key seen (by_refusal u op refusal start is none ends) fit old =
     let may = may_of w e key u op start fit old in
@@ -293,10 +294,23 @@ joins_key w new e key seen (by_withdrawal call part from to e_is part_is there h
     (λ j t. subst (J j) (sym joiners) (joined_dissolved (λ x. x.load ≡ j.load) part.reservation.number j.caller j.key from.joiners (λ x k. k) t))
     (λ n t. subst (AllCalled n (home w key)) (sym joiners) (called_dissolved n (home w key) part.reservation.number from.joiners t))
     (λ number session q t k. k) (λ number q t k. none_removed w.parts key q number k) old)
+joins_key w new e key seen (by_mark from to there out h reached is none ends) fit old =
+    let same : to.joiners ≡ from.joiners = ap (λ (s : State). s.joiners) h in
+    subst HasJoins (sym is)
+    (joins_phase w key from to w.order w.calls w.parts w.foreign there (same_joiners from to same) (same_called (home w key) from to same) (λ number session q t k. k) (λ number q t k. k) old)
 joins_key w new e key seen (by_answer call join from to x e_is join_is there h home_is is shows ends) fit old =
     subst HasJoins (sym is) (joins_picked w call key join from to (settle call key (fault_in x.reply) w.calls) join_is there h.3 (others_go_on w call key (fault_in x.reply)) old)
 joins_key w new e key seen (by_retry call join from to e_is join_is there h is shows ends) fit old =
     subst HasJoins (sym is) (joins_picked w call key join from to w.calls join_is there h.2 (all_go_on w call key) old)
+
+-- the entry of an invalidated key is evicted
+pub joins_dropped : (w mid new : WorldState) (key : Bytes) → Drop w mid new key → IsSoundWorld mid → HasJoins new
+joins_dropped w mid new key d old =
+    let from = d.from in
+    let to = without_entry from key in
+    let next = with_dropped mid key from d.told in
+    subst HasJoins (sym d.is)
+    (joins_phase mid key from to next.order mid.calls mid.parts next.foreign d.there (same_joiners from to refl) (same_called (home mid key) from to refl) (λ number session q t k. k) (λ number q t k. k) old)
 
 -- 8. Any event that fits.
 
@@ -321,5 +335,8 @@ joins_happens w new (WorldEvent.Change call key) seen fit h back old = subst Has
 joins_happens w new (WorldEvent.Report call left fault) seen fit h back old = joins_half new (back tt)
 joins_happens w new (WorldEvent.Leave call) seen fit h back old = subst HasJoins (sym h.1) (joins_left w call fit old)
 joins_happens w new (WorldEvent.Foreign key value) seen fit h back old = subst HasJoins (sym h.1) (joins_stored w _ _ w.premises false old)
+joins_happens w new (WorldEvent.Commit call key) seen fit h back old = joins_half new (back tt)
+joins_happens w new (WorldEvent.Withdraw call key) seen fit h back old = joins_half new (back tt)
+joins_happens w new (WorldEvent.Invalidate key) seen fit h back old = joins_half new (back tt)
 joins_happens w new (WorldEvent.Reopen config) seen fit h back old = joins_half new (back tt)
 joins_happens w new e seen fit h back old = let k = key_change w new e seen refl h in joins_key w new e k.0 seen k.1 fit old

@@ -3,7 +3,8 @@ use Rattle.jc_world.proofs.Asked.{asked_heard, asked_answer, asked_change, asked
 use Rattle.jc_world.proofs.Processors.{WrittenFor, run_given}
 use Rattle.std.proofs.lemmas.Bool.{not-false}
 use Rattle.jc_world.proofs.Common.{T, Invoke, not, not-true, or_parts, effect_change, is_unanswered, with_loaded, FitsAsked, IsDueIn, ChangeAgrees, WriteAgrees, Nobody, Processor, ◌≡◌, ℕ, Bool, true, false, cond, ◌&&◌, List, [], ◌∷◌, ◌++◌, is_some, is_none, IsSomeAnd, slice_get, slice_set, Some, None, Option, ◌||◌, find, sym, refl, ap, ◌∙◌, subst, and_parts, nat_list_cmp_total, beq, texts_ties, empty, get-empty, get, insert, remove, get-insert, get-remove, eq_by_cmp, Caller, Config, same_key, get-with_entry, Bytes, Cache, entry_at, with_entry, key_cmp, nothing_said, write_only, found_in, holds, write_ask, is_write_given, entry_after, Change, Event, LoadAnswer, Op, ProcessAnswer, WriteAnswer, EntryCall, callers_of, ProcessResult, Claim, asks_invoking, change_due, Steps, Begins, after_commit, Commits, Withdraws, AllAsk, first_asked, State, is_key, is_reserved, without_key, IsOut, asks_processor, Begun, StepDone, First, Loader, Writer, Reservation, Command, Part, Premises, PartProgress, Shown, WorldEvent, CallState, new_call, has_number, op_at, opened, settle, drop_call, Coherent, CoherentAsTold, all_hold, with_stripe, with_phase, step_of, fault_in, without_call, new_part, with_part, without_part, after_answer, with_heard, foreign_committed, with_change, after_change, with_report, after_report, run_result, progress_after, after_process, may_leave, fits, changed_to, is_true_load, is_done, is_true_report, is_agreed, IsHeld, Agrees, LoadAgrees, ProgressAgrees, PartAgrees, KeyAgrees, IsSoundWorld, Parts, join_key, Joins, WorldState, home, stripe_for, entry_in, cached_entry, open_call, part_of, has_progress, waits_for_load, waits_for_process, waits_for_report, is_all_answered, is_untouched, has_changed, is_misled, writer_change, out_of_part, with_stored, is_foreign, has_any, with_foreign, without_foreign, with_doubt}
-use Rattle.jc_world.proofs.Lemmas.{denied, missing, HasParts, is_some_and, picking, at_stripe, stripe_put, home_stripe, split, tied, agrees_stepped, writes, loads_asked, writes_asked, loads, asks_nobody, found_more, out_reserved, new_out, found_left, invoke_is, agrees_processed, agrees_effect, KeyChange, by_nothing, by_refusal, by_step, by_reservation, by_join, by_commit, by_withdrawal, by_answer, by_retry, some_of}
+use Rattle.jc_world.proofs.Lemmas.{denied, missing, HasParts, is_some_and, picking, at_stripe, stripe_put, home_stripe, split, tied, agrees_stepped, writes, loads_asked, writes_asked, loads, asks_nobody, found_more, out_reserved, new_out, found_left, invoke_is, agrees_processed, agrees_effect, KeyChange, by_nothing, by_refusal, by_step, by_reservation, by_join, by_commit, by_withdrawal, by_mark, by_answer, by_retry, some_of, Drop, with_dropped, dropped_entry, dropped_others, dropped_none}
+use Rattle.jc_stripe.specs.Invalidating.{without_entry}
 use Rattle.jc_world.proofs.Holding.{call_on, is_part}
 use Rattle.jc_world.proofs.Maps.{keys_ordered, each_put}
 
@@ -302,6 +303,10 @@ parts_disturbed w key value old = record {
   cold = λ f. absurd (let t : false ≡ true = f in cc);
   idle = λ f. absurd (let t : false ≡ true = f in cc);
 }
+
+-- no world is fresh after an invalidation
+pub parts_worn : (w : WorldState) → IsSoundWorld w → HasParts (record w { is_fresh = false })
+parts_worn w old = record { held = old.held; told = old.told; cold = λ f. absurd (let t : false ≡ true = f in cc); idle = λ f. absurd (let t : false ≡ true = f in cc) }
 
 -- a value is stored before anything has happened
 pub parts_stored : (w : WorldState) (key value : Bytes) → w.is_fresh ≡ true → IsSoundWorld w → HasParts (with_stored w key value)
@@ -642,6 +647,15 @@ parts_key w new e key seen (by_join u op from to join may there h is none ends) 
 parts_key w new e key seen (by_commit call part from to x e_is part_is there h home_is is shows) fit old =
     subst HasParts (sym is) (parts_committed w call key part from to (with_phase w key from to).order (settle call key (fault_in x.reply) w.calls) (step_of x) part_is (ap (fits w) (sym e_is) ∙ fit) there h old)
 parts_key w new e key seen (by_withdrawal call part from to e_is part_is there h is shows) fit old = subst HasParts (sym is) (parts_withdrawn w call key part from to (ap (fits w) (sym e_is) ∙ fit) part_is there h old)
+parts_key w new e key seen (by_mark from to there out h reached is none ends) fit old =
+    let cache = ap (λ (s : State). s.cache) h in
+    subst HasParts (sym is)
+    (record {
+      held = held_set w key from to there (λ q p k. held_on from to q p (ap (λ (s : State). find (is_key p.reservation.key) s.reservations) h ∙ k.out) k) old;
+      told = λ hold q f. told_same w key from to q there cache (old.told hold q f);
+      cold = λ f q. at_stripe w.stripes (home w key) (home w q) from to (λ o x. entry_in x q ≡ entry_in o q) there (ap (λ c. entry_at c q) cache) refl ∙ old.cold f q;
+      idle = old.idle;
+    })
 parts_key w new e key seen (by_answer call join from to x e_is join_is there h home_is is shows ends) fit old =
     let p = picking w call key join join_is old in
     subst HasParts (sym is)
@@ -650,6 +664,29 @@ parts_key w new e key seen (by_retry call join from to e_is join_is there h is s
     let p = picking w call key join join_is old in
     subst HasParts (sym is)
     (parts_aside w key from to w.calls (remove w.joins (call, key)) there (ap (λ (s : State). s.cache) h.2) (ap (λ (s : State). s.reservations) h.2) (begun_before w call p.u p.here old) old)
+
+-- the entry of an invalidated key is evicted
+pub parts_dropped : (w mid new : WorldState) (key : Bytes) → Drop w mid new key → IsSoundWorld mid → HasParts new
+parts_dropped w mid new key d old =
+    let from = d.from in
+    let to = without_entry from key in
+    let next = with_dropped mid key from d.told in
+    let none : get mid.parts key ≡ None = unheld mid key from d.there d.free old in
+    subst HasParts (sym d.is)
+    (record {
+      held = held_set mid key from to d.there (λ q p h. held_on from to q p h.out h) old;
+      told = λ hold q f.
+          split q key (λ b. KeyAgrees (get mid.parts q) (entry_at mid.store q) (cached_entry next q))
+          (λ same.
+          let K : Bytes → Type 0 = λ k. KeyAgrees (get mid.parts k) (entry_at mid.store k) (cached_entry next k) in
+          let gone : cached_entry next key ≡ None = ap (λ o. entry_in o key) (stripe_put mid.stripes (home mid key) from to d.there) ∙ dropped_entry from key in
+          subst K (sym same) (told_none (get mid.parts key) (entry_at mid.store key) (cached_entry next key) none gone))
+          (λ apart.
+          told_set mid key from to q d.there (λ h. subst (λ o. KeyAgrees (get mid.parts q) (entry_at mid.store q) o) (sym (dropped_others from key q apart)) h)
+          (old.told hold q (still_foreign mid.foreign key q d.told apart f)));
+      cold = λ f q. at_stripe mid.stripes (home mid key) (home mid q) from to (λ o x. entry_in o q ≡ None → entry_in x q ≡ None) d.there (dropped_none from key q) (λ h. h) (old.cold f q);
+      idle = old.idle;
+    })
 
 -- 9. A sound world is coherent, as long as the premises held.
 

@@ -4,7 +4,7 @@
 --     last_step          one event more: after a reopening the world is the last opening, and after any other event it is the one
 --                        before
 --     last_run           so every run has one
-use Rattle.jc_world.proofs.Common.{◌≡◌, ◌⊎◌, ℕ, Bool, true, false, ◌||◌, List, [], ◌∷◌, ◌++◌, sym, refl, ap, ◌∙◌, subst, inl, inr, append_assoc, append-nil, Caller, Config, Bytes, Op, State, Part, JoinClaim, Outcome, Shown, WorldEvent, new_call, StartsAs, Ends, Picks, Happens, Step, Run, IsOpeningWorld, ReachesSince, is_reopening, reopens, LastOpening, IsSoundWorld, WorldState}
+use Rattle.jc_world.proofs.Common.{◌≡◌, ◌⊎◌, ℕ, Bool, true, false, ◌||◌, List, [], ◌∷◌, ◌++◌, sym, refl, ap, ◌∙◌, subst, inl, inr, append_assoc, append-nil, Caller, Config, Bytes, Op, State, Part, JoinClaim, Outcome, Shown, WorldEvent, new_call, StartsAs, EndsAs, invalidated_as, eviction_place, EvictionPlace, home, cond, Option, is_reserved, Picks, Happens, Step, Run, IsOpeningWorld, ReachesSince, is_reopening, reopens, LastOpening, IsSoundWorld, WorldState}
 use Rattle.jc_world.proofs.Lemmas.{begun_cases}
 use Rattle.jc_world.proofs.Opened.{sound_opening}
 use Rattle.jc_world.proofs.Reopening.{reopened_opens}
@@ -18,7 +18,7 @@ starts_silent : (w : WorldState) (caller : Caller) (key : Bytes) (op : Op) (from
 starts_silent w caller key op from to (Outcome.Reopened keys) new h = absurd h
 starts_silent w caller key op from to seen new h = refl
 
-ends_silent : (w : WorldState) (call : ℕ) (key : Bytes) (part : Part) (from to : State) (seen : Outcome) (new : WorldState) → Ends w call key part from to seen new → is_reopening seen ≡ false
+ends_silent : (w : WorldState) (call : ℕ) (key : Bytes) (part : Part) (from to : State) (seen : Outcome) (new : WorldState) → EndsAs w call key part from to seen new → is_reopening seen ≡ false
 ends_silent w call key part from to (Outcome.Reopened keys) new h = absurd h
 ends_silent w call key part from to seen new h = refl
 
@@ -28,6 +28,10 @@ picks_silent w call key join from to seen new h = refl
 
 abbrev Says : Shown → Bool
 Says s = is_reopening s.outcome
+
+invalid_silent : (b : Bool) (place : Option EvictionPlace) → is_reopening (cond b Outcome.Marked (Outcome.Invalidated place)) ≡ false
+invalid_silent true place = refl
+invalid_silent false place = refl
 
 pub reopens_or_not : (w new : WorldState) (e : WorldEvent) (s : Shown) → Happens w e s new → (is_reopening s.outcome ≡ false) ⊎ ((config : Config) × (e ≡ WorldEvent.Reopen config))
 reopens_or_not w new (WorldEvent.Call call session command) s h = inl (ap Says h.0 ∙ begun_cases (new_call call session command) (λ s. Says s ≡ false) refl refl)
@@ -43,6 +47,7 @@ reopens_or_not w new (WorldEvent.Withdraw call key) s h = inl (ap Says h.6)
 reopens_or_not w new (WorldEvent.Leave call) s h = inl (ap Says h.0)
 reopens_or_not w new (WorldEvent.PickUp call key) s h = inl (picks_silent w call key h.0 h.2 h.4 s.outcome new h.5)
 reopens_or_not w new (WorldEvent.Foreign key value) s h = inl (ap Says h.0)
+reopens_or_not w new (WorldEvent.Invalidate key) s h = inl (ap Says h.4 ∙ invalid_silent (is_reserved h.0 key) (eviction_place (home w key) h.0 h.2))
 reopens_or_not w new (WorldEvent.Reopen config) s h = inr (config, refl)
 
 -- none of a list and of one more

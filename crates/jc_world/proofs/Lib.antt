@@ -26,8 +26,10 @@ pub mod Asked
 pub mod Dues
 pub mod Kept
 pub mod Cleared
+pub mod Invalidated
 pub mod Marked
 pub mod ListedKeys
+pub mod Dropping
 pub mod KeyChanges
 pub mod Maps
 pub mod CallerLemmas

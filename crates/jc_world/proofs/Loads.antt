@@ -4,7 +4,8 @@
 --     total_run      so a run raises it by its answers
 use Rattle.jc_world.proofs.Asked.{unanswered_load}
 use Rattle.jc_world.proofs.Common.{asks_loader, asks_processor, is_unanswered, with_loaded, with_heard, is_misled, is_true_load, is_true_report, has_changed, ◌≡◌, ℕ, ◌+◌, Bool, true, false, cond, ◌&&◌, List, [], ◌∷◌, ◌++◌, map, length, drop, ◌==◌, Some, None, count_by, Option, option_map, zip, sym, refl, ap, ◌∙◌, inl, inr, arith, drop-append_seam, and_parts, or_parts, and_right, nat_list_cmp_total, sum_by-cons, sum_by-append, pointwise, texts_ties, get, insert, remove, get-insert, get-remove, eq_by_cmp, Caller, WriterFailed, Bytes, entry_at, key_cmp, Group, nothing_said, victim_events, evicted_events, step_event, shared_event, step_place, events_of, is_load_given, Cause, Event, LoadAnswer, Op, Out, callers_of, ProcessResult, Claim, change_due, new_group, Steps, after_commit, State, StepDone, Outcome, Part, Shown, WorldEvent, step_of, with_met_by, new_part, with_change, with_report, keys_reported, run_result, progress_after, after_process, Happens, Step, Run, fits, is_answer, is_load, is_loaded, read_answer, load_from, report_for, IsSoundWorld, Parts, WorldState, part_of, has_progress, waits_for_load, waits_for_process, is_untouched, out_of_part, IsOpeningWorld, is_reopening, reopens, reported_now}
-use Rattle.jc_world.proofs.Lemmas.{added, part_key, split, KeyChange, by_nothing, by_refusal, by_step, by_reservation, by_join, by_commit, by_withdrawal, by_answer, by_retry, key_change, each_report}
+use Rattle.jc_world.proofs.Lemmas.{added, part_key, split, KeyChange, by_nothing, by_refusal, by_step, by_reservation, by_join, by_commit, by_withdrawal, by_mark, by_answer, by_retry, key_change, KeyEvent, plain, dropping, end_event, invalid_event, Drop, each_report}
+use Rattle.jc_stripe.specs.Invalidating.{dropped_event, without_entry}
 use Rattle.jc_world.proofs.Kept.{unheld}
 use Rattle.jc_world.proofs.Opened.{no_part}
 use Rattle.jc_world.proofs.Sounding.{Laws, sound_step}
@@ -175,8 +176,23 @@ total_key w new e key seen q (by_withdrawal call part from to e_is part_is at h 
     let there = is_part (get w.parts key) call part part_is in
     ap (λ (x : WorldState). total x q) is
     ∙ ap (λ b. count_by (is_load q) w.order + one_if b) (loaded_removed w.parts key q (λ same. loaded_at w key q part there same ∙ no_touch (part_of w call key) part part_is (ap (fits w) (sym e_is) ∙ fit)))
+total_key w new e key seen q (by_mark from to there out h reached is none ends) fit old = ap (λ (v : WorldState). total v q) is
 total_key w new e key seen q (by_answer call join from to x e_is join_is there h home_is is shows ends) fit old = ap (λ (v : WorldState). total v q) is
 total_key w new e key seen q (by_retry call join from to e_is join_is there h is shows ends) fit old = ap (λ (v : WorldState). total v q) is
+
+-- an eviction loads nothing
+total_dropped : (w mid new : WorldState) (key q : Bytes) → Drop w mid new key → total new q ≡ total mid q
+total_dropped w mid new key q d =
+    let to = without_entry d.from key in
+    let one : added d.from to ≡ dropped_event key ∷ [] = drop-append_seam d.from.history (dropped_event key ∷ []) in
+    let none : count_by (is_load q) (added d.from to) ≡ 0 = ap (count_by (is_load q)) one in
+    let more = none_append q mid.order (added d.from to) in
+    let same : count_by (is_load q) (mid.order ++ added d.from to) ≡ count_by (is_load q) mid.order = omega arith in
+    ap (λ (v : WorldState). total v q) d.is ∙ ap (λ n. n + one_if (is_loaded (get mid.parts q))) same
+
+total_event : (w new : WorldState) (e : WorldEvent) (key : Bytes) (seen : Shown) (q : Bytes) → KeyEvent w new e key seen → fits w e ≡ true → IsSoundWorld w → total new q ≡ total w q
+total_event w new e key seen q (plain k) fit old = total_key w new e key seen q k fit old
+total_event w new e key seen q (dropping mid shown k tells d end) fit old = total_dropped w mid new key q d ∙ total_key w mid e key shown q k fit old
 
 -- by the kind of the event
 total_happens : (w new : WorldState) (e : WorldEvent) (seen : Shown) (q : Bytes) → fits w e ≡ true → Happens w e seen new → is_reopening seen.outcome ≡ false → IsSoundWorld w → total new q ≡ one_if (is_answer q e seen.outcome) + total w q
@@ -210,7 +226,14 @@ total_happens w new (WorldEvent.Call call session command) seen q fit h none old
 total_happens w new (WorldEvent.Leave call) seen q fit h none old = unanswered false (total new q) (total w q) refl (ap (λ (x : WorldState). total x q) h.1)
 total_happens w new (WorldEvent.Foreign key value) seen q fit h none old = unanswered false (total new q) (total w q) refl (ap (λ (x : WorldState). total x q) h.1)
 total_happens w new (WorldEvent.Reopen config) seen q fit h none old = let t : true ≡ false = ap (λ (s : Shown). is_reopening s.outcome) (sym h.0) ∙ none in cc
-total_happens w new e seen q fit h none old = let k = key_change w new e seen refl h in unanswered false (total new q) (total w q) refl (total_key w new e k.0 seen q k.1 fit old)
+total_happens w new (WorldEvent.Start call key) seen q fit h none old =
+    let k = key_change w new (WorldEvent.Start call key) seen refl h in unanswered false (total new q) (total w q) refl (total_key w new (WorldEvent.Start call key) k.0 seen q k.1 fit old)
+total_happens w new (WorldEvent.PickUp call key) seen q fit h none old =
+    let k = key_change w new (WorldEvent.PickUp call key) seen refl h in unanswered false (total new q) (total w q) refl (total_key w new (WorldEvent.PickUp call key) k.0 seen q k.1 fit old)
+total_happens w new (WorldEvent.Invalidate key) seen q fit h none old =
+    let k = invalid_event w new key seen fit h in
+    unanswered false (total new q) (total w q) refl (ap (λ (v : WorldState). total v q) k.2 ∙ total_event w k.0 (WorldEvent.Invalidate key) key seen q k.1 fit old)
+total_happens w new e seen q fit h none old = let k = end_event w new e seen refl fit h old in unanswered false (total new q) (total w q) refl (total_event w new e k.0 seen q k.1 fit old)
 
 -- what doesn't fit is no answer
 unfit_answer : (q : Bytes) (e : WorldEvent) → is_answer q e Outcome.Unfit ≡ false

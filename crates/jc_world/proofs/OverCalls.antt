@@ -8,7 +8,7 @@
 --     past_part        the call of a part has begun
 --     over_part        and isn't over
 use Rattle.jc_world.proofs.Common.{◌≡◌, ◌==◌, ℕ, true, false, cond, not, List, [], ◌∷◌, ◌++◌, Some, None, Option, option_map, find, sym, refl, ap, ◌∙◌, subst, inl, inr, append-nil, and_parts, arith, nat_tests, get, Caller, Config, Refusal, WriterFailed, Bytes, is_key, Part, Shown, WorldEvent, CallState, new_call, has_number, going_on, with_met, settle, with_swept_keys, with_met_by, keys_reported, after_reopening, is_new, Happens, Step, Run, fits, report_for, is_up_to, Each, IsHeld, IsOwned, IsCallOf, IsSoundWorld, WorldState, stripe_for, home, open_call, reported_now}
-use Rattle.jc_world.proofs.Lemmas.{each_pushed, each_filter, fact_found, opened_cases, each_settled, taken_of, taken_met, each_taken, KeyChange, by_nothing, by_refusal, by_step, by_reservation, by_join, by_commit, by_withdrawal, by_answer, by_retry, key_change, each_report, some_of}
+use Rattle.jc_world.proofs.Lemmas.{each_pushed, each_filter, fact_found, opened_cases, each_settled, taken_of, taken_met, each_taken, KeyChange, by_nothing, by_refusal, by_step, by_reservation, by_join, by_commit, by_withdrawal, by_mark, by_answer, by_retry, key_change, ends_as, each_report, some_of}
 use Rattle.jc_world.proofs.Underway.{found_number, fits_found, up_more}
 
 -- 1. What each event keeps of the numbers.
@@ -30,6 +30,7 @@ module _ (L : Option ℕ → Type 0) (P : Caller → Type 0) where
   numbers_key w new e key seen (by_join u op from to join may there h is none ends) old = subst (Numbers L P) (sym is) (record { last = old.last; calls = old.calls })
   numbers_key w new e key seen (by_commit call part from to x e_is part_is there h home_is is shows) old = subst (Numbers L P) (sym is) (record { last = old.last; calls = calls_settled w call key _ old })
   numbers_key w new e key seen (by_withdrawal call part from to e_is part_is there h is shows) old = subst (Numbers L P) (sym is) (record { last = old.last; calls = old.calls })
+  numbers_key w new e key seen (by_mark from to there out h reached is none ends) old = subst (Numbers L P) (sym is) (record { last = old.last; calls = old.calls })
   numbers_key w new e key seen (by_answer call join from to x e_is join_is there h home_is is shows ends) old = subst (Numbers L P) (sym is) (record { last = old.last; calls = calls_settled w call key _ old })
   numbers_key w new e key seen (by_retry call join from to e_is join_is there h is shows ends) old = subst (Numbers L P) (sym is) (record { last = old.last; calls = old.calls })
 
@@ -60,6 +61,10 @@ module _ (L : Option ℕ → Type 0) (P : Caller → Type 0) where
       (each_report (Numbers L P) call (report_for h.0.kind left fault) (λ v key part at waits o. record { last = o.last; calls = o.calls })
       (with_met_by w call met) (keys_reported (reported_now w call h.0))
       (record { last = old.last; calls = each_taken call (λ x. Some (with_met met x)) (λ u. P u.caller) h.0 w.calls h.1 (λ v goes b. subst P (sym (taken_met met h.0 v goes).caller_is) b) old.calls }))
+  numbers_happens w new (WorldEvent.Commit call key) seen more fit h old =
+      subst (Numbers L P) (sym (ends_as w new call key h.0 h.2 h.4 seen.outcome h.5).4) (record { last = old.last; calls = calls_settled w call key _ old })
+  numbers_happens w new (WorldEvent.Withdraw call key) seen more fit h old = subst (Numbers L P) (sym h.7) (record { last = old.last; calls = old.calls })
+  numbers_happens w new (WorldEvent.Invalidate key) seen more fit h old = subst (Numbers L P) (sym h.5) (record { last = old.last; calls = old.calls })
   numbers_happens w new (WorldEvent.Leave call) seen more fit h old = subst (Numbers L P) (sym h.1) (record { last = old.last; calls = each_filter (λ u. P u.caller) (λ x. not (has_number call x)) w.calls old.calls })
   numbers_happens w new (WorldEvent.Foreign key value) seen more fit h old = subst (Numbers L P) (sym h.1) (record { last = old.last; calls = old.calls })
   numbers_happens w new (WorldEvent.Reopen config) seen more fit h old = subst (Numbers L P) (sym h.1) (record { last = old.last; calls = tt })

@@ -1,5 +1,5 @@
 -- What the machine of a world does in a first and a last phase is what the definitions say.
-use Rattle.jc_world.proofs.Common.{Again, Cache, Joins, entry_in, ◌≡◌, ℕ, zero, suc, true, false, cond, List, [], ◌∷◌, ◌++◌, length, drop, is_some, IsSomeAnd, slice_get, slice_set, Some, None, Option, sym, refl, ap, ◌∙◌, subst, subst₂, append-nil, and_parts, get, insert, remove, Config, Refusal, Bytes, Event, Op, Played, MayBegin, Commits, Withdraws, PicksUp, reserves, State, IsOut, IsJoined, TicketClaim, JoinClaim, Begun, Polled, StepDone, First, Loader, Nobody, Processor, Writer, Reservation, Outcome, Over, Part, JoinAnswer, PartProgress, Shown, Stepped, WorldEvent, keeps_open, CallState, op_at, settle, over_settled, step_of, not_over, fault_in, over_by, asks_as, new_progress, new_part, with_new_part, BeginsAs, ReservesAs, StartsAs, RefusesAs, Happens, is_free, may_start, fits, IsDue, IsHeld, IsSoundWorld, OrderedStripes, IsPhase, IsQuietPhase, Parts, join_key, WorldState, home, stripe_for, open_call, part_of, out_of_part, join_of, is_none, cached_entry, without_foreign, with_doubt, is_misled, is_agreed, entry_at, Bool, foreign_committed}
+use Rattle.jc_world.proofs.Common.{Again, Cache, Joins, entry_in, ◌≡◌, ℕ, zero, suc, true, false, cond, List, [], ◌∷◌, ◌++◌, length, drop, is_some, IsSomeAnd, slice_get, slice_set, Some, None, Option, sym, refl, ap, ◌∙◌, subst, subst₂, append-nil, and_parts, get, insert, remove, Config, Refusal, Bytes, Event, Op, Played, MayBegin, Ends, GivesBack, Invalidates, eviction_place, invalidated_as, EvictionPlace, PicksUp, reserves, State, IsOut, IsJoined, TicketClaim, JoinClaim, Begun, Polled, StepDone, First, Loader, Nobody, Processor, Writer, Reservation, Outcome, Over, Part, JoinAnswer, PartProgress, Shown, Stepped, WorldEvent, keeps_open, CallState, op_at, settle, over_settled, step_of, not_over, fault_in, over_by, asks_as, new_progress, new_part, with_new_part, BeginsAs, ReservesAs, StartsAs, RefusesAs, Happens, is_free, may_start, fits, IsDue, IsHeld, IsSoundWorld, OrderedStripes, IsPhase, IsQuietPhase, Parts, join_key, WorldState, home, stripe_for, open_call, part_of, out_of_part, join_of, is_none, cached_entry, without_foreign, with_doubt, is_misled, is_agreed, entry_at, Bool, foreign_committed}
 use Rattle.jc_world.proofs.Lemmas.{stripe_put, missing, join_at, may_start_at, begins_at, was_free, some_of}
 use Rattle.jc_world.proofs.Holding.{is_part}
 use Rattle.jc_world.proofs.Kept.{unheld, stripe_at}
@@ -162,7 +162,7 @@ free_key v call u key op ticket stripes order p sound =
 -- 4. A last phase.
 
 abbrev pub CommitsAs : Part → StepDone → State → State → Type 0
-CommitsAs part done from to = Commits from part.reservation (out_of_part part) done to
+CommitsAs part done from to = Ends from part.reservation (out_of_part part) done to
 
 pub ended : (v next : WorldState) (call : ℕ) (key : Bytes) (part : Part) (number : ℕ) (done : StepDone) (seen : Stepped) (met : Option Refusal) (over : Option Over) (stripes : List State) (order : List Event) (parts : Parts) (foreign : Cache) (misled agrees : Bool) → part_of v call key ≡ Some part → number ≡ home v key
     → Phased v number (CommitsAs part done) stripes order → step_of seen ≡ done → seen.stripe ≡ number → parts ≡ remove v.parts key
@@ -172,7 +172,7 @@ pub ended : (v next : WorldState) (call : ℕ) (key : Bytes) (part : Part) (numb
 ended v next call key part number done seen met over stripes order parts foreign misled agrees is home_is p shows stripe_is parts_are met_is over_is misled_is agrees_is foreign_is next_is =
     let same : met ≡ fault_in seen.reply = met_is ∙ sym (ap (λ (d : StepDone). fault_in d.reply) shows) in
     let q = here v key number (CommitsAs part done) stripes order home_is p in
-    let B : StepDone → Type 0 = λ d. Commits q.from part.reservation (out_of_part part) d q.to in
+    let B : StepDone → Type 0 = λ d. Ends q.from part.reservation (out_of_part part) d q.to in
     let put : entry_in (slice_get stripes number) key ≡ entry_at q.to.cache key = (λ i. entry_in (slice_get (q.stripes_are i) (home_is i)) key) ∙ ap (λ o. entry_in o key) (stripe_put v.stripes (home v key) q.from q.to q.at) in
     let agreed : agrees ≡ is_agreed (entry_at q.to.cache key) (entry_at v.store key) = agrees_is ∙ ap (λ e. is_agreed e (entry_at v.store key)) put in
     let left : foreign ≡ foreign_committed v key part q.to = foreign_is ∙ (λ i. without_foreign (with_doubt v.foreign key (misled_is i)) key (agreed i)) in
@@ -225,12 +225,34 @@ may_withdraw_at v call key part number is home_is sound =
     weaker (Some s) h = h.0
 
 -- the reservation was given back
-pub withdrawn_at : (v next : WorldState) (call : ℕ) (key : Bytes) (part : Part) (number : ℕ) (stripes : List State) (parts : Parts) → part_of v call key ≡ Some part → number ≡ home v key
-    → Changed v number (λ from to. Withdraws from part.reservation to) stripes → parts ≡ remove v.parts key
-    → next ≡ record v { stripes = stripes; parts = parts } → Happens v (WorldEvent.Withdraw call key) (not_over Outcome.Withdrawn) next
-withdrawn_at v next call key part number stripes parts is home_is p parts_are next_is =
-    let q = changed_here v key number (λ from to. Withdraws from part.reservation to) stripes home_is p in
-    (part, is, q.from, q.at, q.to, q.made, refl, next_is ∙ (λ i. record v { stripes = q.stripes_are i; parts = parts_are i }))
+pub withdrawn_at : (v next : WorldState) (call : ℕ) (key : Bytes) (part : Part) (number : ℕ) (evicted : Option EvictionPlace) (stripes : List State) (order : List Event) (parts : Parts) → part_of v call key ≡ Some part → number ≡ home v key
+    → Phased v number (λ from to. GivesBack from part.reservation to × (evicted ≡ eviction_place number from to)) stripes order → parts ≡ remove v.parts key
+    → next ≡ record v { stripes = stripes; order = order; parts = parts } → Happens v (WorldEvent.Withdraw call key) (not_over (Outcome.Withdrawn evicted)) next
+withdrawn_at v next call key part number evicted stripes order parts is home_is p parts_are next_is =
+    let q = here v key number (λ from to. GivesBack from part.reservation to × (evicted ≡ eviction_place number from to)) stripes order home_is p in (
+      part,
+      is,
+      q.from,
+      q.at,
+      q.to,
+      q.made.0,
+      ap (λ e. not_over (Outcome.Withdrawn e)) (q.made.1 ∙ ap (λ n. eviction_place n q.from q.to) home_is),
+      next_is ∙ (λ i. record v { stripes = q.stripes_are i; order = q.order_is i; parts = parts_are i }),
+    )
+
+-- a key was invalidated
+pub invalidated_at : (v next : WorldState) (key : Bytes) (number : ℕ) (shown : Outcome) (stripes : List State) (order : List Event) → number ≡ home v key
+    → Phased v number (λ from to. Invalidates from key to × (shown ≡ invalidated_as number key from to)) stripes order
+    → next ≡ record v { stripes = stripes; order = order; is_fresh = false } → Happens v (WorldEvent.Invalidate key) (not_over shown) next
+invalidated_at v next key number shown stripes order home_is p next_is =
+    let q = here v key number (λ from to. Invalidates from key to × (shown ≡ invalidated_as number key from to)) stripes order home_is p in (
+      q.from,
+      q.at,
+      q.to,
+      q.made.0,
+      ap not_over (q.made.1 ∙ ap (λ n. invalidated_as n key q.from q.to) home_is),
+      next_is ∙ (λ i. record v { stripes = q.stripes_are i; order = q.order_is i; is_fresh = false }),
+    )
 
 -- 6. An answer that is picked up.
 

@@ -6,8 +6,8 @@
 --     follows_joined     it is so if the call has just joined
 --     resolves           so what a pick-up shows is what has become of the load
 --     answers_joins      the whole, from the join to the pick-up
-use Rattle.jc_world.proofs.Common.{◌≡◌, ℕ, Bool, true, false, cond, not, ◌&&◌, ◌||◌, List, [], ◌∷◌, ◌++◌, is_some, IsSomeAnd, ◌==◌, slice_get, slice_set, find, Some, None, Option, option_map, zip, sym, refl, ap, ◌∙◌, subst, inl, inr, append_assoc, append-nil, eq-eqb, and_from, or_parts, false_from_ne_true, nat_eq_equiv, nat_list_eq_equiv, pointwise, get, remove, list_any, Caller, Config, Bytes, Op, Get, belongs_to_same, belongs_to, JoinState, Again, Answered, Waiting, Joiner, with_joiner, without_joiner, told_to, State, is_key, reservation_of, IsOut, asks_loader, JoinClaim, Reservation, Outcome, Part, Shown, WorldEvent, CallState, has_number, op_at, with_stripe, not_over, with_join, StartsAs, Picks, Step, Run, fits, ends_join, is_last_pick_up, ends_load, Resolves, IsCallOf, IsHeld, IsOwned, IsSoundWorld, JoinKey, join_key, Joins, WorldState, home, stripe_for, open_call, of_call, part_of, join_of, has_join, is_joined}
-use Rattle.jc_world.proofs.Lemmas.{is_some_and, found_test, fact_found, found_number, same_bytes, of_call-at, joiner_of, find_kept, joined_last, join_at, load_there, MayStart, may_start_at, part_key, at_stripe_apart, stripe_put, found_more, KeyChange, by_nothing, by_refusal, by_step, by_reservation, by_join, by_commit, by_withdrawal, by_answer, by_retry, StripeChange, by_key, beside_stripes, by_reopening, change_of, may_of, some_of}
+use Rattle.jc_world.proofs.Common.{◌≡◌, ℕ, Bool, true, false, cond, not, ◌&&◌, ◌||◌, List, [], ◌∷◌, ◌++◌, is_some, IsSomeAnd, ◌==◌, slice_get, slice_set, find, Some, None, Option, option_map, zip, sym, refl, ap, ◌∙◌, subst, inl, inr, append_assoc, append-nil, eq-eqb, and_from, or_parts, false_from_ne_true, nat_eq_equiv, nat_list_eq_equiv, pointwise, get, remove, list_any, Caller, Config, Bytes, Op, Get, belongs_to_same, belongs_to, JoinState, Again, Answered, Waiting, Joiner, with_joiner, without_joiner, told_to, State, is_key, reservation_of, IsOut, asks_loader, JoinClaim, Reservation, Outcome, Part, Shown, WorldEvent, CallState, has_number, op_at, with_stripe, with_phase, not_over, with_join, StartsAs, Picks, step_of, eviction_place, Invalidates, EvictionPlace, Stepped, out_of_part, without_key, after_resolve, after_dissolve, Happens, Step, Run, fits, ends_join, is_last_pick_up, ends_load, Resolves, IsCallOf, IsHeld, IsOwned, IsSoundWorld, JoinKey, join_key, Joins, WorldState, home, stripe_for, open_call, of_call, part_of, join_of, has_join, is_joined}
+use Rattle.jc_world.proofs.Lemmas.{is_some_and, found_test, fact_found, found_number, same_bytes, of_call-at, joiner_of, find_kept, joined_last, join_at, load_there, MayStart, may_start_at, part_key, at_stripe_apart, stripe_put, found_more, KeyChange, by_nothing, by_refusal, by_step, by_reservation, by_join, by_commit, by_withdrawal, by_mark, by_answer, by_retry, plain, dropping, ends_as, is_end, EndLeaves, end_leaves, BackLeaves, back_leaves, invalid_same, StripeChange, by_invalidation, by_key, beside_stripes, by_reopening, change_of, may_of, some_of}
 use Rattle.jc_world.proofs.Maps.{joins_ordered, get-here, get-beside, get-left}
 use Rattle.jc_world.proofs.Kept.{some_map}
 use Rattle.jc_world.proofs.Joins.{no_joiner}
@@ -88,6 +88,42 @@ of_another call mine key own seen other ends same_call same_key =
     in
     cc
 
+-- a load is committed
+follows_committed : (w new : WorldState) (call : ℕ) (key : Bytes) (part : Part) (from to : State) (x : Stepped) (seen : Shown) (shows : Shows) (join : JoinClaim) (r : Reservation) → seen.outcome ≡ Outcome.Stepped x → part_of w call key ≡ Some part → stripe_for w key ≡ Some from
+    → x.stripe ≡ home w key → IsOut from part.reservation → to.reservations ≡ without_key part.reservation.key from.reservations → to.joiners ≡ after_resolve part.reservation.number x.place from.joiners
+    → new.config ≡ w.config → new.stripes ≡ slice_set w.stripes (home w key) to → new.joins ≡ w.joins → IsSoundWorld w → Follows w shows join r → Follows new (shows ++ (WorldEvent.Commit call key, seen) ∷ []) join r
+follows_committed w new call key part from to x seen shows join r shows_it part_is there home_is out left joiners config stripes joins old f =
+    let p = part.reservation in
+    subst (λ (s : Shown). Follows new (shows ++ (WorldEvent.Commit call key, s) ∷ []) join r) (sym (λ i. record { outcome = shows_it i; over = seen.over }))
+    (follows_set w new shows ((WorldEvent.Commit call key, step_shown x seen.over) ∷ []) join r key from to f config stripes there
+    (ap (λ (m : Joins). get m (join_key join)) joins ∙ f.join_is)
+    (λ apart. ap (λ b. b || false) (none_of_key r call key (step_shown x seen.over) (λ same. apart (ap (home w) (sym same ∙ f.key_is)))))
+    (tells_committed (home w join.key) call key shows join p r from to x seen.over (old.shape.each (home w key) from there).reached out
+    (of_call-at call (get w.parts key) part part_is).1 (part_key w call key part part_is old) (λ same. home_is ∙ ap (home w) (sym same ∙ f.key_is)) left joiners))
+
+-- and withdrawn
+follows_withdrawn : (w new : WorldState) (call : ℕ) (key : Bytes) (part : Part) (from to : State) (evicted : Option EvictionPlace) (seen : Shown) (shows : Shows) (join : JoinClaim) (r : Reservation) → seen ≡ not_over (Outcome.Withdrawn evicted) → part_of w call key ≡ Some part
+    → stripe_for w key ≡ Some from → IsOut from part.reservation → to.reservations ≡ without_key part.reservation.key from.reservations → to.joiners ≡ after_dissolve part.reservation.number from.joiners
+    → new.config ≡ w.config → new.stripes ≡ slice_set w.stripes (home w key) to → new.joins ≡ w.joins → IsSoundWorld w → Follows w shows join r → Follows new (shows ++ (WorldEvent.Withdraw call key, seen) ∷ []) join r
+follows_withdrawn w new call key part from to evicted seen shows join r shows_it part_is there out left joiners config stripes joins old f =
+    subst (λ (s : Shown). Follows new (shows ++ (WorldEvent.Withdraw call key, s) ∷ []) join r) (sym shows_it)
+    (follows_set w new shows ((WorldEvent.Withdraw call key, not_over (Outcome.Withdrawn evicted)) ∷ []) join r key from to f config stripes there
+    (ap (λ (m : Joins). get m (join_key join)) joins ∙ f.join_is)
+    (λ apart. ap (λ b. b || false) (none_of_key r call key (not_over (Outcome.Withdrawn evicted)) (λ same. apart (ap (home w) (sym same ∙ f.key_is)))))
+    (tells_withdrawn (home w join.key) call key shows join part.reservation r from to evicted (old.shape.each (home w key) from there).reached out
+    (of_call-at call (get w.parts key) part part_is).1 (part_key w call key part part_is old) left joiners))
+
+-- a key is invalidated
+follows_invalidated : (w new : WorldState) (key : Bytes) (from to : State) (seen : Shown) (shows : Shows) (join : JoinClaim) (r : Reservation) → stripe_for w key ≡ Some from → Invalidates from key to → new ≡ record (with_phase w key from to) { is_fresh = false }
+    → Follows w shows join r → Follows new (shows ++ (WorldEvent.Invalidate key, seen) ∷ []) join r
+follows_invalidated w new key from to seen shows join r there made is f =
+    let more : Shows = (WorldEvent.Invalidate key, seen) ∷ [] in
+    let joiners : to.joiners ≡ from.joiners = ap (λ (s : State). s.joiners) made ∙ invalid_same (λ s. s.joiners) from key (λ m. refl) refl refl in
+    let held : reservation_of to r.key ≡ reservation_of from r.key = ap (λ (s : State). reservation_of s r.key) made ∙ invalid_same (λ s. reservation_of s r.key) from key (λ m. refl) refl refl in
+    follows_set w new shows more join r key from to f (ap (λ (x : WorldState). x.config) is) (ap (λ (x : WorldState). x.stripes) is) there
+    (ap (λ (x : WorldState). join_of x join.caller.call join.key) is ∙ f.join_is) (λ apart. refl)
+    (tells_kept (home w join.key) shows more join r from to [] (joiners ∙ sym (append-nil from.joiners)) refl (λ out. held ∙ out))
+
 -- by the kind of the change at a key
 follows_key : (w new : WorldState) (e : WorldEvent) (key : Bytes) (seen : Shown) (shows : Shows) (join : JoinClaim) (r : Reservation) → KeyChange w new e key seen → fits w e ≡ true → is_last_pick_up join.caller.call join.key (e, seen) ≡ false
     → IsSoundWorld w → Follows w shows join r → Follows new (shows ++ (e, seen) ∷ []) join r
@@ -116,23 +152,19 @@ follows_key w new e key seen shows join r (by_join u op from to other may there 
     (ap (λ (x : WorldState). join_of x join.caller.call join.key) is ∙ get-beside joins_ordered w.joins (join_key other) other (join_key join) apart ∙ f.join_is) (λ apart. none)
     (tells_kept (home w join.key) shows _ join r from to (record { caller = other.caller; key = other.key; load = other.load; state = Waiting } ∷ []) (ap (λ (s : State). s.joiners) after) none (λ out. ap (λ (s : State). reservation_of s r.key) after ∙ out))
 follows_key w new e key seen shows join r (by_commit call part from to x e_is part_is there h home_is is shows_it) fit last old f =
-    let p = part.reservation in
     let after = h.1.after in
-    subst (λ (p : WorldEvent × Shown). Follows new (shows ++ p ∷ []) join r) (sym (λ i. (e_is i, record { outcome = shows_it i; over = seen.over })))
-    (follows_set w new shows ((WorldEvent.Commit call key, step_shown x seen.over) ∷ []) join r key from to f (ap (λ (x : WorldState). x.config) is) (ap (λ (x : WorldState). x.stripes) is) there
-    (ap (λ (x : WorldState). join_of x join.caller.call join.key) is ∙ f.join_is)
-    (λ apart. ap (λ b. b || false) (none_of_key r call key (step_shown x seen.over) (λ same. apart (ap (home w) (sym same ∙ f.key_is)))))
-    (tells_committed (home w join.key) call key shows join p r from to x seen.over (old.shape.each (home w key) from there).reached h.0
-    (of_call-at call (get w.parts key) part part_is).1 (part_key w call key part part_is old) (λ same. home_is ∙ ap (home w) (sym same ∙ f.key_is))
-    (ap (λ (s : State). s.reservations) after) (ap (λ (s : State). s.joiners) after)))
+    subst (λ e. Follows new (shows ++ (e, seen) ∷ []) join r) (sym e_is)
+    (follows_committed w new call key part from to x seen shows join r shows_it part_is there home_is h.0 (ap (λ (s : State). s.reservations) after) (ap (λ (s : State). s.joiners) after)
+    (ap (λ (x : WorldState). x.config) is) (ap (λ (x : WorldState). x.stripes) is) (ap (λ (x : WorldState). x.joins) is) old f)
 follows_key w new e key seen shows join r (by_withdrawal call part from to e_is part_is there h is shows_it) fit last old f =
-    subst (λ (p : WorldEvent × Shown). Follows new (shows ++ p ∷ []) join r) (sym (λ i. (e_is i, shows_it i)))
-    (follows_set w new shows ((WorldEvent.Withdraw call key, not_over Outcome.Withdrawn) ∷ []) join r key from to f (ap (λ (x : WorldState). x.config) is) (ap (λ (x : WorldState). x.stripes) is) there
-    (ap (λ (x : WorldState). join_of x join.caller.call join.key) is ∙ f.join_is)
-    (λ apart. ap (λ b. b || false) (none_of_key r call key (not_over Outcome.Withdrawn) (λ same. apart (ap (home w) (sym same ∙ f.key_is)))))
-    (tells_withdrawn (home w join.key) call key shows join part.reservation r from to (old.shape.each (home w key) from there).reached h.0
-    (of_call-at call (get w.parts key) part part_is).1 (part_key w call key part part_is old)
-    (ap (λ (s : State). s.reservations) h.1) (ap (λ (s : State). s.joiners) h.1)))
+    subst (λ e. Follows new (shows ++ (e, seen) ∷ []) join r) (sym e_is)
+    (follows_withdrawn w new call key part from to None seen shows join r shows_it part_is there h.0 (ap (λ (s : State). s.reservations) h.1) (ap (λ (s : State). s.joiners) h.1)
+    (ap (λ (x : WorldState). x.config) is) (ap (λ (x : WorldState). x.stripes) is) (ap (λ (x : WorldState). x.joins) is) old f)
+follows_key w new e key seen shows join r (by_mark from to there out h reached is silent ends) fit last old f =
+    let none = ap (λ b. b || false) (ends r) in
+    follows_set w new shows _ join r key from to f (ap (λ (x : WorldState). x.config) is) (ap (λ (x : WorldState). x.stripes) is) there
+    (ap (λ (x : WorldState). join_of x join.caller.call join.key) is ∙ f.join_is) (λ apart. none)
+    (tells_kept (home w join.key) shows _ join r from to [] (ap (λ (s : State). s.joiners) h ∙ sym (append-nil from.joiners)) none (λ out. ap (λ (s : State). reservation_of s r.key) h ∙ out))
 follows_key w new e key seen shows join r (by_answer call other from to x e_is found there h home_is is shows_it ends) fit last old f =
     follows_others w new call key other from to shows _ join r found there h.3
     (of_another call join.caller.call key join.key seen.outcome (ap (λ x. is_last_pick_up join.caller.call join.key (x, seen)) (sym e_is) ∙ last) (ap ends_join shows_it))
@@ -155,14 +187,32 @@ unfit_ends : (r : Reservation) (e : WorldEvent) → ends_load r (e, not_over Out
 unfit_ends r (WorldEvent.Commit call key) = refl
 unfit_ends r e = refl
 
+-- any event but an end and an invalidation
+follows_beside_ends : (w new : WorldState) (e : WorldEvent) (seen : Shown) (shows : Shows) (join : JoinClaim) (r : Reservation) → fits w e ≡ true → is_last_pick_up join.caller.call join.key (e, seen) ≡ false → IsSoundWorld w → Follows w shows join r → StripeChange w new e seen
+    → is_end e ≡ false → Follows new (shows ++ (e, seen) ∷ []) join r
+follows_beside_ends w new e seen shows join r fit last old f (by_key key (plain k)) none = follows_key w new e key seen shows join r k fit last old f
+follows_beside_ends w new e seen shows join r fit last old f (by_key key (dropping mid shown k tells d ends)) none = let t : true ≡ false = sym ends ∙ none in cc
+follows_beside_ends w new e seen shows join r fit last old f (by_invalidation key v e_is k is) none = let t : true ≡ false = sym (ap is_end e_is) ∙ none in cc
+follows_beside_ends w new e seen shows join r fit last old f (beside_stripes m is config stripes order joins silent ends) none = follows_beside w new m shows _ join r f is config stripes joins (ap (λ b. b || false) (ends r))
+follows_beside_ends w new e seen shows join r fit last old f (by_reopening config e_is reopens is) none = absurd (joined_calls w config join f.join_is (ap (fits w) (sym e_is) ∙ fit) old)
+
+follows_happens : (w new : WorldState) (e : WorldEvent) (seen : Shown) (shows : Shows) (join : JoinClaim) (r : Reservation) → fits w e ≡ true → Happens w e seen new → is_last_pick_up join.caller.call join.key (e, seen) ≡ false → IsSoundWorld w → Follows w shows join r
+    → Follows new (shows ++ (e, seen) ∷ []) join r
+follows_happens w new (WorldEvent.Commit call key) seen shows join r fit h last old f =
+    let e = ends_as w new call key h.0 h.2 h.4 seen.outcome h.5 in
+    let left = end_leaves h.2 h.4 h.0.reservation (out_of_part h.0) (step_of e.0) e.2 in
+    follows_committed w new call key h.0 h.2 h.4 e.0 seen shows join r e.1 h.1 h.3 e.3 left.out left.reservations left.joiners
+    (ap (λ (x : WorldState). x.config) e.4) (ap (λ (x : WorldState). x.stripes) e.4) (ap (λ (x : WorldState). x.joins) e.4) old f
+follows_happens w new (WorldEvent.Withdraw call key) seen shows join r fit h last old f =
+    let left = back_leaves h.2 h.4 h.0.reservation h.5 in
+    follows_withdrawn w new call key h.0 h.2 h.4 (eviction_place (home w key) h.2 h.4) seen shows join r h.6 h.1 h.3 left.out left.reservations left.joiners
+    (ap (λ (x : WorldState). x.config) h.7) (ap (λ (x : WorldState). x.stripes) h.7) (ap (λ (x : WorldState). x.joins) h.7) old f
+follows_happens w new (WorldEvent.Invalidate key) seen shows join r fit h last old f = follows_invalidated w new key h.0 h.2 seen shows join r h.1 h.3 h.5 f
+follows_happens w new e seen shows join r fit h last old f = follows_beside_ends w new e seen shows join r fit last old f (change_of w new e seen fit h old) refl
+
 follows_step : (w new : WorldState) (e : WorldEvent) (seen : Shown) (shows : Shows) (join : JoinClaim) (r : Reservation) → Step w e seen new → is_last_pick_up join.caller.call join.key (e, seen) ≡ false → IsSoundWorld w → Follows w shows join r
     → Follows new (shows ++ (e, seen) ∷ []) join r
-follows_step w new e seen shows join r (inl (fit, happens)) last old f = go (change_of w new e seen happens)
-  where
-    go : StripeChange w new e seen → Follows new (shows ++ (e, seen) ∷ []) join r
-    go (by_key key k) = follows_key w new e key seen shows join r k fit last old f
-    go (beside_stripes m is config stripes order joins none ends) = follows_beside w new m shows _ join r f is config stripes joins (ap (λ b. b || false) (ends r))
-    go (by_reopening config e_is reopens is) = absurd (joined_calls w config join f.join_is (ap (fits w) (sym e_is) ∙ fit) old)
+follows_step w new e seen shows join r (inl (fit, happens)) last old f = follows_happens w new e seen shows join r fit happens last old f
 follows_step w new e seen shows join r (inr (unfit, shown_is, is)) last old f = follows_beside w new w shows _ join r f is refl refl refl (ap (λ b. b || false) (ap (λ s. ends_load r (e, s)) shown_is ∙ unfit_ends r e))
 
 -- both tests fail, where not one of them holds

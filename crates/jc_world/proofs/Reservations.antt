@@ -1,6 +1,7 @@
 -- A reservation stays out when the stripe's reservations change.
 use Rattle.jc_world.proofs.Common.{◌≡◌, ℕ, Bool, true, false, cond, not, ◌&&◌, ◌||◌, List, [], ◌∷◌, ◌++◌, is_some, ◌==◌, Some, None, Option, find, sym, refl, ap, ◌∙◌, false_from_ne_true, nat_list_eq_equiv, find-append, pointwise, texts_ties, list_any, option_or, eq_by_cmp, Caller, Refusal, same_key, Bytes, entry_at, key_cmp, Op, first_asked, reserves, answers_at_once, load_joined, needs_free_key, places_needed, first_refusal, State, is_key, is_reserved, without_key, First, Nobody, Reservation}
 use Rattle.jc_stripe.specs.Refusals.{has_room}
+use Rattle.jc_stripe.specs.State.{is_barred}
 use Rattle.jc_stripe.proofs.CallerLemmas.{answering_asks}
 use Rattle.jc_world.proofs.Joiners.{find_kept}
 
@@ -18,13 +19,13 @@ out_reserved key r (x ∷ xs) h =
     ] h
 
 -- only what needs no free key is not refused as busy
-pick : (why : Refusal) (room is_there needs : Bool) (other : Option Refusal) → cond (not room) (Some why) (cond (is_there && needs) (Some Refusal.Busy) other) ≡ None → is_there ≡ true → needs ≡ false
-pick why true true false other h e = refl
-pick why room is_there needs other h e = cc
+pick : (why : Refusal) (room barred is_there needs : Bool) (other : Option Refusal) → cond (not room) (Some why) (cond (barred || (is_there && needs)) (Some Refusal.Busy) other) ≡ None → is_there ≡ true → needs ≡ false
+pick why true false true false other h e = refl
+pick why room barred is_there needs other h e = cc
 
 -- a call that is not refused at a reserved key needs no free key
 pub needs_none : (s : State) (caller : Caller) (key : Bytes) (op : Op) → first_refusal s caller key op ≡ None → is_reserved s key ≡ true → needs_free_key s key op ≡ false
-needs_none s caller key op none there = pick _ (has_room s caller.call (places_needed (needs_free_key s key op))) (is_reserved s key) (needs_free_key s key op) _ none there
+needs_none s caller key op none there = pick _ (has_room s caller.call (places_needed (needs_free_key s key op))) (is_barred s key) (is_reserved s key) (needs_free_key s key op) _ none there
 
 -- what needs no free key and joins no load answers at once
 only_answers : (answers : Bool) (load : Option ℕ) → not (answers || is_some load) ≡ false → load ≡ None → answers ≡ true

@@ -7,7 +7,8 @@
 --     stay_run        so it is in every run, or a call that had begun is over, since the cache was opened again
 --     stays_held      so the entry of a key stays, if its reservation is the same
 use Rattle.jc_world.proofs.Common.{◌≡◌, ℕ, ◌<◌, ◌≤◌, Bool, true, false, cond, not, ◌⊎◌, List, [], ◌∷◌, ◌++◌, slice_get, slice_set, Some, None, filter, find, sym, refl, ap, ◌∙◌, subst, inl, inr, arith, get, stripe_of, Config, Bytes, entry_at, KeepsReserved, State, is_key, is_reserved, with_reservation, without_key, without_reservation, IsOut, Begun, Reservation, Outcome, Part, Shown, WorldEvent, step_of, Step, Run, is_reopening, changes_cache, IsHeld, IsSoundWorld, WorldState, home, stripe_for, entry_in, cached_entry, out_of_part}
-use Rattle.jc_world.proofs.Lemmas.{found_holds, at_stripe, split, out_reserved, found_left, KeyChange, by_nothing, by_refusal, by_step, by_reservation, by_join, by_commit, by_withdrawal, by_answer, by_retry, StripeChange, by_key, beside_stripes, by_reopening, change_of, Move, no_move, quiet_move, step_move, reopening_move, move_step, some_of}
+use Rattle.jc_world.proofs.Lemmas.{found_holds, at_stripe, split, out_reserved, found_left, KeyChange, by_nothing, by_refusal, by_step, by_reservation, by_join, by_commit, by_withdrawal, by_mark, by_answer, by_retry, KeyEvent, plain, dropping, Drop, unreserved_apart, dropped_others, StripeChange, by_invalidation, by_key, beside_stripes, by_reopening, change_of, Move, no_move, quiet_move, loud_move, reopening_move, move_step, some_of}
+use Rattle.jc_stripe.specs.Invalidating.{without_entry}
 use Rattle.jc_world.proofs.Sounding.{Laws, sound_step}
 use Rattle.jc_world.proofs.OverCalls.{IsPast, past_step, IsOver, over_run, over_reopened}
 
@@ -29,7 +30,7 @@ unmoved_as : (w new : WorldState) (seen : Outcome) → Move w new seen → chang
 unmoved_as w new seen (no_move config stripes order) none = (order, λ q. λ i. entry_in (slice_get (stripes i) (stripe_of q (config i).stripes)) q)
 unmoved_as w new seen (quiet_move key from to there config stripes order cache) none =
     (order, λ q. (λ i. entry_in (slice_get (stripes i) (stripe_of q (config i).stripes)) q) ∙ cached_set w key q from to there cache)
-unmoved_as w new seen (step_move from to x config order shows) none = let t : true ≡ false = sym (ap changes_cache shows) ∙ none in cc
+unmoved_as w new seen (loud_move more config order changes) none = let t : true ≡ false = sym changes ∙ none in cc
 unmoved_as w new seen (reopening_move reopens) none = let t : true ≡ false = sym (reopening_changes seen reopens) ∙ none in cc
 
 pub unmoved_step : (w new : WorldState) (e : WorldEvent) (seen : Shown) → Step w e seen new → changes_cache seen.outcome ≡ false → IsUnmoved w new
@@ -159,6 +160,9 @@ stay_key kept w new e key seen (by_commit call part from to x e_is part_is there
 stay_key kept w new e key seen (by_withdrawal call part from to e_is part_is there h is shows) old =
     stay_set w new key from to (ap (λ (v : WorldState). v.config) is) (ap (λ (v : WorldState). v.stripes) is) there
     (stays_released from to part.reservation.key (ap (λ (s : State). s.next) h.1) (ap (λ (s : State). s.reservations) h.1) (λ q out. ap (λ (s : State). entry_at s.cache q) h.1))
+stay_key kept w new e key seen (by_mark from to there out h reached is none ends) old =
+    stay_set w new key from to (ap (λ (v : WorldState). v.config) is) (ap (λ (v : WorldState). v.stripes) is) there
+    (stays_kept from to (ap (λ (s : State). s.next) h) (ap (λ (s : State). s.reservations) h) (λ q out. ap (λ (s : State). entry_at s.cache q) h))
 stay_key kept w new e key seen (by_answer call join from to x e_is join_is there h home_is is shows ends) old =
     stay_set w new key from to (ap (λ (v : WorldState). v.config) is) (ap (λ (v : WorldState). v.stripes) is) there
     (stays_kept from to (ap (λ (s : State). s.next) h.3) (ap (λ (s : State). s.reservations) h.3) (λ q out. ap (λ (s : State). entry_at s.cache q) h.3))
@@ -166,11 +170,22 @@ stay_key kept w new e key seen (by_retry call join from to e_is join_is there h 
     stay_set w new key from to (ap (λ (v : WorldState). v.config) is) (ap (λ (v : WorldState). v.stripes) is) there
     (stays_kept from to (ap (λ (s : State). s.next) h.2) (ap (λ (s : State). s.reservations) h.2) (λ q out. ap (λ (s : State). entry_at s.cache q) h.2))
 
+-- the entry of an invalidated key is evicted, which isn't reserved
+stay_dropped : (w mid new : WorldState) (key : Bytes) → Drop w mid new key → StayOut mid new
+stay_dropped w mid new key d =
+    stay_set mid new key d.from (without_entry d.from key) (ap (λ (v : WorldState). v.config) d.is) (ap (λ (v : WorldState). v.stripes) d.is) d.there
+    (stays_kept d.from (without_entry d.from key) refl refl (λ q out. dropped_others d.from key q (unreserved_apart d.from key q d.free out)))
+
+stay_event : KeepsReserved → (w new : WorldState) (e : WorldEvent) (key : Bytes) (seen : Shown) → KeyEvent w new e key seen → IsSoundWorld w → StayOut w new
+stay_event kept w new e key seen (plain k) old = stay_key kept w new e key seen k old
+stay_event kept w new e key seen (dropping mid shown k tells d end) old = stay_then w mid new (stay_key kept w mid e key shown k old) (stay_dropped w mid new key d)
+
 stay_step : KeepsReserved → (call : ℕ) (w new : WorldState) (e : WorldEvent) (seen : Shown) → Step w e seen new → IsSoundWorld w → IsPast call w → StayOut w new ⊎ IsOver call new
-stay_step kept call w new e seen (inl (fit, happens)) old past = go (change_of w new e seen happens)
+stay_step kept call w new e seen (inl (fit, happens)) old past = go (change_of w new e seen fit happens old)
   where
     go : StripeChange w new e seen → StayOut w new ⊎ IsOver call new
-    go (by_key key k) = inl (stay_key kept w new e key seen k old)
+    go (by_key key k) = inl (stay_event kept w new e key seen k old)
+    go (by_invalidation key v e_is k is) = inl (stay_then w v new (stay_event kept w v e key seen k old) (stay_beside v new _ is refl refl))
     go (beside_stripes m is config stripes order joins none ends) = inl (stay_beside w new m is config stripes)
     go (by_reopening config e_is reopens is) = inr (subst (IsOver call) (sym is) (over_reopened call w config past))
 stay_step kept call w new e seen (inr (unfit, shows, is)) old past = inl (stay_beside w new w is refl refl)

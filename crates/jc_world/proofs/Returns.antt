@@ -2,7 +2,7 @@
 --     each_report     what a report for one key keeps, a return keeps
 --     IsBeside        a world is another one but for its parts and its premises
 --     returned        a return leads to such a world
---     IsWhole         an event after which the world is sound as a whole: a writer's return, or a reopening
+--     IsWhole         an event after which the world is sound as a whole: a writer's return, an end, an invalidation, or a reopening
 use Rattle.jc_world.proofs.Common.{◌≡◌, ℕ, true, false, cond, List, [], ◌∷◌, Some, None, Option, refl, ap, ◌∙◌, Bytes, WriteAnswer, Part, Premises, WorldEvent, after_report, reported_at, after_reports, Parts, WorldState, part_of, waits_for_report}
 
 -- the report for one key keeps this
@@ -47,4 +47,7 @@ returned w new call answer keys is =
 abbrev pub IsWhole : WorldEvent → Type 0
 IsWhole (WorldEvent.Report call left fault) = Unit {0}
 IsWhole (WorldEvent.Reopen config) = Unit {0}
+IsWhole (WorldEvent.Commit call key) = Unit {0}
+IsWhole (WorldEvent.Withdraw call key) = Unit {0}
+IsWhole (WorldEvent.Invalidate key) = Unit {0}
 IsWhole e = ⊥

@@ -5,11 +5,12 @@
 --     gives_done, gives_commit, gives_picked and so on      what each kind of phase answers
 --     owed_run        so a run raises it by the answers that it shows
 use Rattle.jc_world.proofs.Common.{◌≡◌, ℕ, zero, suc, ◌+◌, Bool, true, false, cond, ◌&&◌, List, [], ◌∷◌, ◌++◌, map, length, ◌==◌, slice_get, slice_set, Some, None, count_by, Option, sym, refl, ap, ◌∙◌, inl, inr, arith, and-false, eqb-suc-suc, eqb-suc-zero, eqb-zero-suc, eqb-true, eqb-false, eq-eqb, and_parts, sum_by-cons, list_all, Caller, Config, Bytes, Group, nothing_said, victim_events, evicted_events, step_event, shared_event, step_place, events_of, of_stripe, Cause, Event, LoadAnswer, Op, Get, Out, Reply, callers_of, Joiner, joined_parks, withdrawn_parks, beginner_parks, commit_parks, committer_parks, sharers_park, picker_parks, picked_parks, others_park, again_parks_same, Extends, Grows, is_parked, MayBegin, new_group, Steps, Begins, after_commit, Commits, without_joiner, PicksUp, IsReached, State, JoinClaim, Begun, Polled, StepDone, Reservation, Outcome, Shown, WorldEvent, step_of, Step, Run, fits, IsOpeningWorld, is_reopening, reopens, is_answer_at, joiners_in, joiners_at, times_shown, IsSoundWorld, WorldState, home, stripe_for, out_of_part}
-use Rattle.jc_world.proofs.Lemmas.{added, share_stays, begins_with, stripe_put, AnswersNone, KeyChange, by_nothing, by_refusal, by_step, by_reservation, by_join, by_commit, by_withdrawal, by_answer, by_retry, StripeChange, by_key, beside_stripes, by_reopening, change_of, may_of}
+use Rattle.jc_world.proofs.Lemmas.{added, share_stays, begins_with, stripe_put, AnswersNone, KeyChange, by_nothing, by_refusal, by_step, by_reservation, by_join, by_commit, by_withdrawal, by_mark, by_answer, by_retry, TellsDrop, tells_same, KeyEvent, plain, dropping, Drop, drop_extends, same_extends, StripeChange, by_invalidation, by_key, beside_stripes, by_reopening, change_of, may_of}
+use Rattle.jc_stripe.specs.Invalidating.{dropped_event, without_entry}
 use Rattle.jc_world.proofs.Merging.{other_set}
 use Rattle.jc_world.proofs.Loads.{one_if}
 use Rattle.jc_world.proofs.Opened.{sound_opening}
-use Rattle.jc_world.proofs.Sounding.{Laws, sound_step}
+use Rattle.jc_world.proofs.Sounding.{Laws, sound_step, sound_change, sound_event}
 use Rattle.jc_world.proofs.Standing.{config_run, reopens_none}
 
 -- 1. How often an answer is to have been shown.
@@ -197,6 +198,9 @@ owed_key grows w new e key seen number place (by_commit call part from to x e_is
 owed_key grows w new e key seen number place (by_withdrawal call part from to e_is part_is there h is shows) fit old sound =
     owed_quiet w new key from to seen.outcome number place there old sound (ap (λ (v : WorldState). v.config) is) (ap (λ (v : WorldState). v.stripes) is) (ap (λ (v : WorldState). v.order) is)
     (gives_none from to (ap (λ (s : State). s.history) h.1) (λ c k. ap (λ (s : State). is_parked s.joiners c k) h.1 ∙ withdrawn_parks from part.reservation c k)) (λ n p. ap (λ (s : Shown). is_answer_at n p s.outcome) shows)
+owed_key grows w new e key seen number place (by_mark from to there out h reached is none ends) fit old sound =
+    owed_quiet w new key from to seen.outcome number place there old sound (ap (λ (v : WorldState). v.config) is) (ap (λ (v : WorldState). v.stripes) is) (ap (λ (v : WorldState). v.order) is)
+    (gives_none from to (ap (λ (s : State). s.history) h) (λ c k. ap (λ (s : State). is_parked s.joiners c k) h)) none
 owed_key grows w new e key seen number place (by_answer call join from to x e_is join_is there h home_is is shows ends) fit old sound =
     owed_set w new key from to (λ p. x.place == p) number place there old sound (ap (λ (v : WorldState). v.config) is) (ap (λ (v : WorldState). v.stripes) is)
     (λ m apart. ap (λ (v : WorldState). of_stripe w.config.stripes m v.order) is)
@@ -206,16 +210,44 @@ owed_key grows w new e key seen number place (by_retry call join from to e_is jo
     owed_quiet w new key from to seen.outcome number place there old sound (ap (λ (v : WorldState). v.config) is) (ap (λ (v : WorldState). v.stripes) is) (ap (λ (v : WorldState). v.order) is)
     (gives_none from to (ap (λ (s : State). s.history) h.2) (λ c k. ap (λ (s : State). is_parked s.joiners c k) h.2 ∙ again_parks_same from join c k (old.shape.each (home w key) from there).reached h.1)) (λ n p. ap (is_answer_at n p) shows)
 
+-- an eviction is owed to nobody
+owed_more : (js : List Joiner) (events : List Event) (key : Bytes) (p : ℕ) → times_owed js (slice_get (events ++ dropped_event key ∷ []) p) ≡ times_owed js (slice_get events p)
+owed_more js [] key zero = refl
+owed_more js [] key (suc p) = refl
+owed_more js (x ∷ xs) key zero = refl
+owed_more js (x ∷ xs) key (suc p) = owed_more js xs key p
+
+owed_dropped : (w mid new : WorldState) (key : Bytes) (number place : ℕ) → Drop w mid new key → IsSoundWorld mid → IsSoundWorld new → owed new number place ≡ owed mid number place
+owed_dropped w mid new key number place d old sound =
+    let from = d.from in
+    let to = without_entry from key in
+    let n = home mid key in
+    let placed : slice_get new.stripes n ≡ Some to = ap (λ (v : WorldState). slice_get v.stripes n) d.is ∙ stripe_put mid.stripes n from to d.there in
+    let g = drop_extends from from key (same_extends from) in
+    let gives : Gives from to nowhere = λ p. owed_more from.joiners from.history key p ∙ (let e : times_owed from.joiners (slice_get from.history p) ≡ 0 + times_owed from.joiners (slice_get from.history p) = omega arith in e) in
+    owed_set mid new key from to nowhere number place d.there old sound (ap (λ (v : WorldState). v.config) d.is) (ap (λ (v : WorldState). v.stripes) d.is)
+    (λ m apart. ap (λ (v : WorldState). of_stripe mid.config.stripes m v.order) d.is ∙ share_stays mid n m from to g (old.shape.each n from d.there) (sound.shape.each n to placed).reached apart) gives
+    ∙ ap (λ b. one_if b + owed mid number place) (and-false (n == number)) ∙ (let e : 0 + owed mid number place ≡ owed mid number place = omega arith in e)
+
+owed_event : Laws → Grows → (w new : WorldState) (e : WorldEvent) (key : Bytes) (seen : Shown) (number place : ℕ) → KeyEvent w new e key seen → fits w e ≡ true → IsSoundWorld w → IsSoundWorld new
+    → owed new number place ≡ one_if (is_answer_at number place seen.outcome) + owed w number place
+owed_event laws grows w new e key seen number place (plain k) fit old sound = owed_key grows w new e key seen number place k fit old sound
+owed_event laws grows w new e key seen number place (dropping mid shown k tells d end) fit old sound =
+    let between = sound_change laws.stays w mid e key shown k fit old in
+    owed_dropped w mid new key number place d between sound ∙ owed_key grows w mid e key shown number place k fit old between
+    ∙ ap (λ b. one_if b + owed w number place) (sym (tells_same seen shown number place tells))
+
 -- of any event
-owed_step : Grows → (w new : WorldState) (e : WorldEvent) (seen : Shown) (number place : ℕ) → Step w e seen new → is_reopening seen.outcome ≡ false → IsSoundWorld w → IsSoundWorld new → owed new number place ≡ one_if (is_answer_at number place seen.outcome) + owed w number place
-owed_step grows w new e seen number place (inl (fit, happens)) kept old sound = go (change_of w new e seen happens)
+owed_step : Laws → Grows → (w new : WorldState) (e : WorldEvent) (seen : Shown) (number place : ℕ) → Step w e seen new → is_reopening seen.outcome ≡ false → IsSoundWorld w → IsSoundWorld new → owed new number place ≡ one_if (is_answer_at number place seen.outcome) + owed w number place
+owed_step laws grows w new e seen number place (inl (fit, happens)) kept old sound = go (change_of w new e seen fit happens old)
   where
     go : StripeChange w new e seen → owed new number place ≡ one_if (is_answer_at number place seen.outcome) + owed w number place
-    go (by_key key k) = owed_key grows w new e key seen number place k fit old sound
+    go (by_key key k) = owed_event laws grows w new e key seen number place k fit old sound
+    go (by_invalidation key v e_is k is) = ap (λ (x : WorldState). owed x number place) is ∙ owed_event laws grows w v e key seen number place k fit old (sound_event laws.stays w v e key seen k fit old)
     go (beside_stripes m is config stripes order joins none ends) =
         owed_still w new seen.outcome number place (none number place) (ap (λ (x : WorldState). owed x number place) is ∙ (λ i. times_owed (joiners_in (slice_get (stripes i) number)) (slice_get (of_stripe (config i).stripes number (order i)) place)))
     go (by_reopening config e_is reopens is) = let t : true ≡ false = sym reopens ∙ kept in cc
-owed_step grows w new e seen number place (inr (unfit, shows, is)) kept old sound = owed_still w new seen.outcome number place (ap (λ (s : Shown). is_answer_at number place s.outcome) shows) (ap (λ (x : WorldState). owed x number place) is)
+owed_step laws grows w new e seen number place (inr (unfit, shows, is)) kept old sound = owed_still w new seen.outcome number place (ap (λ (s : Shown). is_answer_at number place s.outcome) shows) (ap (λ (x : WorldState). owed x number place) is)
 
 -- 4. A run.
 
@@ -227,7 +259,7 @@ owed_run laws grows w new [] [] number place run none old = let e : owed new num
 owed_run laws grows w new (e ∷ es) (s ∷ ss) number place (mid, step, rest) none old =
     let parts = reopens_none s ss none in
     let sound = sound_step laws w e s mid step old in
-    let one = owed_step grows w mid e s number place step parts.0 old sound in
+    let one = owed_step laws grows w mid e s number place step parts.0 old sound in
     let more = owed_run laws grows mid new es ss number place rest parts.1 sound in
     let split_off : count_by (answers_at number place) (s ∷ ss) ≡ one_if (is_answer_at number place s.outcome) + count_by (answers_at number place) ss = sum_by-cons (λ x. cond (answers_at number place x) 1 0) s ss in
     omega arith

@@ -4,12 +4,13 @@
 --     AllBegun       what is under way, reserved and joined is so of calls that have begun
 --     AllStand       each answer that was shown is that of its call's step, and the call has begun before it
 --     stands_run     so a run of events keeps that
-use Rattle.jc_world.proofs.Common.{◌≡◌, ℕ, zero, suc, true, false, cond, not, List, [], ◌∷◌, ◌++◌, length, take, slice_get, slice_set, Some, None, Option, option_map, zip, sym, refl, ap, ◌∙◌, subst, subst₂, inl, inr, append_assoc, append-nil, arith, take-append_seam, and_from, or_parts, nat_eq_equiv, take-append-le, filter-append, slice_get_within, get, get-empty, insert, remove, stripe_of, Caller, Config, Refusal, WriterFailed, Bytes, key_cmp, nothing_said, is_of_stripe, of_stripe, Op, Get, Out, Reply, callers_of, step_at, after_commit, State, JoinClaim, Reservation, Command, Outcome, Part, Shown, WorldEvent, CallState, new_call, has_number, op_for, is_going, has_too_many_keys, opened, going_on, with_met, settle, with_swept_keys, step_of, with_met_by, new_part, keys_reported, Happens, Step, Run, IsOpeningWorld, is_reopening, reopens, report_for, IsReplyOfStep, Stands, is_answer_at, Each, IsSoundWorld, Parts, JoinKey, join_cmp, join_key, Joins, WorldState, home, stripe_for, open_call, part_of, out_of_part, reported_now}
+use Rattle.jc_world.proofs.Common.{◌≡◌, ℕ, zero, suc, true, false, cond, not, List, [], ◌∷◌, ◌++◌, length, take, slice_get, slice_set, Some, None, Option, option_map, zip, sym, refl, ap, ◌∙◌, subst, subst₂, inl, inr, append_assoc, append-nil, arith, take-append_seam, and_from, or_parts, nat_eq_equiv, take-append-le, filter-append, slice_get_within, get, get-empty, insert, remove, stripe_of, Caller, Config, Refusal, WriterFailed, Bytes, key_cmp, nothing_said, is_of_stripe, of_stripe, Op, Get, Out, Reply, callers_of, step_at, after_commit, State, JoinClaim, Reservation, Command, Outcome, Part, Shown, WorldEvent, CallState, new_call, has_number, op_for, is_going, has_too_many_keys, opened, going_on, with_met, settle, with_swept_keys, step_of, with_met_by, new_part, keys_reported, Happens, Step, Run, fits, IsOpeningWorld, is_reopening, reopens, report_for, IsReplyOfStep, Stands, is_answer_at, Each, IsSoundWorld, Parts, JoinKey, join_cmp, join_key, Joins, WorldState, home, stripe_for, open_call, part_of, out_of_part, reported_now}
 use Rattle.jc_model.specs.declared.event.Event.{Event as StripeEvent}
-use Rattle.jc_world.proofs.Lemmas.{still_at, each_map, fact_found, each_pushed, each_filter, added, found_number, of_call-at, done_for, Left, each_settled, begun_shown, Taken, taken_of, taken_met, each_taken, join_at, joins_get, part_key, stripe_put, AnswersNone, IsStart, KeyChange, by_nothing, by_refusal, by_step, by_reservation, by_join, by_commit, by_withdrawal, by_answer, by_retry, key_change, StripeChange, by_key, beside_stripes, by_reopening, change_of, Move, no_move, quiet_move, step_move, reopening_move, move_step, each_report}
+use Rattle.jc_world.proofs.Lemmas.{still_at, each_map, fact_found, each_pushed, each_filter, added, found_number, of_call-at, done_for, Left, each_settled, begun_shown, Taken, taken_of, taken_met, each_taken, join_at, joins_get, part_key, stripe_put, AnswersNone, IsStart, KeyChange, by_nothing, by_refusal, by_step, by_reservation, by_join, by_commit, by_withdrawal, by_answer, by_retry, key_change, StripeChange, by_invalidation, by_key, beside_stripes, by_reopening, change_of, Move, move_at, no_move, quiet_move, loud_move, reopening_move, move_step, ends_as, TellsDrop, of_step, of_withdrawal, of_same, KeyEvent, plain, dropping, Drop, by_mark, each_report}
+use Rattle.jc_stripe.specs.Invalidating.{without_entry}
 use Rattle.jc_world.proofs.Maps.{keys_ordered, joins_ordered, each_put, each_left}
 use Rattle.jc_world.proofs.Opened.{no_part, no_join, sound_opening}
-use Rattle.jc_world.proofs.Sounding.{Laws, sound_step}
+use Rattle.jc_world.proofs.Sounding.{Laws, sound_step, sound_change, sound_event}
 
 -- 1. Places of lists.
 
@@ -39,7 +40,7 @@ later_same old new config order = record { config = config; more = []; order = o
 later_as : (w new : WorldState) (seen : Outcome) → Move w new seen → is_reopening seen ≡ false → IsLater w new
 later_as w new seen (no_move config stripes order) none = later_same w new config order
 later_as w new seen (quiet_move key from to there config stripes order cache) none = later_same w new config order
-later_as w new seen (step_move from to x config order shows) none = record { config = config; more = added from to; order = order }
+later_as w new seen (loud_move more config order changes) none = record { config = config; more = more; order = order }
 later_as w new seen (reopening_move reopens) none = let t : true ≡ false = sym reopens ∙ none in cc
 
 pub later_step : (w new : WorldState) (e : WorldEvent) (seen : Shown) → Step w e seen new → is_reopening seen.outcome ≡ false → IsLater w new
@@ -176,6 +177,7 @@ begun_key shows w new e key seen (by_commit call part from to x e_is part_is the
     subst (AllBegun shows) (sym is) (record { calls = calls_settled_begun shows w call key _ old; parts = parts_left shows w.parts key old.parts; joins = old.joins })
 begun_key shows w new e key seen (by_withdrawal call part from to e_is part_is there h is shows_it) old =
     subst (AllBegun shows) (sym is) (record { calls = old.calls; parts = parts_left shows w.parts key old.parts; joins = old.joins })
+begun_key shows w new e key seen (by_mark from to there out h reached is none ends) old = subst (AllBegun shows) (sym is) (record { calls = old.calls; parts = old.parts; joins = old.joins })
 begun_key shows w new e key seen (by_answer call join from to x e_is join_is there h home_is is shows_it ends) old =
     subst (AllBegun shows) (sym is) (record { calls = calls_settled_begun shows w call key _ old; parts = old.parts; joins = joins_left shows w.joins (call, key) old.joins })
 begun_key shows w new e key seen (by_retry call join from to e_is join_is there h is shows_it ends) old =
@@ -220,6 +222,11 @@ begun_happens shows w new (WorldEvent.Report call left fault) seen last h old =
     (λ v key part at waits o. record { calls = o.calls; parts = parts_put shows v.parts key _ (part_begun shows v call key part at o) o.parts; joins = o.joins })
     (with_met_by w call met) (keys_reported (reported_now w call h.0))
     (record { calls = each_taken call (λ x. Some (with_met met x)) (IsBegun shows) h.0 w.calls h.1 (λ v goes b. begun_taken shows h.0 v (taken_met met h.0 v goes) b) old.calls; parts = old.parts; joins = old.joins }))
+begun_happens shows w new (WorldEvent.Commit call key) seen last h old =
+    subst (AllBegun shows) (sym (ends_as w new call key h.0 h.2 h.4 seen.outcome h.5).4) (record { calls = calls_settled_begun shows w call key _ old; parts = parts_left shows w.parts key old.parts; joins = old.joins })
+begun_happens shows w new (WorldEvent.Withdraw call key) seen last h old =
+    subst (AllBegun shows) (sym h.7) (record { calls = old.calls; parts = parts_left shows w.parts key old.parts; joins = old.joins })
+begun_happens shows w new (WorldEvent.Invalidate key) seen last h old = subst (AllBegun shows) (sym h.5) (record { calls = old.calls; parts = old.parts; joins = old.joins })
 begun_happens shows w new (WorldEvent.Leave call) seen last h old =
     subst (AllBegun shows) (sym h.1) (record { calls = each_filter (IsBegun shows) (λ x. not (has_number call x)) w.calls old.calls; parts = old.parts; joins = old.joins })
 begun_happens shows w new (WorldEvent.Foreign key value) seen last h old = subst (AllBegun shows) (sym h.1) (record { calls = old.calls; parts = old.parts; joins = old.joins })
@@ -303,6 +310,7 @@ stands_key shows w new e key seen (by_commit call part from to x e_is part_is th
     (answered_at w new shows r.caller r.key r.op (out_of_part part) None x.reply x.stripe x.place to (home_is ∙ sym (ap (home w) key_is)) later (set_at w new _ key r.key from to key_is there is refl) sound
     (step_at (after_commit from r x.place) to r.caller r.key r.op (out_of_part part) (callers_of r.number from.joiners) (step_of x) h.1) (part_begun shows w call key part part_is begun)))
 stands_key shows w new e key seen (by_withdrawal call part from to e_is part_is there h is shows_it) later old sound begun = stands_silent new shows e seen.outcome (λ n p. ap (λ (s : Shown). is_answer_at n p s.outcome) shows_it)
+stands_key shows w new e key seen (by_mark from to there out h reached is none ends) later old sound begun = stands_silent new shows e seen.outcome none
 stands_key shows w new e key seen (by_answer call join from to x e_is join_is there h home_is is shows_it ends) later old sound begun =
     let same = join_at w call key join join_is old.joins in
     let step = h.2 in
@@ -313,15 +321,49 @@ stands_key shows w new e key seen (by_answer call join from to x e_is join_is th
     (ap (λ (s : State). slice_get s.history x.place) h.3 ∙ step.1) (begun.joins (call, key) join join_is)))
 stands_key shows w new e key seen (by_retry call join from to e_is join_is there h is shows_it ends) later old sound begun = stands_silent new shows e seen.outcome (λ n p. ap (is_answer_at n p) shows_it)
 
+-- an answer is that of its call's step, whatever was evicted after that
+stands_told : (shows : List (WorldEvent × Shown)) (w : WorldState) (e : WorldEvent) (seen shown : Shown) → TellsDrop seen shown → Stands w shows e shown.outcome → Stands w shows e seen.outcome
+stands_told shows w e seen shown (of_step x y sees shows_it reply stripe place) h =
+    subst (Stands w shows e) (sym sees) (go e (subst (Stands w shows e) shows_it h))
+  where
+    go : (e : WorldEvent) → Stands w shows e (Outcome.Stepped y) → Stands w shows e (Outcome.Stepped x)
+    go (WorldEvent.Start call key) k = subst (λ (z : Reply × ℕ × ℕ). IsReplyOfStep w shows call key z.0 z.1 z.2 None) (sym (λ i. (reply i, stripe i, place i))) k
+    go (WorldEvent.Commit call key) k = subst (λ (z : Reply × ℕ × ℕ). IsReplyOfStep w shows call key z.0 z.1 z.2 None) (sym (λ i. (reply i, stripe i, place i))) k
+    go e k = absurd k
+stands_told shows w e seen shown (of_withdrawal place sees shows_it) h = stands_silent w shows e seen.outcome (λ n p. ap (λ (s : Shown). is_answer_at n p s.outcome) sees)
+stands_told shows w e seen shown (of_same is) h = subst (λ (s : Shown). Stands w shows e s.outcome) (sym is) h
+
+shown_kept : (seen shown : Shown) → TellsDrop seen shown → is_reopening seen.outcome ≡ false → is_reopening shown.outcome ≡ false
+shown_kept seen shown (of_step x y sees shows_it reply stripe place) kept = ap is_reopening shows_it
+shown_kept seen shown (of_withdrawal place sees shows_it) kept = ap (λ (s : Shown). is_reopening s.outcome) shows_it
+shown_kept seen shown (of_same is) kept = ap (λ (s : Shown). is_reopening s.outcome) (sym is) ∙ kept
+
+-- a change at a key, and the eviction of an invalidated one
+later_dropped : (w mid new : WorldState) (key : Bytes) → Drop w mid new key → IsLater mid new
+later_dropped w mid new key d = record { config = ap (λ (v : WorldState). v.config) d.is; more = added d.from (without_entry d.from key); order = ap (λ (v : WorldState). v.order) d.is }
+
+stands_event : Laws → (shows : List (WorldEvent × Shown)) (w new : WorldState) (e : WorldEvent) (key : Bytes) (seen : Shown) → KeyEvent w new e key seen → fits w e ≡ true → is_reopening seen.outcome ≡ false → IsLater w new → IsSoundWorld w → IsSoundWorld new → AllBegun shows w
+    → Stands new shows e seen.outcome
+stands_event laws shows w new e key seen (plain k) fit kept later old sound begun = stands_key shows w new e key seen k later old sound begun
+stands_event laws shows w new e key seen (dropping mid shown k tells d end) fit kept later old sound begun =
+    let mid_sound = sound_change laws.stays w mid e key shown k fit old in
+    let stood = stands_key shows w mid e key shown k (later_as w mid shown.outcome (move_at w mid e key shown k) (shown_kept seen shown tells kept)) old mid_sound begun in
+    stands_told shows new e seen shown tells (stands_on mid new shows e shown.outcome (later_dropped w mid new key d) stood)
+
 -- of any event
-stands_step : (shows : List (WorldEvent × Shown)) (w new : WorldState) (e : WorldEvent) (seen : Shown) → Step w e seen new → is_reopening seen.outcome ≡ false → IsSoundWorld w → IsSoundWorld new → AllBegun shows w → Stands new shows e seen.outcome
-stands_step shows w new e seen (inl (fit, happens)) kept old sound begun = go (change_of w new e seen happens)
+stands_step : Laws → (shows : List (WorldEvent × Shown)) (w new : WorldState) (e : WorldEvent) (seen : Shown) → Step w e seen new → is_reopening seen.outcome ≡ false → IsSoundWorld w → IsSoundWorld new → AllBegun shows w → Stands new shows e seen.outcome
+stands_step laws shows w new e seen (inl (fit, happens)) kept old sound begun = go (change_of w new e seen fit happens old)
   where
     go : StripeChange w new e seen → Stands new shows e seen.outcome
-    go (by_key key k) = stands_key shows w new e key seen k (later_step w new e seen (inl (fit, happens)) kept) old sound begun
+    go (by_invalidation key v e_is k is) =
+        let between = sound_event laws.stays w v e key seen k fit old in
+        let later = later_step w new e seen (inl (fit, happens)) kept in
+        let before : IsLater w v = record { config = sym (ap (λ (x : WorldState). x.config) is) ∙ later.config; more = later.more; order = sym (ap (λ (x : WorldState). x.order) is) ∙ later.order } in
+        stands_on v new shows e seen.outcome (later_same v new (ap (λ (x : WorldState). x.config) is) (ap (λ (x : WorldState). x.order) is)) (stands_event laws shows w v e key seen k fit kept before old between begun)
+    go (by_key key k) = stands_event laws shows w new e key seen k fit kept (later_step w new e seen (inl (fit, happens)) kept) old sound begun
     go (beside_stripes m is config stripes order joins none ends) = stands_silent new shows e seen.outcome none
     go (by_reopening config e_is reopens is) = let t : true ≡ false = sym reopens ∙ kept in cc
-stands_step shows w new e seen (inr (unfit, shows_it, is)) kept old sound begun = stands_silent new shows e seen.outcome (λ n p. ap (λ (s : Shown). is_answer_at n p s.outcome) shows_it)
+stands_step laws shows w new e seen (inr (unfit, shows_it, is)) kept old sound begun = stands_silent new shows e seen.outcome (λ n p. ap (λ (s : Shown). is_answer_at n p s.outcome) shows_it)
 
 -- 6. A run.
 
@@ -351,7 +393,7 @@ stands_run laws shows w new (e ∷ es) (s ∷ ss) (mid, step, rest) none old beg
     let sound = sound_step laws w e s mid step old in
     let more = begun_step now w mid e s (length shows, seam_at shows [] (e, s)) step (all_begun_on shows ((e, s) ∷ []) w begun) in
     rw (append_assoc shows ((e, s) ∷ []) (zip es ss)) at
-    (stands_run laws now mid new es ss rest parts.1 sound more (stands_more shows w mid e s (later_step w mid e s step parts.0) stand (stands_step shows w mid e s step parts.0 old sound begun)))
+    (stands_run laws now mid new es ss rest parts.1 sound more (stands_more shows w mid e s (later_step w mid e s step parts.0) stand (stands_step laws shows w mid e s step parts.0 old sound begun)))
 stands_run laws shows w new es ss run none old begun stand = absurd run
 
 -- from an opening

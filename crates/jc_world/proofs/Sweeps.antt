@@ -2,7 +2,7 @@
 --     sweeps_left, sweep_found      what is left of a call once a key is settled, and once it has taken keys
 --     sweeps_happens                any event that fits
 use Rattle.jc_world.proofs.Common.{◌≡◌, ℕ, true, false, cond, not, ◌||◌, List, [], ◌∷◌, ◌++◌, is_some, ◌==◌, Some, None, Option, find, sym, refl, ap, ◌∙◌, subst, append-nil, eqb-true, and_parts, or_right, nat_eq_equiv, list_any-append, is_some-lookup, pointwise, list_any, list_all, lookup, option_or, stripe_of, Config, Refusal, Bytes, Op, Command, Shown, WorldEvent, at_each, SweepState, CallState, new_call, has_number, opened, going_on, with_met, settle, has_looked, has_looked_at_each, next_sweep, with_swept_keys, look, with_met_by, Happens, fits, Each, Sweeps, IsSoundWorld, WorldState, open_call}
-use Rattle.jc_world.proofs.Lemmas.{each_pushed, each_filter, same_bytes, Left, going_is, each_settled, opened_cases, each_taken, keys-at_each, lookup-found, KeyChange, by_nothing, by_refusal, by_step, by_reservation, by_join, by_commit, by_withdrawal, by_answer, by_retry, key_change, IsWhole}
+use Rattle.jc_world.proofs.Lemmas.{each_pushed, each_filter, same_bytes, Left, going_is, each_settled, opened_cases, each_taken, keys-at_each, lookup-found, KeyChange, by_nothing, by_refusal, by_step, by_reservation, by_join, by_commit, by_withdrawal, by_mark, by_answer, by_retry, key_change, IsWhole}
 use Rattle.jc_world.proofs.StripeKeys.{all_here}
 
 -- 1. One call.
@@ -63,7 +63,7 @@ sweeps_settled : (w : WorldState) (call : ℕ) (key : Bytes) (met : Option Refus
 sweeps_settled w call key met old = each_settled call key met (Sweeps w.config) w.calls (sweeps_left w.config call key) old
 
 -- by the kind of the change at a key
-sweeps_key : (w new : WorldState) (e : WorldEvent) (key : Bytes) (seen : Shown) → KeyChange w new e key seen → AllSweep w → AllSweep new
+pub sweeps_key : (w new : WorldState) (e : WorldEvent) (key : Bytes) (seen : Shown) → KeyChange w new e key seen → AllSweep w → AllSweep new
 sweeps_key w new e key seen (by_nothing is none ends) old = subst AllSweep (sym is) old
 sweeps_key w new e key seen (by_refusal u op refusal may is none ends) old = subst AllSweep (sym is) (sweeps_settled w u.caller.call key _ old)
 sweeps_key w new e key seen (by_step u op from to x may there h home_is is shows ends) old = subst AllSweep (sym is) (sweeps_settled w u.caller.call key _ old)
@@ -71,6 +71,7 @@ sweeps_key w new e key seen (by_reservation u op from to p r may there h is none
 sweeps_key w new e key seen (by_join u op from to join may there h is none ends) old = subst AllSweep (sym is) old
 sweeps_key w new e key seen (by_commit call part from to x e_is part_is there h home_is is shows) old = subst AllSweep (sym is) (sweeps_settled w call key _ old)
 sweeps_key w new e key seen (by_withdrawal call part from to e_is part_is there h is shows) old = subst AllSweep (sym is) old
+sweeps_key w new e key seen (by_mark from to there out h reached is none ends) old = subst AllSweep (sym is) old
 sweeps_key w new e key seen (by_answer call join from to x e_is join_is there h home_is is shows ends) old = subst AllSweep (sym is) (sweeps_settled w call key _ old)
 sweeps_key w new e key seen (by_retry call join from to e_is join_is there h is shows ends) old = subst AllSweep (sym is) old
 
@@ -101,5 +102,8 @@ sweeps_happens w new (WorldEvent.Foreign key value) seen fit h back old = subst 
 sweeps_happens w new (WorldEvent.Read call key) seen fit h back old = subst AllSweep (sym h.3) old.sweeps
 sweeps_happens w new (WorldEvent.Say call key answer) seen fit h back old = subst AllSweep (sym h.3) old.sweeps
 sweeps_happens w new (WorldEvent.Process call key source calls fail) seen fit h back old = subst AllSweep (sym h.3) old.sweeps
+sweeps_happens w new (WorldEvent.Commit call key) seen fit h back old = (back tt).sweeps
+sweeps_happens w new (WorldEvent.Withdraw call key) seen fit h back old = (back tt).sweeps
+sweeps_happens w new (WorldEvent.Invalidate key) seen fit h back old = (back tt).sweeps
 sweeps_happens w new (WorldEvent.Reopen config) seen fit h back old = (back tt).sweeps
 sweeps_happens w new e seen fit h back old = let k = key_change w new e seen refl h in sweeps_key w new e k.0 seen k.1 old.sweeps

@@ -2,9 +2,10 @@
 --     told_step, told_run    over an event, and over a run that doesn't open the cache again
 --     run_of_true            such a run is one
 --     coherent_run           and what is cached for the key then is the store's
-use Rattle.jc_world.proofs.Common.{Change, ◌≡◌, Bool, true, false, cond, ◌&&◌, ◌||◌, List, [], ◌∷◌, is_some, is_none, slice_get, slice_set, Some, None, Option, option_map, sym, refl, ap, ◌∙◌, subst, inl, inr, and_right, or_parts, texts_ties, nat_list_cmp_total, eq_by_cmp, get, insert, remove, get-insert, get-remove, get-with_entry, WriterFailed, Bytes, Cache, entry_at, with_entry, key_cmp, callers_of, after_commit, Steps, State, Part, Shown, WorldEvent, Happens, Step, Run, reopens, is_reopening, with_settled, with_phase, with_stripe, new_part, with_new_part, with_join, without_join, without_part, with_met_by, step_of, fault_in, read_answer, load_from, run_result, after_answer, after_change, after_report, after_process, report_for, keys_reported, reported_now, out_of_part, Agrees, IsSoundWorld, Parts, WorldState, home, stripe_for, entry_in, cached_entry, has_any, is_foreign, is_untold, with_foreign, without_foreign, with_doubt, is_misled, has_progress, is_agreed, with_commit, and_parts, IsCoherentAt, all_hold}
+use Rattle.jc_world.proofs.Common.{Change, ◌≡◌, Bool, true, false, cond, ◌&&◌, ◌||◌, List, [], ◌∷◌, is_some, is_none, slice_get, slice_set, Some, None, Option, option_map, sym, refl, ap, ◌∙◌, subst, inl, inr, and_right, or_parts, texts_ties, nat_list_cmp_total, eq_by_cmp, get, insert, remove, get-insert, get-remove, get-with_entry, WriterFailed, Bytes, Cache, entry_at, with_entry, key_cmp, callers_of, after_commit, Steps, State, Part, Shown, WorldEvent, Happens, Step, Run, fits, reopens, is_reopening, with_settled, with_phase, with_stripe, new_part, with_new_part, with_join, without_join, without_part, with_met_by, step_of, fault_in, read_answer, load_from, run_result, after_answer, after_change, after_report, after_process, report_for, keys_reported, reported_now, out_of_part, Agrees, IsSoundWorld, Parts, WorldState, home, stripe_for, entry_in, cached_entry, has_any, is_foreign, is_untold, with_foreign, without_foreign, with_doubt, is_misled, has_progress, is_agreed, with_commit, and_parts, IsCoherentAt, all_hold}
 use Rattle.jc_world.specs.Told.{is_foreign_write, is_misled_at, RunsTrueTo}
-use Rattle.jc_world.proofs.Lemmas.{at_stripe, split, tied, each_report, KeyChange, by_nothing, by_refusal, by_step, by_reservation, by_join, by_commit, by_withdrawal, by_answer, by_retry, key_change, Move, no_move, quiet_move, step_move, reopening_move, move_step}
+use Rattle.jc_world.proofs.Lemmas.{at_stripe, split, tied, each_report, KeyChange, by_nothing, by_refusal, by_step, by_reservation, by_join, by_commit, by_withdrawal, by_mark, by_answer, by_retry, key_change, KeyEvent, plain, dropping, end_event, invalid_event, Move, no_move, quiet_move, loud_move, reopening_move, move_step, Drop, with_dropped, dropped_none}
+use Rattle.jc_stripe.specs.Invalidating.{without_entry}
 use Rattle.jc_world.proofs.Holding.{is_part}
 use Rattle.jc_world.proofs.Kept.{agrees_begun, agrees_other, held_at, coherent}
 use Rattle.jc_world.proofs.Cleared.{nothing_agrees}
@@ -161,6 +162,9 @@ told_key w new e key q seen (by_commit call part from to x e_is part_is there h 
 told_key w new e key q seen (by_withdrawal call part from to e_is part_is there h is shows) on true_to old told =
     let m : WorldState = without_part (with_stripe w key to) key in
     subst (ToldAt q) (sym is) (stays w m q (λ f. f) (none_new w m q (set_none w key q from to there (λ none. ap (λ (s : State). entry_at s.cache q) h.1 ∙ none)) (part_gone w.parts key q)) told)
+told_key w new e key q seen (by_mark from to there out h reached is none ends) on true_to old told =
+    let m : WorldState = with_stripe w key to in
+    subst (ToldAt q) (sym is) (stays w m q (λ f. f) (none_new w m q (set_none w key q from to there (λ none. ap (λ (s : State). entry_at s.cache q) h ∙ none)) (λ p. p)) told)
 told_key w new e key q seen (by_answer call join from to x e_is join_is there h home_is is shows ends) on true_to old told =
     let m : WorldState = with_settled (without_join (with_stripe w key to) call key) call key (fault_in x.reply) in
     subst (ToldAt q) (sym is) (stays w m q (λ f. f) (none_new w m q (set_none w key q from to there (λ none. ap (λ (s : State). entry_at s.cache q) h.3 ∙ none)) (λ p. p)) told)
@@ -168,32 +172,49 @@ told_key w new e key q seen (by_retry call join from to e_is join_is there h is 
     let m : WorldState = without_join (with_stripe w key to) call key in
     subst (ToldAt q) (sym is) (stays w m q (λ f. f) (none_new w m q (set_none w key q from to there (λ none. ap (λ (s : State). entry_at s.cache q) h.2 ∙ none)) (λ p. p)) told)
 
-told_happens : (w new : WorldState) (e : WorldEvent) (seen : Shown) (q : Bytes) → Happens w e seen new → is_reopening seen.outcome ≡ false → is_foreign_write q e ≡ false → w.config.write_through ≡ true → is_misled_at w q ≡ false → IsSoundWorld w → ToldAt q w → ToldAt q new
-told_happens w new (WorldEvent.Call call session command) seen q h none apart on true_to old told = subst (ToldAt q) (sym h.1) told
-told_happens w new (WorldEvent.Look call stripe) seen q h none apart on true_to old told = subst (ToldAt q) (sym h.9) told
-told_happens w new (WorldEvent.Read call key) seen q h none apart on true_to old told =
+-- the eviction of an invalidated key
+told_dropped : (w mid new : WorldState) (key q : Bytes) → Drop w mid new key → ToldAt q mid → ToldAt q new
+told_dropped w mid new key q d told =
+    subst (ToldAt q) (sym d.is)
+    (stays mid (with_dropped mid key d.from d.told) q (still_none mid.foreign key q d.told)
+    (none_new mid (with_dropped mid key d.from d.told) q (set_none mid key q d.from (without_entry d.from key) d.there (dropped_none d.from key q)) (λ p. p)) told)
+
+told_event : (w new : WorldState) (e : WorldEvent) (key q : Bytes) (seen : Shown) → KeyEvent w new e key seen → w.config.write_through ≡ true → is_misled_at w q ≡ false → IsSoundWorld w → ToldAt q w → ToldAt q new
+told_event w new e key q seen (plain k) on true_to old told = told_key w new e key q seen k on true_to old told
+told_event w new e key q seen (dropping mid shown k tells d end) on true_to old told = told_dropped w mid new key q d (told_key w mid e key q shown k on true_to old told)
+
+told_happens : (w new : WorldState) (e : WorldEvent) (seen : Shown) (q : Bytes) → fits w e ≡ true → Happens w e seen new → is_reopening seen.outcome ≡ false → is_foreign_write q e ≡ false → w.config.write_through ≡ true → is_misled_at w q ≡ false → IsSoundWorld w → ToldAt q w → ToldAt q new
+told_happens w new (WorldEvent.Call call session command) seen q fit h none apart on true_to old told = subst (ToldAt q) (sym h.1) told
+told_happens w new (WorldEvent.Look call stripe) seen q fit h none apart on true_to old told = subst (ToldAt q) (sym h.9) told
+told_happens w new (WorldEvent.Read call key) seen q fit h none apart on true_to old told =
     subst (ToldAt q) (sym h.3) (parted w (after_answer w key h.0 (read_answer (entry_at w.store key))) q key h.0 _ (is_part (get w.parts key) call h.0 h.1) (λ f. f) refl refl told)
-told_happens w new (WorldEvent.Say call key answer) seen q h none apart on true_to old told =
+told_happens w new (WorldEvent.Say call key answer) seen q fit h none apart on true_to old told =
     subst (ToldAt q) (sym h.3) (parted w (after_answer w key h.0 answer) q key h.0 _ (is_part (get w.parts key) call h.0 h.1) (λ f. f) refl refl told)
-told_happens w new (WorldEvent.Change call key) seen q h none apart on true_to old told =
+told_happens w new (WorldEvent.Change call key) seen q fit h none apart on true_to old told =
     subst (ToldAt q) (sym h.5) (parted w (after_change w key h.0 h.1) q key h.0 _ (is_part (get w.parts key) call h.0 h.2) (still_none w.foreign key q true) refl refl told)
-told_happens w new (WorldEvent.Report call left fault) seen q h none apart on true_to old told =
+told_happens w new (WorldEvent.Report call left fault) seen q fit h none apart on true_to old told =
     let answer = report_for h.0.kind left fault in
     subst (ToldAt q) (sym h.3)
     (each_report (ToldAt q) call answer (λ v key part at waits t. parted v (after_report v key part (answer key)) q key part _ (is_part (get v.parts key) call part at) (λ f. f) refl refl t)
     (with_met_by w call (option_map WriterFailed fault)) (keys_reported (reported_now w call h.0)) told)
-told_happens w new (WorldEvent.Process call key source calls fail) seen q h none apart on true_to old told =
+told_happens w new (WorldEvent.Process call key source calls fail) seen q fit h none apart on true_to old told =
     subst (ToldAt q) (sym h.3)
     (parted w (after_process w key h.0 (run_result h.0.reservation (load_from source (entry_at w.store key)) calls fail)) q key h.0 _ (is_part (get w.parts key) call h.0 h.1) (λ f. f) refl refl told)
-told_happens w new (WorldEvent.Leave call) seen q h none apart on true_to old told = subst (ToldAt q) (sym h.1) told
-told_happens w new (WorldEvent.Foreign key value) seen q h none apart on true_to old told =
+told_happens w new (WorldEvent.Leave call) seen q fit h none apart on true_to old told = subst (ToldAt q) (sym h.1) told
+told_happens w new (WorldEvent.Foreign key value) seen q fit h none apart on true_to old told =
     let m : WorldState = record w { store = with_entry w.store key value; foreign = with_foreign w.foreign key; is_fresh = false } in
     subst (ToldAt q) (sym h.1) (stays w m q (other_none w.foreign key q (sym (texts_ties q key) ∙ apart)) (λ a. a) told)
-told_happens w new (WorldEvent.Reopen config) seen q h none apart on true_to old told = let t : true ≡ false = ap (λ (s : Shown). is_reopening s.outcome) (sym h.0) ∙ none in cc
-told_happens w new e seen q h none apart on true_to old told = let k = key_change w new e seen refl h in told_key w new e k.0 q seen k.1 on true_to old told
+told_happens w new (WorldEvent.Reopen config) seen q fit h none apart on true_to old told = let t : true ≡ false = ap (λ (s : Shown). is_reopening s.outcome) (sym h.0) ∙ none in cc
+told_happens w new (WorldEvent.Start call key) seen q fit h none apart on true_to old told =
+    let k = key_change w new (WorldEvent.Start call key) seen refl h in told_key w new (WorldEvent.Start call key) k.0 q seen k.1 on true_to old told
+told_happens w new (WorldEvent.PickUp call key) seen q fit h none apart on true_to old told =
+    let k = key_change w new (WorldEvent.PickUp call key) seen refl h in told_key w new (WorldEvent.PickUp call key) k.0 q seen k.1 on true_to old told
+told_happens w new (WorldEvent.Invalidate key) seen q fit h none apart on true_to old told =
+    let k = invalid_event w new key seen fit h in subst (ToldAt q) (sym k.2) (told_event w k.0 (WorldEvent.Invalidate key) key q seen k.1 on true_to old told)
+told_happens w new e seen q fit h none apart on true_to old told = let k = end_event w new e seen refl fit h old in told_event w new e k.0 q seen k.1 on true_to old told
 
 told_step : (w new : WorldState) (e : WorldEvent) (seen : Shown) (q : Bytes) → Step w e seen new → is_reopening seen.outcome ≡ false → is_foreign_write q e ≡ false → w.config.write_through ≡ true → is_misled_at w q ≡ false → IsSoundWorld w → ToldAt q w → ToldAt q new
-told_step w new e seen q (inl (fit, happens)) none apart on true_to old told = told_happens w new e seen q happens none apart on true_to old told
+told_step w new e seen q (inl (fit, happens)) none apart on true_to old told = told_happens w new e seen q fit happens none apart on true_to old told
 told_step w new e seen q (inr (unfit, shows, is)) none apart on true_to old told = subst (ToldAt q) (sym is) told
 
 -- 4. A run.
@@ -205,7 +226,7 @@ config_stays w new e seen step none = go (move_step w new e seen step)
     go : Move w new seen.outcome → new.config ≡ w.config
     go (no_move config stripes order) = config
     go (quiet_move key from to there config stripes order cache) = config
-    go (step_move from to x config order shows) = config
+    go (loud_move more config order changes) = config
     go (reopening_move reopens) = let t : true ≡ false = sym reopens ∙ none in cc
 
 pub config_run : (w new : WorldState) (es : List WorldEvent) (ss : List Shown) → Run w es ss new → reopens ss ≡ false → new.config ≡ w.config

@@ -5,7 +5,7 @@
 --     own_call        a call's own number
 --     fit_together    what fits at keys that differ fits one after the other
 use Rattle.jc_world.proofs.Common.{◌≡◌, ℕ, Bool, true, false, cond, not, ◌&&◌, ◌||◌, List, [], ◌∷◌, ◌++◌, map, is_some, is_none, IsSomeAnd, ◌==◌, Some, None, Option, find, sym, refl, ap, ◌∙◌, subst, inl, append-nil, and_parts, and_from, or_right, eqb-true, nat_eq_equiv, nat_list_eq_equiv, IsDistinct-head, IsDistinct-tail, pointwise, get, insert, remove, list_all, AllByRecursion, IsDistinct, Refusal, is_among, Bytes, Cache, is_load_given, Op, JoinClaim, Part, Premises, Shown, WorldEvent, CallState, has_number, op_at, open_keys, settle, Happens, AllFit, is_free, may_start, may_leave, fits, IsCallOf, IsSoundWorld, at_call, key_at, FitTogether, JoinKey, join_key, Parts, WorldState, open_call, of_call, part_of, has_progress, waits_for_load, has_join, is_joined}
-use Rattle.jc_world.proofs.Lemmas.{is_some_and, same_bytes, still_called, KeyChange, by_nothing, by_refusal, by_step, by_reservation, by_join, by_commit, by_withdrawal, by_answer, by_retry, start_change, end_change, pick_change, some_of}
+use Rattle.jc_world.proofs.Lemmas.{is_some_and, same_bytes, still_called, KeyChange, by_nothing, by_refusal, by_step, by_reservation, by_join, by_commit, by_withdrawal, by_mark, by_answer, by_retry, start_change, pick_change, ends_as, some_of}
 use Rattle.jc_world.proofs.Fitting.{none_fit, fits_then, one_fits, unjoined_held}
 use Rattle.jc_world.proofs.Maps.{keys_ordered, joins_ordered, get-beside, get-left, get-gone}
 use Rattle.jc_world.proofs.Sounding.{Laws, sound_step}
@@ -101,6 +101,7 @@ keeps_key w mid call e key q seen (by_commit other part from to x e_is part_is t
     subst (λ m. Keeps w m call q) (sym is) (record { called = called_settled w call other q key _ apart; part = part_without w.parts q key call apart; joined = refl })
 keeps_key w mid call e key q seen (by_withdrawal other part from to e_is part_is there h is shows) apart fit old =
     subst (λ m. Keeps w m call q) (sym is) (record { called = λ session op h. h; part = part_without w.parts q key call apart; joined = refl })
+keeps_key w mid call e key q seen (by_mark from to there out h reached is none ends) apart fit old = subst (λ m. Keeps w m call q) (sym is) (record { called = λ session op h. h; part = refl; joined = refl })
 keeps_key w mid call e key q seen (by_answer other join from to x e_is join_is there h home_is is shows ends) apart fit old =
     subst (λ m. Keeps w m call q) (sym is) (record { called = called_settled w call other q key _ apart; part = refl; joined = join_less w call other q key apart })
 keeps_key w mid call e key q seen (by_retry other join from to e_is join_is there h is shows ends) apart fit old =
@@ -118,9 +119,10 @@ keeps_other w mid call (WorldEvent.Read other k) seen key q at apart fit h old =
 keeps_other w mid call (WorldEvent.Say other k answer) seen key q at apart fit h old = subst (λ m. Keeps w m call q) (sym h.3) (keeps_told w call k q _ _ _ (λ same. apart (same ∙ (named call other k key at).1)))
 keeps_other w mid call (WorldEvent.Process other k source calls fail) seen key q at apart fit h old = subst (λ m. Keeps w m call q) (sym h.3) (keeps_told w call k q _ _ _ (λ same. apart (same ∙ (named call other k key at).1)))
 keeps_other w mid call (WorldEvent.Commit other k) seen key q at apart fit h old =
-    keeps_key w mid call (WorldEvent.Commit other k) k q seen (end_change w mid other k h.0 h.2 h.4 seen.outcome seen refl h.1 h.3 h.5) (λ same. apart (same ∙ (named call other k key at).1)) fit old
+    let beside : q ≡ k → ⊥ = λ same. apart (same ∙ (named call other k key at).1) in
+    subst (λ m. Keeps w m call q) (sym (ends_as w mid other k h.0 h.2 h.4 seen.outcome h.5).4) (record { called = called_settled w call other q k _ beside; part = part_without w.parts q k call beside; joined = refl })
 keeps_other w mid call (WorldEvent.Withdraw other k) seen key q at apart fit h old =
-    keeps_key w mid call (WorldEvent.Withdraw other k) k q seen (by_withdrawal other h.0 h.2 h.4 refl h.1 h.3 h.5 h.7 h.6) (λ same. apart (same ∙ (named call other k key at).1)) fit old
+    subst (λ m. Keeps w m call q) (sym h.7) (record { called = λ session op h. h; part = part_without w.parts q k call (λ same. apart (same ∙ (named call other k key at).1)); joined = refl })
 keeps_other w mid call (WorldEvent.PickUp other k) seen key q at apart fit h old =
     keeps_key w mid call (WorldEvent.PickUp other k) k q seen (pick_change w mid other k h.0 h.2 h.4 seen.outcome seen refl h.1 h.3 h.5) (λ same. apart (same ∙ (named call other k key at).1)) fit old
 keeps_other w mid call e seen key q at apart fit h old = cc

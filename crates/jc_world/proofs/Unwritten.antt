@@ -5,7 +5,7 @@
 use Rattle.jc_world.proofs.Common.{Change, Claim, after_answer, after_process, after_report, and_from, foreign_committed, has_changed, insert, is_agreed, is_true_load, is_true_report, load_from, part_of, remove, with_doubt, run_result, WriteAnswer, ProcessResult, LoadAnswer, State, and_parts, not, is_misled, get, Some, reopens, read_answer, new_part, ◌&&◌, ◌||◌, Parts, are_honest, Part, ◌≡◌, ◌⊎◌, ℕ, Bool, true, false, cond, List, [], ◌∷◌, ◌++◌, is_none, None, option_map, sym, refl, ap, ◌∙◌, subst, subst₂, inl, inr, or_parts, list_any, empty, get-empty, same_cache, get-with_entry, Config, WriterFailed, Bytes, Cache, entry_at, key_cmp, Shown, WorldEvent, Happens, Step, Run, with_met_by, report_for, keys_reported, reported_now, after_reopening, Coherent, IsOpeningWorld, is_reopening, WorldState, cached_entry, without_foreign}
 use Rattle.jc_world.specs.Openings.{is_by_others, LastOpening, EndsInReopening}
 use Rattle.jc_world.specs.Reopening.{foreign_reopened}
-use Rattle.jc_world.proofs.Lemmas.{split, each_report, KeyChange, by_nothing, by_refusal, by_step, by_reservation, by_join, by_commit, by_withdrawal, by_answer, by_retry, key_change}
+use Rattle.jc_world.proofs.Lemmas.{split, each_report, KeyChange, by_nothing, by_refusal, by_step, by_reservation, by_join, by_commit, by_withdrawal, by_mark, by_answer, by_retry, key_change, ends_as}
 use Rattle.jc_world.proofs.Reopened.{stored_opened}
 use Rattle.jc_world.proofs.Runs.{run-last}
 use Rattle.jc_world.proofs.Holding.{is_part}
@@ -77,6 +77,7 @@ unwritten_key w new e key seen (by_commit call part from to x e_is part_is there
     record { none = left_committed w key part to (o.honest key part (is_part (get w.parts key) call part part_is)) o.none; honest = left_honest w.parts key o.honest })
 unwritten_key w new e key seen (by_withdrawal call part from to e_is part_is there h is shows) old =
     subst Unwritten (sym is) (λ hold. let o = old hold in record { none = o.none; honest = left_honest w.parts key o.honest })
+unwritten_key w new e key seen (by_mark from to there out h reached is none ends) old = subst Unwritten (sym is) (λ hold. let o = old hold in record { none = o.none; honest = o.honest })
 unwritten_key w new e key seen (by_answer call join from to x e_is join_is there h home_is is shows ends) old = subst Unwritten (sym is) (λ hold. let o = old hold in record { none = o.none; honest = o.honest })
 unwritten_key w new e key seen (by_retry call join from to e_is join_is there h is shows ends) old = subst Unwritten (sym is) (λ hold. let o = old hold in record { none = o.none; honest = o.honest })
 
@@ -118,6 +119,13 @@ unwritten_happens w new (WorldEvent.Report call left fault) seen none ours h old
     (each_report Unwritten call answer (λ v key part at waits o. unwritten_report v call key part (answer key) at o) (with_met_by w call (option_map WriterFailed fault)) (keys_reported (reported_now w call h.0))
     (λ hold. let o = old hold in record { none = o.none; honest = o.honest }))
 unwritten_happens w new (WorldEvent.Call call session command) seen none ours h old = subst Unwritten (sym h.1) (λ hold. let o = old hold in record { none = o.none; honest = o.honest })
+unwritten_happens w new (WorldEvent.Commit call key) seen none ours h old =
+    subst Unwritten (sym (ends_as w new call key h.0 h.2 h.4 seen.outcome h.5).4) (λ hold.
+    let o = old hold in
+    record { none = left_committed w key h.0 h.4 (o.honest key h.0 (is_part (get w.parts key) call h.0 h.1)) o.none; honest = left_honest w.parts key o.honest })
+unwritten_happens w new (WorldEvent.Withdraw call key) seen none ours h old =
+    subst Unwritten (sym h.7) (λ hold. let o = old hold in record { none = o.none; honest = left_honest w.parts key o.honest })
+unwritten_happens w new (WorldEvent.Invalidate key) seen none ours h old = subst Unwritten (sym h.5) (λ hold. let o = old hold in record { none = o.none; honest = o.honest })
 unwritten_happens w new (WorldEvent.Leave call) seen none ours h old = subst Unwritten (sym h.1) (λ hold. let o = old hold in record { none = o.none; honest = o.honest })
 unwritten_happens w new (WorldEvent.Foreign key value) seen none ours h old = let t : true ≡ false = ours in cc
 unwritten_happens w new (WorldEvent.Reopen config) seen none ours h old = let t : true ≡ false = ap (λ (s : Shown). is_reopening s.outcome) (sym h.0) ∙ none in cc

@@ -1,12 +1,14 @@
 -- Runs in which memory was there are determined by their events.
---     eviction_has_memory    the cause of an eviction, if one was made, isn't that an allocation failed
+--     cause_has_memory       the cause of an eviction isn't that an allocation failed
+--     eviction_has_memory    that is so of an eviction, if one was made
 --     has_memory             the same of what was shown: no new entry was lost because an allocation for it failed
 --     have_memory            the same of all that was shown
 --     RunsAreDetermined      two runs of the same events from one world, in both of which memory was there, have shown the same and
 --                            end in the same world
-use Rattle.std.specs.Prelude.{◌≡◌, List, Bool, true, Option, None, Some}
+use Rattle.std.specs.Prelude.{◌≡◌, List, Bool, true, false, Option, None, Some}
 use Rattle.std.specs.List.{list_all}
-use Rattle.jc_model.specs.Reader.{is_full_cause}
+use Rattle.jc_model.specs.declared.event.Cause.{Cause}
+use Rattle.jc_model.specs.declared.event.Cause.TheVariants.{Full, Memory, Invalidated}
 use Rattle.jc_stripe.specs.declared.begun.Eviction.{Eviction}
 use Rattle.jc_world.specs.declared.event.Outcome.{Outcome}
 use Rattle.jc_world.specs.declared.event.Outcome.TheVariants as outcome
@@ -15,9 +17,14 @@ use Rattle.jc_world.specs.declared.event.WorldEvent.{WorldEvent}
 use Rattle.jc_world.specs.World.{WorldState}
 use Rattle.jc_world.specs.Events.{Run}
 
+abbrev pub cause_has_memory : Cause → Bool
+cause_has_memory Full = true
+cause_has_memory Memory = false
+cause_has_memory Invalidated = true
+
 abbrev pub eviction_has_memory : Option Eviction → Bool
 eviction_has_memory None = true
-eviction_has_memory (Some e) = is_full_cause e.cause
+eviction_has_memory (Some e) = cause_has_memory e.cause
 
 -- only a step shows an eviction of its own key
 abbrev pub has_memory : Outcome → Bool

@@ -26,7 +26,7 @@
 --     ReservesAs                  a first phase that reserves its key, with what is shown of it
 --     StartsAs                    a first phase, by what is shown of it
 --     RefusesAs                   a refusal is shown as one that a call of a kind is to try again, or as its last for the key
---     Ends                        a last phase
+--     EndsAs                      a last phase, by what is shown of it
 --     Picks                       a pick-up, by what is shown of it
 --     with_progress               the world with another progress of a reserved key
 --     with_heard                  the progress once whoever was asked has answered, honestly or not
@@ -47,6 +47,8 @@
 --     progress_after              the progress once the processor has run, by what the writer is then asked for
 --     after_process               the world once the processor has run
 --     shown_process               what a processor's run shows
+--     eviction_place              where the stripe evicted an invalidated key, if its history is longer by that
+--     invalidated_as              what is shown of an invalidation: a reserved key is marked, and any other one's entry evicted, if there is one
 --     Happens                     what an event that fits may show and leave. A call of many keys is over with the event after which none of
 --                                 its keys is open and no look is left; a call that leaves, or is refused whole, is given up instead
 --     Step                        one event: one that doesn't fit is shown as a fault and changes nothing
@@ -54,7 +56,7 @@
 --     RunAppending                the same, and what they show is appended to a list
 --     is_fit, all_fit             an outcome is not the fault of an event that doesn't fit, and none of those that are shown is
 --     AllFit                      whatever the world may choose, each of these events fits when it comes
-use Rattle.std.specs.Prelude.{◌≡◌, ◌⊎◌, ℕ, List, [], ◌∷◌, ◌++◌, length, drop, Bool, true, false, not, ◌||◌, Option, None, Some, is_none, map, option_map, slice_get, slice_set, if◌then◌else◌}
+use Rattle.std.specs.Prelude.{◌≡◌, ◌⊎◌, ℕ, List, [], ◌∷◌, ◌++◌, length, drop, Bool, true, false, not, ◌||◌, Option, None, Some, is_none, nat_lt, map, option_map, slice_get, slice_set, if◌then◌else◌}
 use Rattle.std.specs.List.{filter_map, list_all}
 use Rattle.std.specs.FinMap.{get, insert, remove}
 use Rattle.jc_types.specs.declared.caller.Caller.{Caller}
@@ -83,15 +85,17 @@ use Rattle.jc_stripe.specs.declared.ticket.First.TheVariants.{Nobody, Loader, Wr
 use Rattle.jc_stripe.specs.declared.ticket.Reservation.{Reservation}
 use Rattle.jc_stripe.specs.Polled as polled
 use Rattle.jc_stripe.specs.Tickets.{TicketClaim, Claim, claim_of, change_asked, JoinClaim, entry_seen, is_loadable}
-use Rattle.jc_stripe.specs.State.{State}
+use Rattle.jc_stripe.specs.State.{State, is_reserved}
 use Rattle.jc_stripe.specs.Keys.{AreKeys}
-use Rattle.jc_stripe.specs.Phases.{Begins, Commits, Withdraws, PicksUp}
+use Rattle.jc_stripe.specs.Phases.{Begins, PicksUp}
+use Rattle.jc_stripe.specs.Invalidating.{Ends, GivesBack, Invalidates}
 use Rattle.jc_world.specs.declared.command.CallKind.{CallKind}
 use Rattle.jc_world.specs.declared.event.WorldEvent.{WorldEvent}
 use Rattle.jc_world.specs.declared.event.WorldEvent.TheVariants as event
 use Rattle.jc_world.specs.declared.event.Outcome.{Outcome}
 use Rattle.jc_world.specs.declared.event.Outcome.TheVariants as outcome
 use Rattle.jc_world.specs.declared.event.Over.{Over}
+use Rattle.jc_world.specs.declared.event.EvictionPlace.{EvictionPlace}
 use Rattle.jc_world.specs.declared.event.Shown.{Shown}
 use Rattle.jc_world.specs.declared.event.Stepped.{Stepped}
 use Rattle.jc_world.specs.declared.reports.ReportedKey.{ReportedKey}
@@ -246,12 +250,12 @@ RefusesAs kind (outcome.Refused refusal) = keeps_open kind refusal ≡ false
 RefusesAs kind (outcome.PutOff refusal) = keeps_open kind refusal ≡ true
 RefusesAs kind o = Unit {0}
 
-abbrev pub Ends : WorldState → ℕ → Bytes → Part → State → State → Outcome → WorldState → Type 0
-Ends old call key part from to (outcome.Stepped seen) new =
-    Commits from part.reservation (out_of_part part) (step_of seen) to
+abbrev pub EndsAs : WorldState → ℕ → Bytes → Part → State → State → Outcome → WorldState → Type 0
+EndsAs old call key part from to (outcome.Stepped seen) new =
+    Ends from part.reservation (out_of_part part) (step_of seen) to
     × (seen.stripe ≡ home old key)
     × (new ≡ with_commit old key part from to call (fault_in seen.reply))
-Ends old call key part from to o new = ⊥
+EndsAs old call key part from to o new = ⊥
 
 -- of a call that has joined the load of a key: its answer, with which the key is settled, or that it is to retry, or nothing yet
 abbrev pub Picks : WorldState → ℕ → Bytes → JoinClaim → State → State → Outcome → WorldState → Type 0
@@ -386,6 +390,18 @@ shown_process config r answer calls fail =
       change = change_due config done;
     }
 
+-- the eviction of an invalidated key, if the stripe with this number has appended it
+abbrev pub eviction_place : ℕ → State → State → Option EvictionPlace
+eviction_place stripe from to =
+    if nat_lt (length from.history) (length to.history)
+    then Some (record { stripe = stripe; place = length from.history })
+    else None
+
+-- what an invalidation shows
+abbrev pub invalidated_as : ℕ → Bytes → State → State → Outcome
+invalidated_as stripe key from to =
+    if is_reserved from key then outcome.Marked else outcome.Invalidated (eviction_place stripe from to)
+
 -- 4. What an event that fits shows and leaves.
 
 abbrev pub Happens : WorldState → WorldEvent → Shown → WorldState → Type 0
@@ -427,13 +443,13 @@ Happens old (event.Process call key source calls fail) seen new =
 Happens old (event.Commit call key) seen new =
     (part : Part) × (part_of old call key ≡ Some part)
     × (from : State) × (stripe_for old key ≡ Some from) × (to : State)
-    × Ends old call key part from to seen.outcome new
+    × EndsAs old call key part from to seen.outcome new
     × (seen.over ≡ over_by old call key seen.outcome)
 Happens old (event.Withdraw call key) seen new =
     (part : Part) × (part_of old call key ≡ Some part)
     × (from : State) × (stripe_for old key ≡ Some from) × (to : State)
-    × Withdraws from part.reservation to × (seen ≡ not_over outcome.Withdrawn)
-    × (new ≡ without_part (with_stripe old key to) key)
+    × GivesBack from part.reservation to × (seen ≡ not_over (outcome.Withdrawn (eviction_place (home old key) from to)))
+    × (new ≡ without_part (with_phase old key from to) key)
 Happens old (event.Leave call) seen new =
     (seen ≡ not_over outcome.Left) × (new ≡ without_call old call)
 Happens old (event.PickUp call key) seen new =
@@ -445,6 +461,10 @@ Happens old (event.Foreign key value) seen new =
     let store = with_entry old.store key value in
     (seen ≡ not_over outcome.Written)
     × (new ≡ record old { store = store; foreign = with_foreign old.foreign key; is_fresh = false })
+Happens old (event.Invalidate key) seen new =
+    (from : State) × (stripe_for old key ≡ Some from) × (to : State) × Invalidates from key to
+    × (seen ≡ not_over (invalidated_as (home old key) key from to))
+    × (new ≡ record (with_phase old key from to) { is_fresh = false })
 Happens old (event.Reopen config) seen new =
     (seen ≡ not_over (outcome.Reopened (keys_dropped config old))) × (new ≡ after_reopening config old)
 

@@ -18,16 +18,20 @@
 --     may_report         so it is of an open key of the call
 --     is_to_look         a sweep hasn't looked at a stripe yet
 --     may_look           a call takes the keys that are cached, and hasn't looked at this one, in a cache of this number of stripes
+--     may_invalidate     a key may be invalidated at its stripe: it is reserved, or has no entry, or a place of the history is free for its
+--                        eviction. So no stripe of a world is ever shut
 --     fits               an event fits
-use Rattle.std.specs.Prelude.{ℕ, Bool, true, false, not, ◌&&◌, Option, None, Some, is_some, nat_lt, if◌then◌else◌}
+use Rattle.std.specs.Prelude.{ℕ, Bool, true, false, not, ◌&&◌, ◌||◌, Option, None, Some, is_some, is_none, nat_lt, if◌then◌else◌}
 use Rattle.std.specs.List.{list_all, list_any}
 use Rattle.std.specs.Result.{is_ok}
 use Rattle.std.specs.FinMap.{get}
 use Rattle.jc_types.specs.Limits.{check, is_session}
 use Rattle.jc_model.specs.declared.event.Op.{Op}
 use Rattle.jc_model.specs.declared.event.OpKind.TheVariants as kind
-use Rattle.jc_model.specs.Cache.{Bytes}
+use Rattle.jc_model.specs.Cache.{Bytes, entry_at}
 use Rattle.jc_model.specs.Table.{op_kind, is_load_given}
+use Rattle.jc_stripe.specs.State.{State, is_reserved}
+use Rattle.jc_stripe.specs.Invalidating.{has_place}
 use Rattle.jc_world.specs.declared.command.Command.{Command}
 use Rattle.jc_world.specs.declared.command.Command.TheVariants as command
 use Rattle.jc_world.specs.declared.command.CallKind.{CallKind}
@@ -38,7 +42,7 @@ use Rattle.jc_world.specs.declared.event.WorldEvent.TheVariants as event
 use Rattle.jc_world.specs.declared.reports.WriterBatch.{WriterBatch}
 use Rattle.jc_world.specs.declared.reports.WriterBatch.TheVariants as batch
 use Rattle.jc_world.specs.Calls.{CallState, SweepState, has_looked, open_keys, op_at}
-use Rattle.jc_world.specs.World.{WorldState, is_busy, is_idle, open_call, of_call, part_of, Parts, is_free_of, waits_for_load, waits_for_report, waits_for_write, is_all_answered, is_untouched, is_joined, has_progress, waits_for_process}
+use Rattle.jc_world.specs.World.{WorldState, is_busy, is_idle, open_call, of_call, part_of, Parts, is_free_of, waits_for_load, waits_for_report, waits_for_write, is_all_answered, is_untouched, is_joined, has_progress, waits_for_process, stripe_for}
 
 -- the operations that are calls by themselves: the other one is a key of a bulk call
 abbrev pub is_single : Op → Bool
@@ -131,6 +135,11 @@ abbrev pub may_look : ℕ → ℕ → Option CallState → Bool
 may_look stripes stripe None = false
 may_look stripes stripe (Some u) = nat_lt stripe stripes && is_to_look stripe u.sweep
 
+-- without shutting the stripe
+abbrev pub may_invalidate : Option State → Bytes → Bool
+may_invalidate None key = false
+may_invalidate (Some s) key = is_reserved s key || is_none (entry_at s.cache key) || has_place s
+
 abbrev pub fits : WorldState → WorldEvent → Bool
 fits w (event.Call call session command) =
     is_playable command && is_session session && is_new w.last call && not (is_busy w session)
@@ -147,4 +156,5 @@ fits w (event.Withdraw call key) = has_progress is_untouched (part_of w call key
 fits w (event.Leave call) = may_leave w call (open_call w call)
 fits w (event.PickUp call key) = is_joined w call key
 fits w (event.Foreign key value) = true
+fits w (event.Invalidate key) = may_invalidate (stripe_for w key) key
 fits w (event.Reopen config) = is_idle w && is_ok (check config)

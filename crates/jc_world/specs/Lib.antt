@@ -17,6 +17,7 @@ pub mod Ending
 pub mod Gathered
 pub mod Headline
 pub mod Told
+pub mod Invalidated
 pub mod Openings
 pub mod Replies
 pub mod Reserved

@@ -7,13 +7,14 @@
 --                       withdrawn, or that it is still out
 --     AnswersJoins      after every list of events, each pick-up is so of the load that the call joined, which asked the loader for
 --                       the key
-use Rattle.std.specs.Prelude.{◌≡◌, ◌==◌, ◌&&◌, ℕ, List, zip, take, slice_get, Bool, true, false, Some}
+use Rattle.std.specs.Prelude.{◌≡◌, ◌==◌, ◌&&◌, ℕ, List, zip, take, slice_get, Bool, true, false, Option, Some}
 use Rattle.std.specs.List.{list_any}
 use Rattle.std.specs.Cmp.Lexicographic.{pointwise}
 use Rattle.jc_model.specs.Cache.{Bytes}
 use Rattle.jc_stripe.specs.Tickets.{asks_loader}
 use Rattle.jc_stripe.specs.declared.ticket.Reservation.{Reservation}
 use Rattle.jc_world.specs.declared.event.Part.{Part}
+use Rattle.jc_world.specs.declared.event.EvictionPlace.{EvictionPlace}
 use Rattle.jc_world.specs.declared.event.Stepped.{Stepped}
 use Rattle.jc_world.specs.declared.event.WorldEvent.{WorldEvent}
 use Rattle.jc_world.specs.declared.event.WorldEvent.TheVariants as event
@@ -55,7 +56,8 @@ Resolves w shows load (outcome.PickedUp x) =
     × IsLoadEnd shows load at (event.Commit load.caller.call load.key) (outcome.Stepped step)
     × (step.stripe ≡ x.stripe) × (step.place ≡ x.shared)
 Resolves w shows load outcome.Again =
-    (at : ℕ) × IsLoadEnd shows load at (event.Withdraw load.caller.call load.key) outcome.Withdrawn
+    (at : ℕ) × (evicted : Option EvictionPlace)
+    × IsLoadEnd shows load at (event.Withdraw load.caller.call load.key) (outcome.Withdrawn evicted)
 Resolves w shows load outcome.Waits =
     (part : Part) × (part_of w load.caller.call load.key ≡ Some part) × (part.reservation ≡ load)
     × (list_any (ends_load load) shows ≡ false)

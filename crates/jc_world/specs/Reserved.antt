@@ -1,11 +1,11 @@
 -- What stays while nothing is appended, and while a key is reserved.
---     changes_cache     an outcome is a step's answer, which was given as the step was appended, or says that the cache was opened
---                       again
---     OnlyStepsChange   an event that neither appends a step nor opens the cache again leaves the order, and all that is cached: so
---                       do a reservation, an outside answer, a withdrawal and a pick-up
+--     changes_cache     an outcome is a step's answer, which was given as the step was appended, names the eviction of an invalidated key,
+--                       or says that the cache was opened again
+--     OnlyStepsChange   an event that neither appends a step, nor evicts an invalidated key, nor opens the cache again leaves the order,
+--                       and all that is cached: so do a reservation, an outside answer, a withdrawal and a pick-up
 --     EntryStays        the cached entry of a reserved key stays as long as the reservation is out, whatever happens meanwhile (the
 --                       cache isn't opened again then)
-use Rattle.std.specs.Prelude.{◌≡◌, List, Bool, true, false, Some}
+use Rattle.std.specs.Prelude.{◌≡◌, List, Bool, true, false, Some, is_some}
 use Rattle.std.specs.FinMap.{get}
 use Rattle.jc_model.specs.Cache.{Bytes}
 use Rattle.jc_world.specs.declared.event.Part.{Part}
@@ -20,6 +20,8 @@ use Rattle.jc_world.specs.Headline.{Reaches}
 abbrev pub changes_cache : Outcome → Bool
 changes_cache (outcome.Stepped x) = true
 changes_cache (outcome.Reopened keys) = true
+changes_cache (outcome.Withdrawn evicted) = is_some evicted
+changes_cache (outcome.Invalidated evicted) = is_some evicted
 changes_cache o = false
 
 abbrev pub OnlyStepsChange : Type 0

@@ -72,6 +72,7 @@ key_at call (event.Withdraw other key) = at_call call other key
 key_at call (event.Leave other) = None
 key_at call (event.PickUp other key) = at_call call other key
 key_at call (event.Foreign key value) = None
+key_at call (event.Invalidate key) = None
 key_at call (event.Reopen config) = None
 
 -- of keys that differ

@@ -14,13 +14,13 @@
 --                     is cached for it is the store's, unless its writer has changed the store and its call isn't committed
 --     StaysCoherentCleared, StaysCoherentLoaded
 --                     so it is from a clear of the key that is done on, and from such a load on
---     ForgetsCleared  what is cached for a key after a clear of it is what the groups of events since then leave of an empty cache: what
---                     was loaded or put before it counts no longer
+--     ForgetsCleared  what is cached for a key after a clear of it is what the parts of the history since then leave of an empty cache:
+--                     what was loaded or put before it counts no longer
 use Rattle.std.specs.Prelude.{◌≡◌, ◌==◌, ℕ, List, [], ◌∷◌, ◌++◌, Bool, true, false, Option, Some, IsSomeAnd}
 use Rattle.std.specs.Cmp.Lexicographic.{pointwise}
 use Rattle.std.specs.FinMap.{empty, get}
 use Rattle.jc_model.specs.Cache.{Bytes, Cache, entry_at}
-use Rattle.jc_model.specs.Group.{Group, nothing_said, load_only, cache_after_groups}
+use Rattle.jc_model.specs.Group.{Group, Part as HistoryPart, Made, nothing_said, load_only, cache_after_parts}
 use Rattle.jc_model.specs.declared.event.LoadAnswer.TheVariants.{Found}
 use Rattle.jc_model.specs.declared.event.Op.TheVariants.{Clear, LoadAll}
 use Rattle.jc_world.specs.declared.event.Outcome.TheVariants as outcome
@@ -110,10 +110,10 @@ StaysCoherentLoaded =
     → RunsTrueTo key loaded events seen new → reopens seen ≡ false
     → all_hold new ≡ true → IsCoherentAt new key
 
--- in each list of groups
+-- in each list of parts of a history
 abbrev pub ForgetsCleared : Type 0
 ForgetsCleared =
-    (cache : Cache) (before after : List Group) (clear : Group)
+    (cache : Cache) (before after : List HistoryPart) (clear : Group)
     → clear.step.op ≡ Clear → clear.step.out ≡ nothing_said
-    → entry_at (cache_after_groups cache (before ++ clear ∷ after)) clear.step.key
-    ≡ entry_at (cache_after_groups empty after) clear.step.key
+    → entry_at (cache_after_parts cache (before ++ Made clear ∷ after)) clear.step.key
+    ≡ entry_at (cache_after_parts empty after) clear.step.key

@@ -91,7 +91,7 @@ pub record WorldState : Type 0 where
   pub parts : Parts
   pub joins : Joins
   pub premises : Premises  -- what has held since then of loaders, writers and others, and of that opening
-  pub is_fresh : Bool  -- no call has begun yet, nobody else has written the store, and nobody has opened the cache again
+  pub is_fresh : Bool  -- no call has begun yet, nobody has written the store or invalidated a key, or opened the cache again
 
 -- 1. Stripes.
 

@@ -141,6 +141,18 @@ pub enum WorldEvent {
         /// What the store then holds for it: a value, or none if it is deleted.
         value: Option<Value>,
     },
+    /// Somebody else has written the key in the store, and the cache forgets it: no call that begins later is answered from what was
+    /// cached or reserved of it before.
+    ///
+    /// - If the key is reserved, it is marked: its entry stays until the reservation is over, and is evicted then. Each call that
+    ///   begins at it meanwhile is `Busy`. Calls that have joined its load are answered.
+    /// - Otherwise its entry is evicted, if it has one.
+    ///
+    /// It is nobody's call. It fits if the key is reserved, or has no entry, or a place of its stripe's history is free.
+    Invalidate {
+        /// The key, of any stripe.
+        key: Key,
+    },
     /// The cache is closed, and opened again in this shape. Of what was cached, stripe by stripe and in each the most recently used
     /// first, a stripe of the new shape keeps the first entries of its keys, as many as it has room for, in this order of use; the
     /// others are dropped. The histories are empty then. The store stays, and call numbers go on rising.
@@ -165,6 +177,15 @@ pub struct Stepped {
     pub victim: Option<Key>,
     /// The eviction of the step's own key after it, if it was evicted.
     pub evicted: Option<Eviction>,
+}
+
+/// The eviction of an invalidated key, which no step told.
+#[derive(Clone, Copy, Debug, PartialEq, Eq)]
+pub struct EvictionPlace {
+    /// The number of the key's stripe, from 0.
+    pub stripe: usize,
+    /// The place of the eviction in the stripe's history, from 0.
+    pub place: usize,
 }
 
 /// The answer of a load that a call had joined.
@@ -232,8 +253,8 @@ pub enum Outcome {
     Changed,
     /// The writer has returned.
     Reported(Reported),
-    /// The reservation is given back.
-    Withdrawn,
+    /// The reservation is given back. If its key was invalidated meanwhile, that is the eviction of its entry.
+    Withdrawn(Option<EvictionPlace>),
     /// The call is over, without a reply.
     Left,
     /// The load that the call had joined is committed, and this is its answer, with which the key has its reply.
@@ -244,6 +265,10 @@ pub enum Outcome {
     Again,
     /// Somebody else has written the store.
     Written,
+    /// The key was invalidated, and isn't reserved: the eviction of its entry, or none if it had no entry.
+    Invalidated(Option<EvictionPlace>),
+    /// The key was invalidated, and is reserved: its entry is evicted once the reservation is over.
+    Marked,
     /// The cache was opened again, and these keys were dropped: old stripe by old stripe, the most recently used first.
     Reopened(ReadOnlyList<Key>),
     /// The event doesn't fit, and nothing was changed.

@@ -6,7 +6,8 @@ ghost use Rattle.jc_model.specs.Cache.{with_entry};
 ghost use Rattle.jc_model.specs.Table.{is_load_given, is_write_given};
 ghost use Rattle.jc_stripe.specs.Outcomes.{StepDone};
 ghost use Rattle.jc_stripe.specs.State.{IsOut};
-ghost use Rattle.jc_stripe.specs.Phases.{Commits, Withdraws, with_reply};
+ghost use Rattle.jc_stripe.specs.Phases.{with_reply};
+ghost use Rattle.jc_stripe.specs.Invalidating.{Ends, GivesBack};
 ghost use Rattle.jc_stripe.specs.Effects.{change_due};
 ghost use Rattle.jc_stripe.specs.Refusals.{reserves};
 ghost use Rattle.jc_outside.specs.declared.done.Origin.TheVariants.{Played};
@@ -288,7 +289,7 @@ impl HeldKey {
         requires answered { is_all_answered self ≡ true }
         requires origin { stripe.old.origin ≡ Played }
         requires due { IsDue stripe.old.config self }
-        ensures { Commits stripe.old self.reservation (out_of_part self) (with_reply result reply.new) stripe.new }
+        ensures { Ends stripe.old self.reservation (out_of_part self) (with_reply result reply.new) stripe.new }
     {
         let HeldKey {
             ticket,
@@ -316,7 +317,7 @@ impl HeldKey {
     pub(crate) fn withdraw(self, stripe: &mut Stripe)
         requires out { IsOut stripe.old self.reservation }
         requires open { is_unanswered self.progress.out ≡ true }
-        ensures { Withdraws stripe.old self.reservation stripe.new }
+        ensures { GivesBack stripe.old self.reservation stripe.new }
     {
         let HeldKey {
             ticket,
@@ -336,7 +337,7 @@ impl HeldKey {
         requires origin { stripe.old.origin ≡ Played }
         requires due { IsDue stripe.old.config self }
         ensures { (out : Out) × (done : StepDone)
-            × Commits stripe.old self.reservation out done stripe.new }
+            × Ends stripe.old self.reservation out done stripe.new }
     {
         let mut held = self;
         let _is_changed = held.report(WriteAnswer::Failed(0));
@@ -350,8 +351,8 @@ impl HeldKey {
         requires origin { stripe.old.origin ≡ Played }
         requires due { IsDue stripe.old.config self }
         ensures { ((out : Out) × (done : StepDone)
-            × Commits stripe.old self.reservation out done stripe.new)
-            ⊎ Withdraws stripe.old self.reservation stripe.new }
+            × Ends stripe.old self.reservation out done stripe.new)
+            ⊎ GivesBack stripe.old self.reservation stripe.new }
     {
         if self.is_unanswered() {
             self.withdraw(stripe);

@@ -42,7 +42,8 @@ pub mod world;
 pub use audit::Audit;
 pub use command::{CallKind, Command};
 pub use event::{
-    JoinAnswer, Outcome, Over, Part, PartProgress, Premises, Shown, Stepped, WorldEvent,
+    EvictionPlace, JoinAnswer, Outcome, Over, Part, PartProgress, Premises, Shown, Stepped,
+    WorldEvent,
 };
 pub use joined::JoinedLoad;
 pub use open_call::OpenCall;

@@ -164,10 +164,11 @@ impl Machine {
                 fail,
             } => self.process(*call, key, load, calls, *fail, seen),
             WorldEvent::Commit { call, key } => self.commit(*call, key, seen),
-            WorldEvent::Withdraw { call, key } => Ok(self.withdraw(*call, key, seen)),
+            WorldEvent::Withdraw { call, key } => self.withdraw(*call, key, seen),
             WorldEvent::Leave { call } => Ok(self.leave(*call, seen)),
             WorldEvent::PickUp { call, key } => self.pick_up(*call, key, seen),
             WorldEvent::Foreign { key, value } => self.foreign_write(key, value, seen),
+            WorldEvent::Invalidate { key } => self.invalidate(key, seen),
             WorldEvent::Reopen { config } => self.reopen(config, seen),
         }
     }
@@ -264,15 +265,34 @@ impl Machine {
 
     /// The reservation of a key is given back.
     #[inline(never)]
-    fn withdraw(&mut self, call: u64, key: &Key, seen: &mut Shown)
+    fn withdraw(&mut self, call: u64, key: &Key, seen: &mut Shown) -> Result<(), AllocError>
         requires sound { IsSoundWorld self.old }
         requires fits { fits self.old (event.Withdraw call key.now) ≡ true }
-        ensures { Happens self.old (event.Withdraw call key.now) seen.new self.new }
+        ensures ok { OnOk result (Happens self.old (event.Withdraw call key.now) seen.new self.new) }
+        ensures err { OnErr result (self.new ≡ self.old) }
     {
+        self.stripes.reserve()?;
         let number = stripe_of(key, self.config.stripes);
         let held = take(&mut self.held, key);
-        self.stripes.withdraw(number, held);
-        show(seen, Outcome::Withdrawn);
+        let evicted = self.stripes.withdraw(number, held);
+        show(seen, Outcome::Withdrawn(evicted));
+        Ok(())
+    }
+
+    /// The cache forgets a key.
+    #[inline(never)]
+    fn invalidate(&mut self, key: &Key, seen: &mut Shown) -> Result<(), AllocError>
+        requires fits { fits self.old (event.Invalidate key.now) ≡ true }
+        requires sound { IsSoundWorld self.old }
+        ensures ok { OnOk result (Happens self.old (event.Invalidate key.now) seen.new self.new) }
+        ensures err { OnErr result (self.new ≡ self.old) }
+    {
+        self.stripes.reserve()?;
+        let number = stripe_of(key, self.config.stripes);
+        let outcome = self.stripes.invalidate(number, key);
+        self.is_fresh = false;
+        show(seen, outcome);
+        Ok(())
     }
 
     /// A call that has joined a load asks for its answer. If that is too early, the join is put back. Room for that is made first,

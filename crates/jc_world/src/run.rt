@@ -1,7 +1,8 @@
 //! The state of a reserved key as it is reserved and once its entry processor has run, and the last phase behind a processor.
 ghost use Rattle.std.specs.Prelude.{◌≡◌, true, false, None, is_some, not, ◌&&◌};
 ghost use Rattle.jc_stripe.specs.State.{IsOut};
-ghost use Rattle.jc_stripe.specs.Phases.{Commits, with_reply};
+ghost use Rattle.jc_stripe.specs.Phases.{with_reply};
+ghost use Rattle.jc_stripe.specs.Invalidating.{Ends};
 ghost use Rattle.jc_stripe.specs.Effects.{change_due};
 ghost use Rattle.jc_stripe.specs.Tickets.{asks_processor, claim_of, change_asked};
 ghost use Rattle.jc_outside.specs.declared.done.Origin.TheVariants.{Played};
@@ -116,7 +117,7 @@ pub(crate) fn commit_run(
     requires reported { (is_some progress.now.change && not (is_write_given progress.now.out.write)) ≡ false }
     requires origin { stripe.old.origin ≡ Played }
     requires due { progress.now.change ≡ change_in stripe.old.config progress.now.out }
-    ensures { Commits stripe.old ticket.reservation progress.now.out (with_reply result reply.new) stripe.new }
+    ensures { Ends stripe.old ticket.reservation progress.now.out (with_reply result reply.new) stripe.new }
 {
     let mut ticket = ticket;
     match progress.change {

@@ -1,10 +1,12 @@
 //! The stripes of a world, and the order of all that they append to their histories.
-ghost use Rattle.std.specs.Prelude.{◌≡◌, ◌+◌, ◌-◌, ◌≤◌, ◌<◌, ◌++◌, [], Ok, true, IsSomeAnd, IfOk, OnOk, length};
+ghost use Rattle.std.specs.Prelude.{◌≡◌, ◌+◌, ◌-◌, ◌≤◌, ◌<◌, ◌++◌, [], Ok, true, None, Some, nat_lt, if◌then◌else◌, IsSomeAnd, IfOk, OnOk, length};
 ghost use Rattle.std.specs.Prelude.{ℕ, replicate, vec_len, vec_capacity, slice_get, is_none};
-ghost use Rattle.jc_types.specs.declared.limits.TheConstants.{STEP_PLACES, JOINERS_MAX, STRIPES_MAX};
+ghost use Rattle.jc_types.specs.declared.limits.TheConstants.{STEP_PLACES, HIT_PLACES, JOINERS_MAX, STRIPES_MAX};
 ghost use Rattle.jc_types.specs.Limits.{check};
-ghost use Rattle.jc_stripe.specs.State.{IsOut, IsJoined};
-ghost use Rattle.jc_stripe.specs.Phases.{MayBegin, begun_with, with_reply, Commits, Withdraws, PicksUp, polled_with};
+ghost use Rattle.jc_stripe.specs.State.{IsOut, IsJoined, is_reserved};
+ghost use Rattle.jc_stripe.specs.Phases.{MayBegin, begun_with, with_reply, PicksUp, polled_with};
+ghost use Rattle.jc_stripe.specs.Invalidating.{Ends, GivesBack, Invalidates};
+ghost use Rattle.jc_world.specs.Fits.{may_invalidate};
 ghost use Rattle.jc_outside.specs.declared.done.Origin.TheVariants.{Played};
 ghost use Rattle.jc_model.specs.Cache.{entry_at};
 ghost use Rattle.jc_world.specs.Premises.{is_agreed};
@@ -12,24 +14,26 @@ ghost use Rattle.jc_world.specs.World.{entry_in, out_of_part, is_all_answered, i
 ghost use Rattle.jc_world.specs.Sound.{IsDue};
 ghost use Rattle.jc_stripe.specs.Reached.{IsReached};
 ghost use Rattle.jc_world.specs.Ending.{AreLeft, HasHeld, HasJoins, NoneReserved};
-ghost use Rattle.jc_world.specs.Events.{BeginsAs, step_of};
+ghost use Rattle.jc_world.specs.Events.{BeginsAs, step_of, eviction_place, invalidated_as};
+ghost use Rattle.jc_world.specs.declared.event.Outcome.TheVariants as outcome;
 ghost use Rattle.jc_world.specs.Held.{parts_of, joins_of};
 ghost use Rattle.jc_world.specs.Turns.{IsPhase, IsQuietPhase, history_at, merge, AreTurns};
 
 use crate::ending::{end_all, pick_all};
-use crate::event::Stepped;
+use crate::event::{EvictionPlace, Outcome, Stepped};
 use crate::held::HeldKey;
 use crate::held_keys::HeldKeys;
 use crate::joined::Joins;
 use jc_model::{Contents, Effect, Event, LoadAnswer, Op, Out, ProcessAnswer, Reply, WriteAnswer};
 use jc_stripe::phase_laws::grows;
 use jc_stripe::{Appended, Join, Origin, Picked, Started, Stripe};
-use jc_types::{Caller, Config, JOINERS_MAX, Key, STEP_PLACES, STRIPES_MAX, Value};
+use jc_types::{Caller, Config, HIT_PLACES, JOINERS_MAX, Key, STEP_PLACES, STRIPES_MAX, Value};
 use std::alloc::{AllocError, Global};
 use std::marker::Model;
 
-/// The most events that one phase appends: a victim, a step, the steps that share its load, and the eviction of its own key.
-const EVENTS_MAX: usize = STEP_PLACES + JOINERS_MAX;
+/// The most events that one phase appends: a victim, a step, the steps that share its load, the eviction of its own key, and that of
+/// a key that was invalidated.
+const EVENTS_MAX: usize = STEP_PLACES + JOINERS_MAX + HIT_PLACES;
 
 /// The stripes, and the order of all their events. An event is kept once, in the history of its stripe: the order has a turn for
 /// it, which is the number of that stripe.
@@ -97,7 +101,7 @@ impl Stripes {
     /// Takes room for what one phase may append, before its first change.
     pub(crate) fn reserve(&mut self) -> Result<(), AllocError>
         ensures same { self.new ≡ record self.old { room = self.new.room } }
-        ensures room { OnOk result (STEP_PLACES + JOINERS_MAX ≤ self.new.room) }
+        ensures room { OnOk result (STEP_PLACES + JOINERS_MAX + HIT_PLACES ≤ self.new.room) }
     {
         self.turns.try_reserve(EVENTS_MAX)
     }
@@ -134,7 +138,7 @@ impl Stripes {
     ) -> Started
         requires begins { IsSomeAnd (slice_get self.old.stripes number)
             (λ s. MayBegin s caller.now key.now) }
-        requires room { STEP_PLACES + JOINERS_MAX ≤ self.old.room }
+        requires room { STEP_PLACES + JOINERS_MAX + HIT_PLACES ≤ self.old.room }
         ensures { IsPhase self.old number (BeginsAs caller.now key.now op.now (begun_with result reply.new)) self.new }
     {
         grows();
@@ -151,9 +155,9 @@ impl Stripes {
         requires out { IsSomeAnd (slice_get self.old.stripes number) (λ s. IsOut s held.reservation
             × (s.origin ≡ Played) × IsDue s.config held) }
         requires answered { is_all_answered held ≡ true }
-        requires room { STEP_PLACES + JOINERS_MAX ≤ self.old.room }
+        requires room { STEP_PLACES + JOINERS_MAX + HIT_PLACES ≤ self.old.room }
         ensures { IsPhase self.old number
-            (λ from to. Commits from held.reservation (out_of_part held) (with_reply result reply.new) to) self.new }
+            (λ from to. Ends from held.reservation (out_of_part held) (with_reply result reply.new) to) self.new }
     {
         grows();
         let stripe = &mut self.items[number];
@@ -163,14 +167,46 @@ impl Stripes {
         step
     }
 
-    /// Gives a key's reservation back.
-    pub(crate) fn withdraw(&mut self, number: usize, held: HeldKey)
+    /// Gives a key's reservation back. If the key was invalidated, the eviction of its entry is at the end of the order, too, and is
+    /// returned.
+    pub(crate) fn withdraw(&mut self, number: usize, held: HeldKey) -> Option<EvictionPlace>
         requires out { IsSomeAnd (slice_get self.old.stripes number) (λ s. IsOut s held.reservation) }
         requires open { is_unanswered held.progress.out ≡ true }
-        ensures { IsQuietPhase self.old number (λ from to. Withdraws from held.reservation to) self.new }
+        requires room { STEP_PLACES + JOINERS_MAX + HIT_PLACES ≤ self.old.room }
+        ensures { IsPhase self.old number
+            (λ from to. GivesBack from held.reservation to × (result ≡ eviction_place number from to)) self.new }
+    {
+        grows();
+        let stripe = &mut self.items[number];
+        let before = history_len(stripe);
+        held.withdraw(stripe);
+        give_turns(&mut self.turns, number, stripe, before);
+        eviction_since(number, before, stripe)
+    }
+
+    /// Invalidates a key at its stripe, and returns what that shows. If its entry is evicted, that is at the end of the order, too.
+    pub(crate) fn invalidate(&mut self, number: usize, key: &Key) -> Outcome
+        requires fits { may_invalidate (slice_get self.old.stripes number) key.now ≡ true }
+        requires room { STEP_PLACES + JOINERS_MAX + HIT_PLACES ≤ self.old.room }
+        ensures { IsPhase self.old number
+            (λ from to. Invalidates from key.now to × (result ≡ invalidated_as number key.now from to)) self.new }
     {
         let stripe = &mut self.items[number];
-        held.withdraw(stripe);
+        let before = history_len(stripe);
+        let reserved = is_reserved(stripe, key);
+        stripe.invalidate(key);
+        give_turns(&mut self.turns, number, stripe, before);
+        invalidated_as(reserved, eviction_since(number, before, stripe))
+    }
+
+    /// Whether a key may be invalidated at its stripe.
+    pub(crate) fn may_invalidate(&self, number: usize, key: &Key) -> bool
+        ensures { result ≡ may_invalidate (slice_get self.now.stripes number) key.now }
+    {
+        match self.items.get(number) {
+            Some(stripe) => may_invalidate_at(stripe, key),
+            None => false,
+        }
     }
 
     /// Asks for the answer of the load that a call has joined, and writes it to `reply`.
@@ -283,6 +319,46 @@ fn merge(alloc: Global, stripes: &[Stripe], turns: &[u8]) -> Result<Vec<Event>, 
         taken[number] = place + 1;
     }
     Ok(order)
+}
+
+/// The eviction of an invalidated key, if a stripe has one more event than before.
+fn eviction_since(number: usize, before: usize, stripe: &Stripe) -> Option<EvictionPlace>
+    ensures { result ≡ (if nat_lt before (length stripe.now.history)
+        then Some (record { stripe = number; place = before }) else None) }
+{
+    if before < history_len(stripe) {
+        Some(EvictionPlace {
+            stripe: number,
+            place: before,
+        })
+    } else {
+        None
+    }
+}
+
+/// What is shown of an invalidation.
+fn invalidated_as(is_reserved: bool, evicted: Option<EvictionPlace>) -> Outcome
+    ensures { result ≡ (if is_reserved then outcome.Marked else outcome.Invalidated evicted) }
+{
+    if is_reserved {
+        Outcome::Marked
+    } else {
+        Outcome::Invalidated(evicted)
+    }
+}
+
+/// Whether a stripe has reserved a key.
+fn is_reserved(stripe: &Stripe, key: &Key) -> bool
+    ensures { result ≡ is_reserved stripe.now key.now }
+{
+    stripe.reservations().iter().any(|r| *key == r.key)
+}
+
+/// Whether a key may be invalidated at this stripe.
+fn may_invalidate_at(stripe: &Stripe, key: &Key) -> bool
+    ensures { result ≡ may_invalidate (Some stripe.now) key.now }
+{
+    is_reserved(stripe, key) || stripe.entry(key).is_none() || stripe.has_place()
 }
 
 /// A stripe's step with this reply, as it is shown.

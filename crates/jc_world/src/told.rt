@@ -1,5 +1,6 @@
-//! What a clear of a key leaves, as laws over every run.
+//! What a clear and an invalidation of a key leave, as laws over every run.
 ghost use Rattle.jc_world.specs.Told.{TellsCleared, TellsLoaded, StaysTold, StaysCoherentTold, StaysCoherentCleared, StaysCoherentLoaded, ForgetsCleared};
+ghost use Rattle.jc_world.specs.Invalidated.{TellsInvalidated, MarksReserved, StaysCoherentInvalidated, ForgetsInvalidated};
 
 use jc_stripe::phase_laws::{keeps_reserved, stays_reached};
 
@@ -59,8 +60,42 @@ pub fn stays_coherent_loaded()
     keeps_reserved();
 }
 
-/// Whatever groups of events came before a clear of a key, what is cached for the key later is what the groups since then leave of an
+/// Whatever parts of a history came before a clear of a key, what is cached for the key later is what the parts since then leave of an
 /// empty cache. So no later step finds, or answers from, what was loaded or put before it.
 pub fn forgets_cleared()
     ensures { ForgetsCleared }
+{}
+
+/// After an invalidation of a key that isn't reserved, and after the end of a reservation whose key was invalidated meanwhile, the cache
+/// has nothing of the key: no entry, and no reservation. So the key isn't untold then, whatever others have written before: a service that
+/// invalidates a key once it is told of a foreign write needs no other call. Unlike a clear an invalidation is never refused as `Busy`.
+pub fn tells_invalidated()
+    ensures { TellsInvalidated }
+{
+    stays_reached();
+    keeps_reserved();
+}
+
+/// An invalidation of a reserved key marks it, whatever room the history has.
+pub fn marks_reserved()
+    ensures { MarksReserved }
+{
+    stays_reached();
+    keeps_reserved();
+}
+
+/// So from an invalidation of a key that isn't reserved on, or else from the end of that reservation, as long as nobody else writes the key
+/// and nobody who is asked for it lies: what is cached for it is the store's, unless its writer has changed the store and its call isn't
+/// committed. Write-through is to be on, and the cache isn't opened again.
+pub fn stays_coherent_invalidated()
+    ensures { StaysCoherentInvalidated }
+{
+    stays_reached();
+    keeps_reserved();
+}
+
+/// Whatever parts of a history came before the eviction of an invalidated key, what is cached for the key later is what the parts since
+/// then leave of an empty cache. So no later step finds, or answers from, what was loaded or put before it.
+pub fn forgets_invalidated()
+    ensures { ForgetsInvalidated }
 {}

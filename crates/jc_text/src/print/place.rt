@@ -94,6 +94,9 @@ fn not_now_hint(words: &[&[u8]]) -> &'static str
         [first, ..] if is(first, "more") => {
             " (it fits if a key was put off or told to retry, and none is started or joined)"
         }
+        [first, ..] if is(first, "invalidate") => {
+            " (it fits if the key is reserved, or isn't cached, or the history of its stripe has a free place)"
+        }
         _ => " (it fits if no call is under way)",
     }
 }
@@ -113,7 +116,7 @@ fn hint(fault: Fault, words: &[&[u8]]) -> &'static str
         Fault::BadConfig(Field::Stripes) => " (1 to 64)",
         Fault::BadConfig(Field::Capacity) => " (1 to 4096)",
         Fault::BadConfig(Field::History) => " (16 to 65536)",
-        Fault::SetTooLate => " (it fits before the first begin, foreign or reopen)",
+        Fault::SetTooLate => " (it fits before the first begin, foreign, invalidate or reopen)",
         Fault::NotRising => " (the number of each call is above those before)",
         Fault::CallerBusy => " (its call isn't over)",
         Fault::NotNow => not_now_hint(words),

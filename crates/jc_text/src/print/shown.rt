@@ -4,7 +4,7 @@ ghost use Rattle.std.specs.List.{flat_map};
 ghost use Rattle.jc_text.specs.Printing.{process_outcome_text, cause_name, evict_line, victim_text, evicted_text, outcome_text};
 ghost use Rattle.jc_text.specs.Printing.{stepped_text, picked_line, dropped_line, refused_line, done_name, change_name};
 ghost use Rattle.jc_text.specs.Printing.{reported_line, reported_text, returned_text};
-ghost use Rattle.jc_text.specs.Printing.{shown_text, begun_text, left_text, foreign_line, reopened_text, told, end_text, event_text, texts};
+ghost use Rattle.jc_text.specs.Printing.{shown_text, begun_text, left_text, foreign_line, invalidate_line, invalidated_text, invalidated_at_text, reopened_text, told, end_text, event_text, texts};
 
 use crate::print::lines::{
     put_answer, put_asks, put_fault_code, put_keys_line, put_over, put_refused_whole,
@@ -14,7 +14,7 @@ use crate::print::{Piece, put, put_key_line, put_number, put_pieces};
 use jc_model::{Cause, Change, Reply};
 use jc_stripe::Eviction;
 use jc_types::{Key, Refusal, Value};
-use jc_world::event::{JoinAnswer, Outcome, Over, Shown, Stepped, WorldEvent};
+use jc_world::event::{EvictionPlace, JoinAnswer, Outcome, Over, Shown, Stepped, WorldEvent};
 use jc_world::process::{LoadSource, ShownRun};
 use jc_world::reports::{Reported, ReportedKey};
 use std::alloc::AllocError;
@@ -25,6 +25,7 @@ fn name_of(cause: Cause) -> &'static str
     match cause {
         Cause::Full => "full",
         Cause::Memory => "memory",
+        Cause::Invalidated => "invalidated",
     }
 }
 
@@ -34,7 +35,7 @@ fn put_evict(
     key: &Key,
     cause: Cause,
     stripe: usize,
-    place: u32,
+    place: usize,
 ) -> Result<(), AllocError>
     ensures { OnOk result (out.new.items ≡ out.old.items ++ evict_line key.now cause stripe place) }
 {
@@ -61,7 +62,10 @@ fn put_victim(
 {
     match victim {
         None => Ok(()),
-        Some(victim) => put_evict(out, victim, Cause::Full, stripe, place.saturating_sub(1)),
+        Some(victim) => {
+            let before = place.saturating_sub(1) as usize;
+            put_evict(out, victim, Cause::Full, stripe, before)
+        }
     }
 }
 
@@ -75,7 +79,21 @@ fn put_evicted(
 {
     match evicted {
         None => Ok(()),
-        Some(gone) => put_evict(out, key, gone.cause, stripe, gone.place),
+        Some(gone) => put_evict(out, key, gone.cause, stripe, gone.place as usize),
+    }
+}
+
+/// The eviction of an invalidated key, if its entry was evicted.
+fn put_invalidated_at(
+    out: &mut Vec<u8>,
+    key: &Key,
+    evicted: &Option<EvictionPlace>,
+) -> Result<(), AllocError>
+    ensures { OnOk result (out.new.items ≡ out.old.items ++ invalidated_at_text key.now evicted.now) }
+{
+    match evicted {
+        None => Ok(()),
+        Some(at) => put_evict(out, key, Cause::Invalidated, at.stripe, at.place),
     }
 }
 
@@ -97,7 +115,7 @@ fn put_outcome<'a>(
             Piece::Subject(call, key),
             Piece::Text(" is "),
             Piece::Reply(reply),
-            Piece::Place(stripe, place),
+            Piece::Place(stripe, place as usize),
         ],
     )
 }
@@ -224,12 +242,14 @@ fn put_shown(out: &mut Vec<u8>, call: u64, key: &Key, seen: &Outcome) -> Result<
         Outcome::Says(answer) => put_answer(out, call, key, " says ", answer),
         Outcome::Changed => Ok(()),
         Outcome::Reported(_) => Ok(()),
-        Outcome::Withdrawn => Ok(()),
+        Outcome::Withdrawn(evicted) => put_invalidated_at(out, key, evicted),
         Outcome::Left => Ok(()),
         Outcome::PickedUp(seen) => put_picked(out, call, key, seen),
         Outcome::Waits => put_key_line(out, call, key, " waits\n"),
         Outcome::Again => put_key_line(out, call, key, " again\n"),
         Outcome::Written => Ok(()),
+        Outcome::Invalidated(_) => Ok(()),
+        Outcome::Marked => Ok(()),
         Outcome::Reopened(_) => Ok(()),
         Outcome::Unfit => Ok(()),
     }
@@ -253,6 +273,34 @@ fn put_foreign<'a>(
             Piece::Text("\n"),
         ],
     )
+}
+
+#[tactic(auto, unfolding(crate::specs::Printing::invalidate_line))]
+fn put_invalidate<'a>(out: &mut Vec<u8>, key: &'a Key, text: &'a str) -> Result<(), AllocError>
+    ensures { OnOk result (out.new.items ≡ out.old.items ++ invalidate_line key.now text.now) }
+{
+    put_pieces(
+        out,
+        &[
+            Piece::Text("invalidate "),
+            Piece::Key(key),
+            Piece::Text(text),
+        ],
+    )
+}
+
+/// The outcome of an invalidation.
+fn put_invalidated(out: &mut Vec<u8>, key: &Key, seen: &Outcome) -> Result<(), AllocError>
+    ensures { OnOk result (out.new.items ≡ out.old.items ++ invalidated_text key.now seen.now) }
+{
+    match seen {
+        Outcome::Invalidated(evicted) => {
+            put_invalidate(out, key, "\n")?;
+            put_invalidated_at(out, key, evicted)
+        }
+        Outcome::Marked => put_invalidate(out, key, " marked\n"),
+        _ => Ok(()),
+    }
 }
 
 /// The outcome of the beginning of a call.
@@ -318,6 +366,7 @@ fn put_told(out: &mut Vec<u8>, event: &WorldEvent, seen: &Outcome) -> Result<(),
         WorldEvent::Leave { call } => put_left(out, *call, seen),
         WorldEvent::PickUp { call, key } => put_shown(out, *call, key, seen),
         WorldEvent::Foreign { key, value } => put_foreign(out, key, value),
+        WorldEvent::Invalidate { key } => put_invalidated(out, key, seen),
         WorldEvent::Reopen { config: _ } => put_reopened(out, seen),
     }
 }

@@ -4,7 +4,7 @@ ghost use Rattle.std.specs.List.{list_all};
 ghost use Rattle.jc_text.specs.Lines.{Gives, ok_with, with_line, flags_of, shape_of, open_of, reopen_of, set_of};
 ghost use Rattle.jc_text.specs.Lines.{begin_of, number_alone, lone_act, lone_of, coded_act, coded_of, process_of, say_of};
 ghost use Rattle.jc_text.specs.Lines.{has_but_shape, left_of, apply_of, apply_fail_of};
-ghost use Rattle.jc_text.specs.Lines.{foreign_of, audit_of, untold_of, line_of, are_words, parsed, is_plain, is_comment, read_line};
+ghost use Rattle.jc_text.specs.Lines.{foreign_of, invalidate_of, audit_of, untold_of, line_of, are_words, parsed, is_plain, is_comment, read_line};
 
 use crate::fault::{Fault, ReadError};
 use crate::read::commands::{begin_command, form_named, has_shape};
@@ -291,6 +291,19 @@ fn foreign(words: &[&[u8]], line: &mut Line) -> Result<(), Fault>
     }
 }
 
+#[tactic(auto, unfolding(crate::specs::Lines::invalidate_of))]
+fn invalidate(words: &[&[u8]], line: &mut Line) -> Result<(), Fault>
+    ensures { ok_with line.new result ≡ invalidate_of (map (λ w. w.now) words.now) }
+{
+    match words {
+        [k] => {
+            put_line(line, Line::Invalidate(key(k)?));
+            Ok(())
+        }
+        _ => Err(Fault::BadLine),
+    }
+}
+
 fn audit(words: &[&[u8]], line: &mut Line) -> Result<(), Fault>
     ensures { ok_with line.new result ≡ audit_of (map (λ w. w.now) words.now) }
 {
@@ -338,6 +351,7 @@ fn line_of(alloc: Global, first: &[u8], words: &[&[u8]], line: &mut Line) -> Res
         _ if is(first, "process") => process(alloc, words, line),
         _ if is(first, "reopen") => Ok(reopen(words, line)?),
         _ if is(first, "untold") => Ok(untold(words, line)?),
+        _ if is(first, "invalidate") => Ok(invalidate(words, line)?),
         _ => Err(ReadError::Fault(Fault::BadLine)),
     }
 }

@@ -90,6 +90,8 @@ pub enum Line {
     OfCall(u32, ScriptAct),
     /// Somebody else writes the store, or deletes in it.
     Foreign(Key, Option<Value>),
+    /// The cache forgets this key.
+    Invalidate(Key),
     /// The cache is closed and opened again in this shape, with what it had.
     Reopen(Config),
     /// An audit of the world.

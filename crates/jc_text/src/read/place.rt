@@ -236,6 +236,7 @@ fn bad_in_line(search: WordSearch, first: &[u8], words: &[&[u8]]) -> usize
         }
         _ if is(first, "set") => bad_among(search, &[First, Key, Value], Nothing, words),
         _ if is(first, "foreign") => bad_among(search, &[First, Key, ValueOrNone], Nothing, words),
+        _ if is(first, "invalidate") => bad_among(search, &[First, Key], Nothing, words),
         _ if is(first, "audit") || is(first, "untold") => bad_among(
             search,
             &[First],

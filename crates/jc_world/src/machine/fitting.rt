@@ -1,10 +1,11 @@
 //! Whether an event fits.
 ghost use Rattle.std.specs.Prelude.{◌≡◌, ◌&&◌, not, true, false, None, Some};
 ghost use Rattle.jc_world.specs.declared.event.WorldEvent.TheVariants as event;
-ghost use Rattle.jc_world.specs.World.{is_busy, open_call};
+ghost use Rattle.jc_world.specs.World.{is_busy, open_call, stripe_for};
+ghost use Rattle.jc_world.specs.Sound.{IsSoundWorld};
 ghost use Rattle.jc_types.specs.Limits.{is_session};
 ghost use Rattle.jc_world.specs.Fits.{is_playable, is_new, may_start, may_leave, is_free, may_report, fits};
-ghost use Rattle.jc_world.specs.Fits.{is_being_written, may_look};
+ghost use Rattle.jc_world.specs.Fits.{is_being_written, may_look, may_invalidate};
 
 use crate::calls::{find_call, has_call, is_above, is_playable};
 use crate::command::Command;
@@ -13,11 +14,12 @@ use crate::held_keys::{held_by, waits_for_load, waits_for_process};
 use crate::joined::has_join;
 use crate::machine::Machine;
 use crate::tasks::is_free_at;
-use jc_types::{Key, is_session};
+use jc_types::{Key, is_session, stripe_of};
 
 impl Machine {
     /// Whether the event fits.
     pub(crate) fn fits(&self, event: &WorldEvent) -> bool
+        requires { IsSoundWorld self.now }
         ensures { result ≡ fits self.now event.now }
     {
         match event {
@@ -48,6 +50,7 @@ impl Machine {
             WorldEvent::Leave { call } => self.may_leave(*call),
             WorldEvent::PickUp { call, key } => has_join(&self.joins, *call, key),
             WorldEvent::Foreign { key: _, value: _ } => true,
+            WorldEvent::Invalidate { key } => self.may_invalidate(key),
             WorldEvent::Reopen { config } => self.calls.is_empty() && config.check().is_ok(),
         }
     }
@@ -60,6 +63,15 @@ impl Machine {
             Some(u) => u.is_being_written(call, key, &self.held),
             None => false,
         }
+    }
+
+    /// Whether a key may be invalidated.
+    fn may_invalidate(&self, key: &Key) -> bool
+        requires { IsSoundWorld self.now }
+        ensures { result ≡ may_invalidate (stripe_for self.now key.now) key.now }
+    {
+        let number = stripe_of(key, self.config.stripes);
+        self.stripes.may_invalidate(number, key)
     }
 
     /// Whether a call has neither a reservation nor a join of a key.

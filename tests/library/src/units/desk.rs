@@ -3,13 +3,15 @@
 //! The words are those of [`stripes`](super::stripes), with these differences: `SESSION` is a session, and the desk numbers the
 //! calls and the tickets itself, both from 0.
 //!
-//! - `begin SESSION OP KEY [VALUE]`: as a stripe's first phase, or `full` or `misuse`;
+//! - `begin SESSION OP KEY [VALUE]`: as a stripe's first phase, or `full`, `shut` or `misuse`;
 //! - `load TICKET ANSWER`, `write TICKET ANSWER`, a last phase: `REPLY at PLACE` or `misuse`; `process TICKET [apply] EFFECT`,
 //!   the last phase of a processor, after which the writer has answered, or has not;
 //! - `drop TICKET`: `dropped` or `misuse`;
 //! - `take SESSION CALL KEY TICKET`, a joiner asks for its answer: as a stripe's, or `misuse`;
 //! - `hit SESSION KEY`: the value and the call's number, as `1 at CALL`, or `no`;
-//! - `moves KEPT LEFT VICTIM VALUE`, the values that came and went with the last step, with `-` for nothing: `yes` or `no`;
+//! - `moves KEPT LEFT VICTIM VALUE`, the values that came and went with the last step, with `-` for nothing, and `gone` in KEPT's place
+//!   if the key's entry was evicted, since it was invalidated: `yes` or `no`;
+//! - `invalidate KEY`, `invalidateall`, `shut`: `yes` or `no`; `sweep ANSWER`, with `open`, `evicted`, `full` or `noplace`: `yes` or `no`;
 //! - `shared COUNT`, the number of answers that the last commit has parked: `yes` or `no`;
 //! - `entry KEY VALUE`, `events COUNT`, `counts ..`, `idle`, `end`: `yes` or `no`.
 //!
@@ -18,8 +20,8 @@ use super::script::{answer, caller, event, first_word, key, number, op, value_or
 use super::stripes::words::{Seen, seen_of};
 use super::stripes::{shape, statistics};
 use super::{is, pairs};
-use jc_model::{Op, Reply, WriteAnswer};
-use jc_stripe::{CommitDone, Desk, FirstAnswer, OpenFault, PickUpAnswer, ValueMoves};
+use jc_model::{Cause, Op, Reply, WriteAnswer};
+use jc_stripe::{CommitDone, Desk, FirstAnswer, OpenFault, PickUpAnswer, SweepAnswer, ValueMoves};
 use jc_types::{Caller, Config, Key, Value};
 use std::alloc::Global;
 use std::process::Abort;
@@ -31,6 +33,25 @@ struct Driver {
     reply: Reply,
     moves: ValueMoves,
     shared: u32,
+}
+
+/// Why the key's own entry was evicted, by the word for what came.
+fn own_cause(kept: &str) -> Option<Cause> {
+    if kept == "gone" {
+        Some(Cause::Invalidated)
+    } else {
+        None
+    }
+}
+
+fn swept(rt: &impl Abort, word: &str) -> SweepAnswer {
+    match word {
+        "open" => SweepAnswer::Open,
+        "evicted" => SweepAnswer::Evicted,
+        "full" => SweepAnswer::Full,
+        "noplace" => SweepAnswer::NoPlace,
+        _ => panic!(rt; "no answer of a sweep"),
+    }
 }
 
 /// A call's number, where few calls are made.
@@ -62,6 +83,7 @@ impl Driver {
             FirstAnswer::Joined(load) => Seen::Joins(load),
             FirstAnswer::Refused(refusal) => Seen::Refused(refusal),
             FirstAnswer::Full => Seen::Full,
+            FirstAnswer::Shut => Seen::Shut,
             FirstAnswer::Misuse => Seen::Misuse,
         }
     }
@@ -117,7 +139,7 @@ impl Driver {
     }
 
     fn withdraw(&mut self, ticket: u64) -> Seen {
-        if self.desk.withdraw(ticket) {
+        if self.desk.withdraw(ticket, &mut self.moves) {
             Seen::Dropped
         } else {
             Seen::Misuse
@@ -161,7 +183,19 @@ impl Driver {
             && self.moves.left().copied() == value_or_none(rt, left)
             && gone == wanted
             && value == value_or_none(rt, evicted)
-            && self.moves.own().is_none()
+            && self.moves.own() == own_cause(kept)
+    }
+
+    fn forget(&mut self, rt: &impl Abort, word: &str, text: &str) -> bool {
+        match word {
+            "invalidate" => self.desk.invalidate(&key(rt, text), &mut self.moves),
+            "invalidateall" => {
+                self.desk.invalidate_all();
+                true
+            }
+            "sweep" => self.desk.sweep(&mut self.moves) == swept(rt, text),
+            _ => self.desk.is_shut(),
+        }
     }
 
     fn look(&mut self, rt: &impl Abort, word: &str, text: &str) -> bool {
@@ -215,6 +249,9 @@ fn play(rt: &impl Abort, driver: &mut Driver, line: &str) {
         "load" | "write" | "process" | "drop" => last_phase(rt, driver, word, text),
         "take" => take(rt, driver, first, rest),
         "hit" => driver.hit(caller(rt, "0", first).session, &key(rt, rest)),
+        "invalidate" | "invalidateall" | "sweep" | "shut" => {
+            Seen::Flag(driver.forget(rt, word, text))
+        }
         _ => Seen::Flag(driver.look(rt, word, text)),
     };
     is(rt, line, found, seen_of(rt, wanted));
@@ -363,6 +400,78 @@ begin s1 put a 1 = asks write 1
 begin s2 put a 2 = refused Busy
 drop 0 = dropped
 ==
+# An invalidated key's entry goes at once, without a step and uncounted, and its value is told.
+open 100
+begin s1 put a 1 = ok at 0
+invalidate a = yes
+moves gone 1 - - = yes
+entry a - = yes
+invalidate a = yes
+moves - - - - = yes
+shut = no
+events 2 = yes
+counts 0 0 1 0 0 = yes
+begin s1 contains a = false at 2
+==
+# That of a key that is being loaded goes with the end of the load. Who begins meanwhile is busy, who had joined is told.
+open 100 read
+begin s1 get a = asks loader
+begin s2 get a = joins 0
+invalidate a = yes
+moves - - - - = yes
+begin s3 get a = refused Busy
+begin s3 contains a = refused Busy
+load 0 read 1 = 1 at 0
+moves gone - - - = yes
+shared 1 = yes
+take s2 1 a 0 = 1 at 1 shared 0
+entry a - = yes
+events 3 = yes
+begin s3 get a = asks loader
+==
+# That of a key that is being written goes with the end of the write, also if it fails, or if the ticket is given back.
+open 100 write
+begin s1 put a 1 = asks write 1
+write 0 apply = ok at 0
+begin s1 put a 2 = asks write 2
+invalidate a = yes
+hit s2 a = no
+entry a 1 = yes
+write 1 applyfail 3 = WriterFailed 3 at 1
+moves gone 1 - - = yes
+entry a - = yes
+begin s1 put a 1 = asks write 1
+write 2 apply = ok at 3
+begin s1 put a 2 = asks write 2
+invalidate a = yes
+drop 3 = dropped
+moves gone 1 - - = yes
+entry a - = yes
+idle = yes
+==
+# When all keys are invalidated no call begins before the entries are swept, one at a time; those of reserved keys go with the reservations.
+open 100 write
+begin s1 put a 1 = asks write 1
+write 0 apply = ok at 0
+begin s1 put b 2 = asks write 2
+write 1 apply = ok at 1
+sweep open = yes
+begin s1 put b 3 = asks write 3
+invalidateall = yes
+shut = yes
+begin s2 contains a = shut
+hit s2 a = no
+sweep evicted = yes
+moves - - a 1 = yes
+sweep open = yes
+moves - - - - = yes
+shut = no
+begin s2 contains b = refused Busy
+write 2 apply = ok at 3
+moves gone 2 - - = yes
+begin s2 contains b = false at 5
+counts 0 0 3 0 0 = yes
+==
 # A generation without events, or with a parked answer, doesn't end.
 open 100 read
 end = no
@@ -434,6 +543,8 @@ fn takes_keys_of_its_stripe(rt: HostRuntime) {
     };
     play(&rt, &mut driver, "begin s1 get b = misuse");
     play(&rt, &mut driver, "hit s1 b = no");
+    play(&rt, &mut driver, "invalidate b = no");
+    play(&rt, &mut driver, "invalidate a = yes");
     play(&rt, &mut driver, "begin s1 get a = - at 0");
 }
 

@@ -4,6 +4,8 @@
 //! for the outcome that it shows; and after a semicolon the names of all events with this call and this key that fit then, or
 //! `none`. Each other event must have the outcome `Unfit`.
 //!
+//! An event `invalidate` is of no call: what fits then is that of the call that is named.
+//!
 //! Call N is by session N modulo 100: calls 1 and 101 by session 1, and call 100 by none. A put puts the number of its call.
 use super::{audits, differs, key_of, opened_world, value_of};
 use jc_model::{LoadAnswer, Op};
@@ -44,6 +46,7 @@ pub fn event_of(rt: &impl Abort, alloc: Global, name: &str, number: &str, key: K
         "withdraw" => WorldEvent::Withdraw { call, key },
         "leave" => WorldEvent::Leave { call },
         "pickup" => WorldEvent::PickUp { call, key },
+        "invalidate" => WorldEvent::Invalidate { key },
         _ => WorldEvent::Call {
             call,
             session: (call % 100) as u32,
@@ -87,12 +90,15 @@ pub fn word_of(outcome: &Outcome) -> &'static str {
                 "undone"
             }
         }
-        Outcome::Withdrawn => "withdrawn",
+        Outcome::Withdrawn(_) => "withdrawn",
         Outcome::Left => "left",
         Outcome::PickedUp(_) => "pickedup",
         Outcome::Waits => "waits",
         Outcome::Again => "again",
         Outcome::Written => "written",
+        Outcome::Marked => "marked",
+        Outcome::Invalidated(Some(_)) => "evicted",
+        Outcome::Invalidated(None) => "nothing",
         Outcome::Processes(_) => "processes",
         Outcome::Processed(_) => "processed",
         Outcome::Reopened(_) => "reopened",
@@ -246,6 +252,59 @@ fn tells_by_a_clear(rt: HostRuntime) {
     plays(&rt, alloc, &mut world, CLEARED);
     assert!(rt; !world.is_untold(&key));
     counts(&rt, alloc, &world, 1, 0);
+    world.close();
+}
+
+// An invalidation finds nothing, an entry, or a reservation.
+const INVALIDATED: &str = "\
+invalidate 1 a: nothing; none
+get 1 a: begun; start leave
+start 1 a: loads; read say withdraw
+read 1 a: reads; commit
+commit 1 a: stepped; none
+invalidate 1 a: evicted; none
+get 2 a: begun; start leave
+start 2 a: loads; read say withdraw
+read 2 a: reads; commit
+invalidate 2 a: marked; commit
+get 3 a: begun; start leave
+start 3 a: refused; none
+";
+
+// The commit evicts what it has loaded, so that the next get loads again. That one gives its reservation back.
+const FORGOTTEN: &str = "\
+commit 2 a: stepped; none
+get 4 a: begun; start leave
+start 4 a: loads; read say withdraw
+invalidate 4 a: marked; read say withdraw
+withdraw 4 a: withdrawn; start leave
+start 4 a: loads; read say withdraw
+read 4 a: reads; commit
+commit 4 a: stepped; none
+";
+
+// Somebody else writes a key while it is reserved and invalidated. It is untold until the reservation ends.
+#[test]
+fn tells_by_an_invalidation(rt: HostRuntime) {
+    let alloc = rt.alloc();
+    let mut world = opened_world(&rt, alloc);
+    let key = key_of(&rt, "a");
+    plays(&rt, alloc, &mut world, INVALIDATED);
+    let value = Some(value_of(&rt, "7"));
+    let write = WorldEvent::Foreign { key, value };
+    shows(
+        &rt,
+        alloc,
+        &mut world,
+        write,
+        "written",
+        "a write of others",
+    );
+    assert!(rt; world.is_untold(&key));
+    plays(&rt, alloc, &mut world, FORGOTTEN);
+    assert!(rt; !world.is_untold(&key));
+    counts(&rt, alloc, &world, 0, 0);
+    audits(&rt, alloc, &world, "7", "7", 5);
     world.close();
 }
 

@@ -2,7 +2,7 @@
 use super::courses::{shown_of, word_of};
 use super::{config, key_at, key_of, value_of};
 use indexmap::{IndexMap, IndexSet};
-use jc_model::{Event, LoadAnswer, Op, Out, Reply, legal};
+use jc_model::{Cause, Event, LoadAnswer, Op, Out, Reply, legal};
 use jc_types::{Config, Key, Value, stripe_of};
 use jc_world::command::Command;
 use jc_world::event::{Outcome, Shown, WorldEvent};
@@ -159,6 +159,10 @@ impl Rng {
                 call,
                 stripe: self.next(2) as usize,
             },
+            11 => match self.next(5) {
+                0 => WorldEvent::Invalidate { key },
+                _ => WorldEvent::PickUp { call, key },
+            },
             _ => self.answer(rt, alloc, call, key),
         }
     }
@@ -208,6 +212,7 @@ struct Shelf {
     read: usize,
     victims: bool,
     not_kept: bool,
+    invalidated: bool,
     shared: bool,
 }
 
@@ -291,17 +296,29 @@ impl Shelf {
         }
     }
 
+    /// The key that goes: the event is the first of a phase, or not. Before the phase these keys were reserved.
+    fn gone(&mut self, first: bool, key: &Key, cause: &Cause, pinned: &[Key]) -> Option<Key> {
+        match (cause, first) {
+            (Cause::Invalidated, _) => {
+                self.invalidated = true;
+                self.value(key).map(|_| *key)
+            }
+            (_, true) => {
+                self.victims = true;
+                self.oldest(key, pinned)
+            }
+            (_, false) => {
+                self.not_kept = true;
+                self.newest()
+            }
+        }
+    }
+
     /// Reads the events that one event of the world appended. Before it these keys were reserved.
     fn reads_phase(&mut self, rt: &impl Abort, events: &[Event], pinned: &[Key]) {
         for (k, event) in events.iter().skip(self.read).enumerate() {
-            if let Event::Evict { key, .. } = event {
-                let goes = if k == 0 {
-                    self.victims = true;
-                    self.oldest(key, pinned)
-                } else {
-                    self.not_kept = true;
-                    self.newest()
-                };
+            if let Event::Evict { key, cause } = event {
+                let goes = self.gone(k == 0, key, cause, pinned);
                 assert!(rt; goes == Some(*key), "another key goes");
             }
             self.reads(rt, event);
@@ -313,7 +330,7 @@ impl Shelf {
 // 3. The runs.
 
 /// The number of kinds of outcomes, except those of entry processors and of reopenings, which these runs don't have.
-const KINDS: usize = 19;
+const KINDS: usize = 21;
 
 fn kind(outcome: &Outcome) -> usize {
     match outcome {
@@ -327,7 +344,7 @@ fn kind(outcome: &Outcome) -> usize {
         Outcome::Says(_) => 7,
         Outcome::Changed => 8,
         Outcome::Reported(_) => 9,
-        Outcome::Withdrawn => 10,
+        Outcome::Withdrawn(_) => 10,
         Outcome::Left => 11,
         Outcome::PickedUp(_) => 12,
         Outcome::Waits => 13,
@@ -336,8 +353,18 @@ fn kind(outcome: &Outcome) -> usize {
         Outcome::Unfit => 16,
         Outcome::Looked => 17,
         Outcome::PutOff(_) => 18,
+        Outcome::Marked => 19,
+        Outcome::Invalidated(_) => 20,
         Outcome::Processes(_) | Outcome::Processed(_) | Outcome::Reopened(_) => KINDS,
     }
+}
+
+/// Whether an event that shows this appended one.
+fn appends(outcome: &Outcome) -> bool {
+    matches!(
+        outcome,
+        Outcome::Stepped(_) | Outcome::Withdrawn(Some(_)) | Outcome::Invalidated(Some(_))
+    )
 }
 
 /// The key of a call of one key.
@@ -348,13 +375,15 @@ fn key_of_single(command: &Command) -> Option<Key> {
     }
 }
 
-/// A run of a world: the last call of each session, with its key if it has only one; the reading; how often each kind was shown;
-/// how often an event of a call fitted; and how many bulk calls began, were shown to be over, and left.
+/// A run of a world: the last call of each session, with its key if it has only one; the reading; the keys that were invalidated while
+/// they were reserved, and still are; how often each kind was shown; how often an event of a call fitted; and how many bulk calls
+/// began, were shown to be over, and left.
 #[derive(Drop)]
 struct Run {
     rng: Rng,
     calls: Vec<(u64, Option<Key>)>,
     shelf: Shelf,
+    marked: Vec<Key>,
     shown: [u32; KINDS],
     fitting: u32,
     begun: u32,
@@ -391,14 +420,39 @@ impl Run {
         event: WorldEvent,
     ) -> &'static str {
         let keys = self.pinned(rt, alloc, world);
+        let invalidated = match &event {
+            WorldEvent::Invalidate { key } => Some(*key),
+            _ => None,
+        };
         let shown = shown_of(rt, alloc, world, event);
         // No other event of the world appends one: if one did, it would be read as part of the next step, and not agree.
-        if matches!(&shown.outcome, Outcome::Stepped(_)) {
+        if appends(&shown.outcome) {
             let order = world.order(alloc).expect(rt, "memory");
             self.shelf.reads_phase(rt, &order, &keys);
         }
+        self.forgets(rt, world, &shown.outcome, invalidated);
         self.counts(rt, world, &shown);
         word_of(&shown.outcome)
+    }
+
+    /// Asserts that a key that was invalidated has no entry, from then on or from the end of its reservation on.
+    fn forgets(
+        &mut self,
+        rt: &impl Abort,
+        world: &World,
+        outcome: &Outcome,
+        invalidated: Option<Key>,
+    ) {
+        if let (Some(key), Outcome::Marked | Outcome::Invalidated(_)) = (invalidated, outcome) {
+            self.marked.push(key).expect(rt, "memory");
+        }
+        for name in NAMES {
+            let key = key_of(rt, name);
+            if self.marked.contains(&key) && !self.is_reserved(world, &key) {
+                assert!(rt; self.shelf.value(&key).is_none(), "it is forgotten");
+                self.marked.retain(|marked| *marked != key);
+            }
+        }
     }
 
     /// Counts an outcome.
@@ -497,7 +551,10 @@ impl Run {
     /// Asserts that each kind was shown, and each kind of eviction was met.
     fn has_met_all(&self, rt: &impl Abort) {
         let shelf = &self.shelf;
-        assert!(rt; shelf.victims && shelf.not_kept && shelf.shared);
+        assert!(rt; shelf.victims, "evictions of a full stripe");
+        assert!(rt; shelf.not_kept, "entries that aren't kept");
+        assert!(rt; shelf.invalidated, "evictions of invalidated keys");
+        assert!(rt; shelf.shared, "shared loads");
         assert!(rt; 1000 < self.fitting);
         for (kind, count) in self.shown.iter().enumerate() {
             assert!(rt; 0 < *count, "the kind {kind}");
@@ -516,15 +573,17 @@ fn runs_at_random(rt: &impl Abort, alloc: Global, config: &Config) {
             read: 0,
             victims: false,
             not_kept: false,
+            invalidated: false,
             shared: false,
         },
+        marked: Vec::new(alloc),
         shown: [0; KINDS],
         fitting: 0,
         begun: 0,
         over: 0,
         left: 0,
     };
-    for number in 1..6000u64 {
+    for number in 1..10000u64 {
         run.goes_on(rt, alloc, &mut world, number);
     }
     run.agrees(rt, alloc, &world, config);

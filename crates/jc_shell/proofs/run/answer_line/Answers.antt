@@ -1,5 +1,5 @@
 use Rattle.jc_shell.proofs.Common.{◌∙◌, ◌∷◌, [], ◌++◌, ℕ, List, ap, append-nil, inl, inr, refl}
-use Rattle.jc_shell.proofs.Streams.{answered_one, appends_none, err_then, late_none, ok_then}
+use Rattle.jc_shell.proofs.Streams.{answered_one, appends_none, err_then, late_none, ok_then, stops_at_one}
 use Rattle.jc_shell.proofs.run.answer_line.Goals as goal
 
 pub returns-in-Ok-clause-ok : goal.returns-in-Ok-clause-ok
@@ -26,9 +26,10 @@ returns-in-Ok-clause-err g c = err_then c.say_both.result _ _ (λ e w. λ a h.
       w.1.2,
       late_none e,
       rw (append-nil r.1) r.6,
+      λ write. stops_at_one prompt a line r.0 r.1 r.2 w.1.0 r.4,
     )) c.say_both.ensures.err
 
 pub returns-clause-err : goal.returns-clause-err
 returns-clause-err g c = λ a h.
     let u = c.in-Err.ensures.unsaved in
-    ([], [], [], [], u.0, a, inl refl, (refl, refl, refl), refl, appends_none _, u.1, u.2)
+    ([], [], [], [], u.0, a, inl refl, (refl, refl, refl), refl, appends_none _, u.1, u.2, λ write. absurd cc)

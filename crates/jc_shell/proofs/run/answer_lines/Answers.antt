@@ -1,7 +1,7 @@
 use Rattle.jc_shell.proofs.Common.{◌≡◌, ◌∷◌, [], ◌++◌, append_assoc, refl, rules, Quit, word_of, pieces_of, appends-then}
 use Rattle.jc_shell.proofs.Lines.{first_is_whole, line_and_rest}
 use Rattle.jc_shell.proofs.Turns.{calls_none, calls_then}
-use Rattle.jc_shell.proofs.Streams.{answered_one, answered_then, appends_none, left_of, read_one, read_then, written_then}
+use Rattle.jc_shell.proofs.Streams.{answered_one, answered_then, appends_none, left_of, read_one, read_then, stops_then, written_then}
 use Rattle.jc_shell.proofs.run.answer_lines.Goals as goal
 
 pub loop-line-init : goal.loop-line-init
@@ -69,6 +69,7 @@ returns-in-Err-clause-err g c =
       appends-then _ _ _ p.1 r.2 p.6 r.9,
       r.10,
       rw (append_assoc p.2 r.3 r.4) (calls_then _ _ _ p.2 (r.3 ++ r.4) p.7 r.11),
+      λ write. stops_then prompt [] p.0 r.0 p.1 r.1 r.2 p.2 r.3 a p.3 r.5 p.4 (r.12 write),
     )
 
 pub returns-clause-ok : goal.returns-clause-ok

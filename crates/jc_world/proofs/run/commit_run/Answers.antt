@@ -1,4 +1,4 @@
-use Rattle.jc_world.proofs.Common.{◌≡◌, is_some, Option, Some, None, sym, ap, ◌∙◌, subst, Change, Out, change_due, Commits, IsOut, TicketClaim, Claim, claim_of, asks_processor, Reservation}
+use Rattle.jc_world.proofs.Common.{◌≡◌, is_some, Option, Some, None, sym, ap, ◌∙◌, subst, Change, Out, change_due, Ends, IsOut, TicketClaim, Claim, claim_of, asks_processor, Reservation}
 use Rattle.jc_world.proofs.Committing.{change_is, change_some, given_if, has_report, no_report}
 use Rattle.jc_outside.specs.Done.{WriteResult}
 use Rattle.jc_stripe.specs.Tickets.{report_claim}
@@ -12,8 +12,8 @@ returns-in-Some c =
     let answer = ap (λ (d : WriteResult Claim). d.answer) c.played_write-written.ensures in
     let out : process_out c.args.done (Some written) ≡ c.args.progress.now.out = λ i. record { load = c.requires.load i; write = answer i; process = c.requires.process i } in
     let r = ap (λ (t : TicketClaim). t.reservation) c.ask_writer.ensures.writer_asked in
-    let P : Reservation → Out → Type 0 = λ r o. Commits c.args.stripe.now r o (with_reply c.commit_process.result c.commit_process.new.reply) c.commit_process.new.self in
-    subst (P c.args.ticket.reservation) out (subst (λ x. P x (process_out c.args.done (Some written))) r c.commit_process.ensures.commits)
+    let P : Reservation → Out → Type 0 = λ r o. Ends c.args.stripe.now r o (with_reply c.commit_process.result c.commit_process.new.reply) c.commit_process.new.self in
+    subst (P c.args.ticket.reservation) out (subst (λ x. P x (process_out c.args.done (Some written))) r c.commit_process.ensures.ends)
 
 pub ask_writer-requires : goal.ask_writer-requires
 ask_writer-requires c =
@@ -58,4 +58,4 @@ commit_process-requires-in-None c = record {
 pub returns-in-None : goal.returns-in-None
 returns-in-None c =
     let out : process_out c.args.done None ≡ c.args.progress.now.out = λ i. record { load = c.requires.load i; write = sym (c.requires.unwritten c.in-None.is) i; process = c.requires.process i } in
-    subst (λ (o : Out). Commits c.args.stripe.now c.args.ticket.reservation o (with_reply c.commit_process-in-None.result c.commit_process-in-None.new.reply) c.commit_process-in-None.new.self) out c.commit_process-in-None.ensures.commits
+    subst (λ (o : Out). Ends c.args.stripe.now c.args.ticket.reservation o (with_reply c.commit_process-in-None.result c.commit_process-in-None.new.reply) c.commit_process-in-None.new.self) out c.commit_process-in-None.ensures.ends

@@ -20,6 +20,7 @@ pub enum Seen {
     Waits,
     Again,
     Full,
+    Shut,
     Misuse,
     Flag(bool),
 }
@@ -72,6 +73,7 @@ pub fn seen_of(rt: &impl Abort, text: &str) -> Seen {
         "waits" => Seen::Waits,
         "again" => Seen::Again,
         "full" => Seen::Full,
+        "shut" => Seen::Shut,
         "misuse" => Seen::Misuse,
         "yes" => Seen::Flag(true),
         "no" => Seen::Flag(false),

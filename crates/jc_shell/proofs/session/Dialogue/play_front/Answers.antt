@@ -1,4 +1,4 @@
-use Rattle.jc_shell.proofs.Common.{◌≡◌, ◌∙◌, ◌∷◌, ◌++◌, ℕ, List, [], ap, arith, false, length, pieces_of, refl, rules, sym, has_feed, nobody, script_of}
+use Rattle.jc_shell.proofs.Common.{◌≡◌, ◌∙◌, ◌∷◌, ◌++◌, ℕ, List, [], ap, arith, length, pieces_of, refl, rules, sym, nobody, script_of}
 use Rattle.jc_shell.proofs.Feeds.{no_feed}
 use Rattle.jc_shell.proofs.Lines.{first_is_whole, line_and_rest}
 use Rattle.jc_shell.proofs.Turns.{next_script, nothing_of}

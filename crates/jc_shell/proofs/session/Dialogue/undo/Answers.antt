@@ -1,4 +1,4 @@
-use Rattle.jc_shell.proofs.Common.{◌≡◌, ◌∙◌, ◌∷◌, ◌++◌, ◌<◌, ℕ, List, [], ap, arith, codes, drop, inl, inr, length, refl, subst, sym, drop-append_seam, HasFaultNow, Holds, opened_world, no_undo_text, not_undone_text, script_of, undone_text}
+use Rattle.jc_shell.proofs.Common.{◌∙◌, ◌++◌, ◌<◌, ℕ, List, ap, arith, inl, inr, length, refl, subst, sym, HasFaultNow, Holds, opened_world, no_undo_text, not_undone_text, undone_text}
 use Rattle.jc_shell.proofs.Streams.{ok_then}
 use Rattle.jc_shell.proofs.Turns.{last_of, nothing_of, shown_of}
 use Rattle.jc_shell.specs.declared.session.Dialogue.{Dialogue}

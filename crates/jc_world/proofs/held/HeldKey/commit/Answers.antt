@@ -1,5 +1,5 @@
 use Rattle.jc_outside.specs.Done.{LoadResult, WriteResult}
-use Rattle.jc_world.proofs.Common.{◌≡◌, Bool, ◌⊎◌, Option, Some, sym, ap, ◌∙◌, subst, Bytes, Out, First, Loader, Nobody, Processor, Writer, Commits, IsOut, load_only, write_only, Reservation, State, StepDone, TicketClaim, Claim, claim_of, asks_loader, asks_writer, Part, IsDue, is_all_answered, out_of_part}
+use Rattle.jc_world.proofs.Common.{◌≡◌, Bool, ◌⊎◌, Option, Some, sym, ap, ◌∙◌, subst, Bytes, Out, First, Loader, Nobody, Processor, Writer, Ends, IsOut, load_only, write_only, Reservation, State, StepDone, TicketClaim, Claim, claim_of, asks_loader, asks_writer, Part, IsDue, is_all_answered, out_of_part}
 use Rattle.jc_world.proofs.Committing.{unwritten_of, due_of, is_reported, load_answered, write_answered, loaded_only, written_only, somebody_asks}
 use Rattle.jc_stripe.specs.Phases.{with_reply}
 use Rattle.jc_world.specs.Held.{HasPlayedRun}
@@ -29,15 +29,15 @@ commit_run-requires c =
 
 pub returns-in-Some : goal.returns-in-Some
 returns-in-Some c =
-    let Q : Part → Type 0 = λ p. Commits c.args.stripe.now p.reservation (out_of_part p) (with_reply c.commit_run.result c.commit_run.new.reply) c.commit_run.new.stripe in
+    let Q : Part → Type 0 = λ p. Ends c.args.stripe.now p.reservation (out_of_part p) (with_reply c.commit_run.result c.commit_run.new.reply) c.commit_run.new.stripe in
     subst Q c.self.view_is c.commit_run.ensures
 
 -- 2. Behind the loader, or the writer.
 
 -- the commit of a ticket is that of its part
-ends_part : (from to : State) (done : StepDone) (part self : Part) (r : Reservation) (out : Out) → part ≡ self → r ≡ part.reservation → out ≡ out_of_part part → Commits from r out done to → Commits from self.reservation (out_of_part self) done to
+ends_part : (from to : State) (done : StepDone) (part self : Part) (r : Reservation) (out : Out) → part ≡ self → r ≡ part.reservation → out ≡ out_of_part part → Ends from r out done to → Ends from self.reservation (out_of_part self) done to
 ends_part from to done part self r out is r_is out_is h =
-    let P : Reservation → Out → Type 0 = λ r o. Commits from r o done to in
+    let P : Reservation → Out → Type 0 = λ r o. Ends from r o done to in
     subst (λ (p : Part). P p.reservation (out_of_part p)) is (subst (P part.reservation) out_is (subst (λ r. P r out) r_is h))
 
 pub ask-requires : goal.ask-requires
@@ -64,7 +64,7 @@ returns-in-Loader c =
     let part : Part = record { reservation = c.self.inside.ticket.reservation; progress = c.self.inside.progress } in
     let first : part.reservation.first ≡ Loader = ap (λ (r : Reservation). r.first) (sym c.reservation.ensures) ∙ c.in-Loader.is in
     ends_part _ _ _ part c.args.self _ _ c.self.view_is (ap (λ (t : TicketClaim). t.reservation) c.ask.ensures.asked)
-    (ap (λ (d : LoadResult Claim). load_only d.answer) c.played_load-done.ensures ∙ loaded_only part first c.self.invariant.of_asked) c.commit_load.ensures.commits
+    (ap (λ (d : LoadResult Claim). load_only d.answer) c.played_load-done.ensures ∙ loaded_only part first c.self.invariant.of_asked) c.commit_load.ensures.ends
 
 pub ask-requires-in-Writer : goal.ask-requires-in-Writer
 ask-requires-in-Writer c = (subst (λ run. HasPlayedRun c.self.inside.ticket run c.self.inside.progress.out) c.in-None.is c.self.invariant.run_is).0
@@ -90,7 +90,7 @@ returns-in-Writer c =
     let part : Part = record { reservation = c.self.inside.ticket.reservation; progress = c.self.inside.progress } in
     let first : part.reservation.first ≡ Writer c.in-Writer.field-0 = ap (λ (r : Reservation). r.first) (sym c.reservation.ensures) ∙ c.in-Writer.is in
     ends_part _ _ _ part c.args.self _ _ c.self.view_is (ap (λ (t : TicketClaim). t.reservation) c.ask-in-Writer.ensures.asked)
-    (ap (λ (d : WriteResult Claim). write_only d.answer) c.played_write-done.ensures ∙ written_only part c.in-Writer.field-0 first c.self.invariant.of_asked) c.commit_write.ensures.commits
+    (ap (λ (d : WriteResult Claim). write_only d.answer) c.played_write-done.ensures ∙ written_only part c.in-Writer.field-0 first c.self.invariant.of_asked) c.commit_write.ensures.ends
 
 -- 3. Nobody else.
 

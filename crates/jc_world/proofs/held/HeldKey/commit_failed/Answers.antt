@@ -1,4 +1,4 @@
-use Rattle.jc_world.proofs.Common.{refl, sym, ap, ◌∙◌, subst, Commits, IsOut, Reservation, Part, IsDue, is_all_answered, out_of_part, with_report, is_misled, is_true_report, has_changed}
+use Rattle.jc_world.proofs.Common.{refl, sym, ap, ◌∙◌, subst, Ends, IsOut, Reservation, Part, IsDue, is_all_answered, out_of_part, with_report, is_misled, is_true_report, has_changed}
 use Rattle.jc_stripe.specs.Phases.{with_reply}
 use Rattle.jc_model.specs.declared.event.WriteAnswer.TheVariants.{Failed}
 use Rattle.jc_world.proofs.Committing.{answered_failed, due_told, due_heard}
@@ -25,4 +25,4 @@ pub returns : goal.returns
 returns c =
     let out = out_of_part c.report-is_changed.new.self in
     let r = ap (λ (p : Part). p.reservation) c.report-is_changed.ensures.report in
-    (out, (with_reply c.commit-step.result c.commit-step.new.reply), subst (λ (r : Reservation). Commits c.args.stripe.now r out (with_reply c.commit-step.result c.commit-step.new.reply) c.commit-step.new.stripe) r c.commit-step.ensures)
+    (out, (with_reply c.commit-step.result c.commit-step.new.reply), subst (λ (r : Reservation). Ends c.args.stripe.now r out (with_reply c.commit-step.result c.commit-step.new.reply) c.commit-step.new.stripe) r c.commit-step.ensures)

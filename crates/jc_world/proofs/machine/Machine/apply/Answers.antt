@@ -4,7 +4,10 @@ pub returns-in-Commit-clause-ok : goal.returns-in-Commit-clause-ok
 returns-in-Commit-clause-ok c = rw c.in-Commit.is c.commit.ensures.ok
 
 pub returns-in-Withdraw-clause-ok : goal.returns-in-Withdraw-clause-ok
-returns-in-Withdraw-clause-ok c = rw c.in-Withdraw.is c.withdraw.ensures
+returns-in-Withdraw-clause-ok c = rw c.in-Withdraw.is c.withdraw.ensures.ok
+
+pub returns-in-Invalidate-clause-ok : goal.returns-in-Invalidate-clause-ok
+returns-in-Invalidate-clause-ok c = rw c.in-Invalidate.is c.invalidate.ensures.ok
 
 pub returns-in-PickUp-clause-ok : goal.returns-in-PickUp-clause-ok
 returns-in-PickUp-clause-ok c = rw c.in-PickUp.is c.pick_up.ensures.ok

@@ -1,8 +1,9 @@
-use Rattle.jc_world.proofs.Common.{◌≡◌, slice_set, sym, refl, ap, subst, arith, Played, Commits, IsOut, IsDue, State, OrderedStripes, AreTurns, out_of_part, Part}
+use Rattle.jc_world.proofs.Common.{◌≡◌, slice_set, sym, refl, ap, subst, arith, Played, Ends, IsOut, IsDue, State, OrderedStripes, AreTurns, out_of_part, Part}
 use Rattle.jc_stripe.specs.Phases.{with_reply}
 use Rattle.jc_world.proofs.Lengths.{ended_length, has_room, still_place}
 use Rattle.jc_world.proofs.Merging.{is_at, met_at, number_within, number_few, phase_made, grows_turns}
 use Rattle.jc_world.proofs.Shares.{length-slice_set}
+use Rattle.jc_world.proofs.Dropping.{ends_extends}
 use Rattle.jc_world.proofs.stripes.Stripes.commit.Goals as goal
 
 -- what is known of the stripe from which the part is
@@ -36,7 +37,7 @@ invariant_of-self c =
     let from = c.index_mut-stripe.result.now in
     let to = c.commit-step.new.stripe in
     let at = is_at c.self.inside c.args.self.now c.args.number from (λ s. IsOut s c.args.held.reservation × (s.origin ≡ Played) × IsDue s.config c.args.held) c.self.view_is c.requires.out c.index_mut-stripe.ensures.value in
-    let longer = c.grows.ensures.commits from to c.args.held.reservation (out_of_part c.args.held) (with_reply c.commit-step.result c.commit-step.new.reply) c.commit-step.ensures in
+    let longer = ends_extends c.grows.ensures from to c.args.held.reservation (out_of_part c.args.held) (with_reply c.commit-step.result c.commit-step.new.reply) c.commit-step.ensures in
     record {
       turns = subst (AreTurns (slice_set items c.args.number to)) (sym c.give_turns.ensures)
           (grows_turns items c.self.inside.turns.items c.args.number c.history_len-before.result from to longer.more c.self.invariant.turns at longer.history c.history_len-before.ensures.len);
@@ -48,5 +49,5 @@ returns c =
     let from = c.index_mut-stripe.result.now in
     let to = c.commit-step.new.stripe in
     let at = is_at c.self.inside c.args.self.now c.args.number from (λ s. IsOut s c.args.held.reservation × (s.origin ≡ Played) × IsDue s.config c.args.held) c.self.view_is c.requires.out c.index_mut-stripe.ensures.value in
-    let longer = c.grows.ensures.commits from to c.args.held.reservation (out_of_part c.args.held) (with_reply c.commit-step.result c.commit-step.new.reply) c.commit-step.ensures in
-    phase_made c.self.inside c.args.self.now c.args.number c.history_len-before.result from to (λ old new. Commits old c.args.held.reservation (out_of_part c.args.held) (with_reply c.commit-step.result c.commit-step.new.reply) new) c.give_turns.new.turns.items _ c.self.view_is c.self.invariant at longer c.history_len-before.ensures.len c.commit-step.ensures c.give_turns.ensures refl refl
+    let longer = ends_extends c.grows.ensures from to c.args.held.reservation (out_of_part c.args.held) (with_reply c.commit-step.result c.commit-step.new.reply) c.commit-step.ensures in
+    phase_made c.self.inside c.args.self.now c.args.number c.history_len-before.result from to (λ old new. Ends old c.args.held.reservation (out_of_part c.args.held) (with_reply c.commit-step.result c.commit-step.new.reply) new) c.give_turns.new.turns.items _ c.self.view_is c.self.invariant at longer c.history_len-before.ensures.len c.commit-step.ensures c.give_turns.ensures refl refl

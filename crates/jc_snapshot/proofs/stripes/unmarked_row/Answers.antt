@@ -1,5 +1,5 @@
 use Rattle.jc_snapshot.proofs.Common.{[], ◌∷◌, Some, sym, ap, subst, ◌∙◌, AreNumbers, flat, bit, origin_word}
-use Rattle.jc_snapshot.proofs.stripes.stripe_row.Goals as goal
+use Rattle.jc_snapshot.proofs.stripes.unmarked_row.Goals as goal
 
 pub returns-clause-row : goal.returns-clause-row
 returns-clause-row c =
@@ -14,7 +14,9 @@ returns-clause-row c =
     let reservations = c.deref-2.ensures.value in
     let joiners = c.deref-3.ensures.value in
     let answers = c.deref-4.ensures.value in
-    let ended = c.requires in
+    let ended = c.requires.ended in
+    let marks = c.requires.marks in
+    let open_is = c.requires.open_is in
     let cache = sym c.entry_numbers.ensures.cache in
     record {
       config = config;
@@ -28,5 +30,5 @@ returns-clause-row c =
       reservations_are = subst (λ rs. AreNumbers c.numbers_of.new.table rs c.in_ok-reservations.reservations.items) c.reservations.ensures c.in_ok-reservations.ensures.numbers;
       joiners_are = subst (λ js. AreNumbers c.numbers_of-2.new.table js c.in_ok-joiners.joiners.items) c.joiners.ensures c.in_ok-joiners.ensures.numbers;
       answers_are = c.in_ok-answers.ensures.numbers;
-      rest_is = λ i. record x { ended = ended i; opening = []; cache = cache i; history = [] };
+      rest_is = λ i. record x { ended = ended i; opening = []; cache = cache i; history = []; marked = marks i; shut = open_is i };
     }
