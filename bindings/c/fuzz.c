@@ -52,6 +52,7 @@ typedef struct host {
     jc_entry opening[KEYS];   /* what was cached when the generation began */
     size_t opened;
     uint64_t evicted;
+    bool is_shut, is_marked[KEYS];   /* what was invalidated: all keys, or those that are reserved */
     jc_out out;
 } host;
 
@@ -91,6 +92,15 @@ static bool is_ours(const host *self, unsigned key) {
 
 static bool has_ticket(const call *it) {
     return it->next >= JC_ASK_LOAD && it->next <= JC_ASK_PROCESS;
+}
+
+static bool is_reserved(const host *self, unsigned key) {
+    for (unsigned at = 0; at < SESSIONS; at++) {
+        if (has_ticket(&self->calls[at]) && self->calls[at].key == key) {
+            return true;
+        }
+    }
+    return false;
 }
 
 static bool is_idle(const host *self) {
@@ -143,12 +153,18 @@ static void follow(host *self, unsigned key, const jc_value *brought) {
         lose(self, key, &out->left);
     }
     if (out->moves & JC_MOVE_STORED) {
-        CHECK(!self->cached[key].is_there && !(out->moves & JC_MOVE_OWN_EVICTED_FULL));
+        CHECK(!self->cached[key].is_there && !(out->moves & (JC_MOVE_OWN_EVICTED_FULL | JC_MOVE_INVALIDATED)));
         self->cached[key].is_there = true;
         self->cached[key].value = *brought;
     }
     self->evicted += (out->moves & (JC_MOVE_EVICTED | JC_MOVE_OWN_EVICTED_FULL)) != 0;
     CHECK(!(out->moves & JC_MOVE_OWN_EVICTED_MEMORY));
+}
+
+/* The key's reservation is over. */
+static void release(host *self, unsigned key) {
+    CHECK(!self->is_marked[key] ? !(self->out.moves & JC_MOVE_INVALIDATED) : !self->cached[key].is_there);
+    self->is_marked[key] = false;
 }
 
 /* Generations. */
@@ -188,6 +204,68 @@ static void end_generation(host *self, input *from) {
     if (len > 0 && !has_parked(self)) {
         CHECK(jc_events_len(&self->desk) == 0);
         keep_opening(self);
+    }
+}
+
+/* What others have written. */
+
+static void invalidate(host *self, input *from) {
+    unsigned key = byte(from) % (KEYS + 2);
+    uint32_t code = jc_invalidate(&self->desk, bytes_of(key), length_of(key), &self->out);
+    CHECK(code == (key >= KEYS ? JC_CODE_BAD_ARGUMENT : is_ours(self, key) ? JC_OK : JC_CODE_MISUSE));
+    if (code != JC_OK) {
+        return;
+    }
+    const jc_out *out = &self->out;
+    bool was_there = self->cached[key].is_there;
+    if (out->moves) {
+        CHECK(out->moves == (JC_MOVE_REMOVED | JC_MOVE_INVALIDATED) && !is_reserved(self, key));
+        lose(self, key, &out->left);
+    } else if (is_reserved(self, key)) {
+        self->is_marked[key] = true;
+    } else if (was_there) {
+        self->is_shut = true;
+    }
+    CHECK(out->next == (self->is_shut ? JC_NEXT_SHUT : JC_NEXT_DONE));
+}
+
+static void invalidate_all(host *self) {
+    CHECK(jc_invalidate_all(&self->desk) == JC_OK);
+    for (unsigned key = 0; key < KEYS; key++) {
+        self->is_marked[key] = is_reserved(self, key);
+    }
+    self->is_shut = true;
+}
+
+static bool is_swept(const host *self) {
+    for (unsigned key = 0; key < KEYS; key++) {
+        if (self->cached[key].is_there && !is_reserved(self, key)) {
+            return false;
+        }
+    }
+    return true;
+}
+
+static void sweep(host *self, input *from) {
+    CHECK(jc_sweep(&self->desk, &self->out) == JC_OK);
+    const jc_out *out = &self->out;
+    CHECK(out->moves == (out->next == JC_NEXT_SHUT ? JC_MOVE_EVICTED : 0));
+    reach(4, is_swept(self), out);
+    switch (out->next) {
+    case JC_NEXT_SHUT:
+        CHECK(self->is_shut && !is_reserved(self, key_of(&out->victim)));
+        lose(self, key_of(&out->victim), &out->evicted);
+        break;
+    case JC_NEXT_DONE:
+        CHECK(!self->is_shut || is_swept(self));
+        self->is_shut = false;
+        break;
+    case JC_NEXT_FULL:
+        CHECK(self->is_shut && !is_swept(self) && self->shape.keeps_events && !has_parked(self));
+        end_generation(self, from);
+        break;
+    default:
+        CHECK(self->is_shut && !is_swept(self) && out->next == JC_NEXT_NOT_YET && !is_idle(self));
     }
 }
 
@@ -232,6 +310,9 @@ static void begin_call(host *self, input *from) {
     }
     const jc_value *brought = op == JC_OP_REPLACE_IF ? &other : &value;
     reach(0, op, &self->out);
+    CHECK(!self->is_shut || self->out.next == JC_NEXT_FULL || self->out.next == JC_NEXT_SHUT);
+    CHECK(!self->is_marked[key] || self->out.next == JC_NEXT_FULL || self->out.next == JC_NEXT_SHUT ||
+          (self->out.next == JC_NEXT_REFUSED && self->out.reply == JC_REFUSAL_BUSY));
     switch (self->out.next) {
     case JC_NEXT_DONE:
         follow(self, key, brought);
@@ -242,6 +323,10 @@ static void begin_call(host *self, input *from) {
     case JC_NEXT_FULL:
         CHECK(self->shape.keeps_events);
         end_generation(self, from);
+        break;
+    case JC_NEXT_SHUT:
+        CHECK(self->is_shut && self->out.moves == 0);
+        sweep(self, from);
         break;
     default:
         take_out(self, session, key, brought);
@@ -255,7 +340,7 @@ static void hit(host *self, input *from) {
     CHECK((code == JC_CODE_BAD_ARGUMENT) == (key >= KEYS));
     if (code == JC_OK) {
         CHECK(self->cached[key].is_there && are_equal(&self->cached[key].value, &value));
-        CHECK(self->calls[session].next == NO_CALL);
+        CHECK(self->calls[session].next == NO_CALL && !self->is_shut && !self->is_marked[key]);
     } else {
         CHECK(code == JC_CODE_BAD_ARGUMENT || code == JC_CODE_NONE);
     }
@@ -293,7 +378,8 @@ static void commit(host *self, unsigned kind, uint32_t code, call *it, const jc_
     CHECK(self->out.next == JC_NEXT_DONE);
     reach(kind, it->next, &self->out);
     follow(self, it->key, brought);
-    CHECK(jc_withdraw(&self->desk, it->number) == JC_CODE_MISUSE);
+    release(self, it->key);
+    CHECK(jc_withdraw(&self->desk, it->number, &self->out) == JC_CODE_MISUSE);
     it->next = NO_CALL;
 }
 
@@ -325,7 +411,7 @@ static void commit_write(host *self, input *from) {
     bool is_due = it->next == JC_ASK_WRITE || it->next == JC_ASK_DELETE;
     CHECK(code == (answer != JC_ANSWER_WRITTEN && answer != JC_ANSWER_FAILED ? JC_CODE_BAD_ARGUMENT : is_due ? JC_OK : JC_CODE_MISUSE));
     CHECK(code != JC_OK || (self->out.reply == JC_REPLY_WRITER_FAILED) == (answer == JC_ANSWER_FAILED));
-    CHECK(code != JC_OK || answer != JC_ANSWER_FAILED || (self->out.code == failure && self->out.moves == 0));
+    CHECK(code != JC_OK || answer != JC_ANSWER_FAILED || (self->out.code == failure && (self->out.moves & ~(JC_MOVE_REMOVED | JC_MOVE_INVALIDATED)) == 0));
     commit(self, 2, code, it, &it->brought);
 }
 
@@ -349,8 +435,11 @@ static void commit_process(host *self, input *from) {
 }
 
 static void withdraw(host *self, call *it) {
-    CHECK(jc_withdraw(&self->desk, ticket_of(it)) == (has_ticket(it) ? JC_OK : JC_CODE_MISUSE));
+    CHECK(jc_withdraw(&self->desk, ticket_of(it), &self->out) == (has_ticket(it) ? JC_OK : JC_CODE_MISUSE));
     if (has_ticket(it)) {
+        CHECK(self->out.next == JC_NEXT_DONE && (self->out.moves == 0 || self->out.moves == (JC_MOVE_REMOVED | JC_MOVE_INVALIDATED)));
+        follow(self, it->key, &it->brought);
+        release(self, it->key);
         end_load(self, it->number, JC_NEXT_AGAIN, 0, 0, &it->brought);
         it->next = NO_CALL;
     }
@@ -401,6 +490,7 @@ static void open_desk(host *self, input *from) {
     }
     self->opened = kept;
     self->evicted = 0;
+    self->is_shut = false;
     CHECK(jc_open(&self->desk, &self->shape, self->shape.stripes, self->opening, kept) == JC_CODE_BAD_ARGUMENT);
     CHECK(jc_open(&self->desk, &self->shape, 0, self->opening, kept) == JC_OK);
     CHECK(jc_open(&self->desk, &self->shape, 0, self->opening, kept) == JC_CODE_WRONG_HANDLE);
@@ -416,7 +506,7 @@ static void close_desk(host *self, input *from) {
     }
     keep_opening(self);
     CHECK(jc_close(&self->desk) == JC_OK && jc_close(&self->desk) == JC_CODE_WRONG_HANDLE);
-    CHECK(jc_withdraw(&self->desk, 0) == JC_CODE_WRONG_HANDLE);
+    CHECK(jc_withdraw(&self->desk, 0, &self->out) == JC_CODE_WRONG_HANDLE);
 }
 
 /* All that is out is given back, and the desk is closed. */
@@ -435,7 +525,7 @@ static void end(host *self, input *from) {
 }
 
 static void step(host *self, input *from) {
-    switch (byte(from) % 12) {
+    switch (byte(from) % 14) {
     case 0:
         commit_load(self, from);
         break;
@@ -465,6 +555,15 @@ static void step(host *self, input *from) {
         if (!self->desk.is_open) {
             open_desk(self, from);
         }
+        break;
+    case 9:
+        invalidate(self, from);
+        break;
+    case 10:
+        if (byte(from) % 4 == 0) {
+            invalidate_all(self);
+        }
+        sweep(self, from);
         break;
     default:
         begin_call(self, from);

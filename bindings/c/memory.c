@@ -102,6 +102,25 @@ static void call(jc_desk *desk, unsigned step) {
     follow(number, &out, &value);
 }
 
+/* What others have written is forgotten without an allocation. */
+static void forget(jc_desk *desk, unsigned step) {
+    unsigned number = step * 5 % KEYS;
+    size_t before = made;
+    jc_out out = {0};
+    CHECK(jc_invalidate(desk, BYTES(key_of(number)), &out) == JC_OK && out.next == JC_NEXT_DONE);
+    follow(number, &out, &out.value);
+    CHECK(!table[number].is_there);
+    if (step % 60 == 0) {
+        CHECK(jc_invalidate_all(desk) == JC_OK);
+        do {
+            CHECK(jc_sweep(desk, &out) == JC_OK);
+            follow(number, &out, &out.value);
+        } while (out.next == JC_NEXT_SHUT);
+        CHECK(out.next == JC_NEXT_DONE);
+    }
+    CHECK(made == before);
+}
+
 static void compare(jc_desk *desk) {
     static jc_entry entries[CAPACITY];
     size_t count = 0, expected = 0;
@@ -138,6 +157,9 @@ static bool run(void) {
     }
     for (unsigned step = 0; step < STEPS; step++) {
         call(&desk, step);
+        if (step % 12 == 0) {
+            forget(&desk, step);
+        }
         if (step % 50 == 0) {
             compare(&desk);
         }

@@ -34,7 +34,7 @@ static void loads_and_joins(void) {
     CHECK(picked.next == JC_NEXT_DONE && picked.reply == JC_REPLY_VALUE && is_value(&picked.value, "v") && picked.place == 1);
     CHECK(begin(&desk, 1, JC_OP_GET, "b", "", &first) == JC_OK);
     CHECK(begin(&desk, 2, JC_OP_GET, "b", "", &second) == JC_OK);
-    CHECK(jc_withdraw(&desk, first.number) == JC_OK);
+    CHECK(jc_withdraw(&desk, first.number, &picked) == JC_OK && picked.next == JC_NEXT_DONE && picked.moves == 0);
     CHECK(jc_pick_up(&desk, 2, second.call, BYTES("b"), second.number, &picked) == JC_OK && picked.next == JC_NEXT_AGAIN);
     CHECK(begin(&desk, 1, JC_OP_GET, "b", "", &first) == JC_OK);
     CHECK(jc_commit_load(&desk, first.number, JC_ANSWER_FAILED, 7, NONE, &first) == JC_OK);
@@ -65,9 +65,142 @@ static void writes_and_evictions(void) {
     CHECK(jc_begin(&desk, 1, JC_OP_REPLACE_IF, BYTES("a"), BYTES("9"), BYTES("5"), &out) == JC_OK && out.reply == JC_REPLY_NO);
     CHECK(jc_begin(&desk, 1, JC_OP_REPLACE_IF, BYTES("a"), BYTES("2"), BYTES("5"), &out) == JC_OK);
     CHECK(out.next == JC_ASK_WRITE && is_value(&out.value, "5"));
-    CHECK(jc_withdraw(&desk, out.number) == JC_OK);
+    CHECK(jc_withdraw(&desk, out.number, &out) == JC_OK);
     jc_statistics counts;
     CHECK(jc_statistics_of(&desk, &counts) == JC_OK && counts.puts == 4 && counts.removals == 1 && counts.evictions == 1);
+    CHECK(jc_close(&desk) == JC_OK);
+}
+
+static void invalidations(void) {
+    jc_desk desk = opened(&SHAPE);
+    jc_out out = {0}, joined = {0}, told = {0};
+    jc_value value;
+    jc_statistics counts;
+    put(&desk, "a", "1", &out);
+    CHECK(jc_invalidate(&desk, BYTES("a"), &out) == JC_OK && out.next == JC_NEXT_DONE);
+    CHECK(out.moves == (JC_MOVE_REMOVED | JC_MOVE_INVALIDATED) && is_value(&out.left, "1"));
+    CHECK(jc_invalidate(&desk, BYTES("a"), &out) == JC_OK && out.next == JC_NEXT_DONE && out.moves == 0);
+    CHECK(jc_peek(&desk, BYTES("a"), &value) == JC_CODE_NONE);
+    /* A key that is being loaded: who begins then waits, who had joined is answered, and the loaded value isn't kept. */
+    CHECK(begin(&desk, 1, JC_OP_GET, "a", "", &out) == JC_OK && out.next == JC_ASK_LOAD);
+    CHECK(begin(&desk, 2, JC_OP_GET, "a", "", &joined) == JC_OK && joined.next == JC_NEXT_JOINED);
+    CHECK(jc_invalidate(&desk, BYTES("a"), &told) == JC_OK && told.next == JC_NEXT_DONE && told.moves == 0);
+    for (uint32_t op = JC_OP_GET; op <= JC_OP_INVOKE; op++) {
+        CHECK(begin(&desk, 3, op, "a", "9", &told) == JC_OK && told.next == JC_NEXT_REFUSED && told.reply == JC_REFUSAL_BUSY);
+    }
+    CHECK(jc_commit_load(&desk, out.number, JC_ANSWER_FOUND, 0, BYTES("2"), &out) == JC_OK && is_value(&out.value, "2"));
+    CHECK(out.moves == JC_MOVE_INVALIDATED && out.shared == 1);
+    CHECK(jc_pick_up(&desk, 2, joined.call, BYTES("a"), joined.number, &told) == JC_OK && is_value(&told.value, "2"));
+    CHECK(jc_peek(&desk, BYTES("a"), &value) == JC_CODE_NONE);
+    /* One that is being written, by a call that fails, and by one that is given back. */
+    put(&desk, "b", "3", &out);
+    for (int given_back = 0; given_back <= 1; given_back++) {
+        CHECK(begin(&desk, 1, JC_OP_PUT, "b", "4", &out) == JC_OK && out.next == JC_ASK_WRITE);
+        CHECK(jc_invalidate(&desk, BYTES("b"), &told) == JC_OK && told.moves == 0);
+        CHECK(jc_hit(&desk, 2, BYTES("b"), &value) == JC_CODE_NONE && jc_peek(&desk, BYTES("b"), &value) == JC_OK);
+        if (given_back) {
+            CHECK(jc_withdraw(&desk, out.number, &out) == JC_OK && out.next == JC_NEXT_DONE);
+        } else {
+            CHECK(jc_commit_write(&desk, out.number, JC_ANSWER_FAILED, 0, &out) == JC_OK && out.reply == JC_REPLY_WRITER_FAILED);
+        }
+        CHECK(out.moves == (JC_MOVE_REMOVED | JC_MOVE_INVALIDATED) && is_value(&out.left, "3"));
+        put(&desk, "b", "3", &out);
+        CHECK(out.moves == JC_MOVE_STORED);
+    }
+    CHECK(jc_statistics_of(&desk, &counts) == JC_OK && counts.evictions == 0 && counts.removals == 0);
+    CHECK(jc_close(&desk) == JC_OK);
+}
+
+static void sweeps(void) {
+    jc_shape shape = SHAPE;
+    shape.capacity = 3;
+    jc_desk desk = opened(&shape);
+    jc_out out = {0}, told = {0};
+    jc_value value;
+    put(&desk, "a", "1", &out);
+    put(&desk, "b", "2", &out);
+    put(&desk, "c", "3", &out);
+    CHECK(jc_sweep(&desk, &told) == JC_OK && told.next == JC_NEXT_DONE && told.moves == 0);
+    CHECK(begin(&desk, 1, JC_OP_PUT, "a", "4", &out) == JC_OK && out.next == JC_ASK_WRITE);
+    CHECK(jc_invalidate_all(&desk) == JC_OK);
+    CHECK(begin(&desk, 2, JC_OP_GET, "b", "", &told) == JC_OK && told.next == JC_NEXT_SHUT && told.moves == 0);
+    CHECK(jc_hit(&desk, 2, BYTES("b"), &value) == JC_CODE_NONE);
+    CHECK(jc_sweep(&desk, &told) == JC_OK && told.next == JC_NEXT_SHUT);
+    CHECK(told.moves == JC_MOVE_EVICTED && is_key(&told.victim, "b") && is_value(&told.evicted, "2"));
+    CHECK(jc_sweep(&desk, &told) == JC_OK && told.next == JC_NEXT_SHUT && is_key(&told.victim, "c") && is_value(&told.evicted, "3"));
+    CHECK(jc_sweep(&desk, &told) == JC_OK && told.next == JC_NEXT_DONE && told.moves == 0);
+    CHECK(begin(&desk, 2, JC_OP_GET, "a", "", &told) == JC_OK && told.next == JC_NEXT_REFUSED && told.reply == JC_REFUSAL_BUSY);
+    CHECK(jc_commit_write(&desk, out.number, JC_ANSWER_WRITTEN, 0, &out) == JC_OK && out.reply == JC_REPLY_UNIT);
+    CHECK(out.moves == (JC_MOVE_REMOVED | JC_MOVE_INVALIDATED) && is_value(&out.left, "1"));
+    CHECK(begin(&desk, 2, JC_OP_GET, "a", "", &out) == JC_OK && out.next == JC_ASK_LOAD);
+    CHECK(jc_commit_load(&desk, out.number, JC_ANSWER_NOTHING, 0, NONE, &out) == JC_OK);
+    CHECK(jc_close(&desk) == JC_OK);
+}
+
+/* Fills the generation of a desk with one entry, which a session loads and others have joined: it can't end before they have picked up. */
+static void fill(jc_desk *desk, jc_out *joined, uint32_t joiners) {
+    jc_out out = {0};
+    CHECK(begin(desk, 1, JC_OP_GET, "a", "", &out) == JC_OK && out.next == JC_ASK_LOAD);
+    for (uint32_t at = 0; at < joiners; at++) {
+        CHECK(begin(desk, 2 + at, JC_OP_GET, "a", "", &joined[at]) == JC_OK && joined[at].next == JC_NEXT_JOINED);
+    }
+    CHECK(jc_commit_load(desk, out.number, JC_ANSWER_FOUND, 0, BYTES("1"), &out) == JC_OK && out.shared == joiners);
+}
+
+static void no_place(void) {
+    enum { JOINERS = 13 };
+    jc_desk desk = opened(&SHAPE);
+    jc_out out = {0}, joined[JOINERS];
+    jc_value value;
+    fill(&desk, joined, JOINERS);
+    while (jc_hit(&desk, 1, BYTES("a"), &value) == JC_OK) {
+        CHECK(jc_events_len(&desk) <= SHAPE.history);
+    }
+    CHECK(jc_events_len(&desk) == SHAPE.history);
+    CHECK(jc_invalidate(&desk, BYTES("b"), &out) == JC_OK && out.next == JC_NEXT_DONE && out.moves == 0);
+    CHECK(jc_invalidate(&desk, BYTES("a"), &out) == JC_OK && out.next == JC_NEXT_SHUT && out.moves == 0);
+    CHECK(jc_sweep(&desk, &out) == JC_OK && out.next == JC_NEXT_NOT_YET && out.moves == 0);
+    for (uint32_t at = 0; at < JOINERS; at++) {
+        CHECK(jc_pick_up(&desk, 2 + at, joined[at].call, BYTES("a"), joined[at].number, &out) == JC_OK && is_value(&out.value, "1"));
+    }
+    CHECK(begin(&desk, 1, JC_OP_GET, "a", "", &out) == JC_OK && out.next == JC_NEXT_SHUT);
+    CHECK(jc_sweep(&desk, &out) == JC_OK && out.next == JC_NEXT_SHUT && out.moves == JC_MOVE_EVICTED && is_key(&out.victim, "a"));
+    CHECK(jc_events_len(&desk) == 1);
+    CHECK(jc_sweep(&desk, &out) == JC_OK && out.next == JC_NEXT_DONE && out.moves == 0);
+    CHECK(jc_close(&desk) == JC_OK);
+}
+
+/* The same of a desk whose events are kept: they are to be taken first. */
+static void no_place_before_the_events_are_taken(void) {
+    jc_shape shape = SHAPE;
+    shape.keeps_events = true;
+    shape.capacity = 3;
+    const jc_entry opening[] = {{.key = {1, "a"}, .value = {1, "1"}}, {.key = {1, "b"}, .value = {1, "2"}}, {.key = {1, "c"}, .value = {1, "3"}}};
+    jc_desk desk = {0};
+    jc_out out = {0};
+    jc_value value;
+    CHECK(jc_open(&desk, &shape, 0, opening, 3) == JC_OK);
+    while (jc_hit(&desk, 1, BYTES("c"), &value) == JC_OK) {
+        CHECK(jc_events_len(&desk) < shape.history);
+    }
+    CHECK(jc_events_len(&desk) == shape.history - 2);
+    CHECK(jc_invalidate(&desk, BYTES("a"), &out) == JC_OK && out.next == JC_NEXT_DONE && is_value(&out.left, "1"));
+    CHECK(jc_invalidate(&desk, BYTES("b"), &out) == JC_OK && out.next == JC_NEXT_DONE && is_value(&out.left, "2"));
+    CHECK(jc_invalidate(&desk, BYTES("c"), &out) == JC_OK && out.next == JC_NEXT_SHUT && out.moves == 0);
+    CHECK(jc_sweep(&desk, &out) == JC_OK && out.next == JC_NEXT_FULL && out.moves == 0);
+    CHECK(begin(&desk, 1, JC_OP_GET, "c", "", &out) == JC_OK && out.next == JC_NEXT_FULL);
+    CHECK(jc_end_generation(&desk) == JC_OK);
+    CHECK(begin(&desk, 1, JC_OP_GET, "c", "", &out) == JC_OK && out.next == JC_NEXT_SHUT);
+    CHECK(jc_sweep(&desk, &out) == JC_OK && out.next == JC_NEXT_SHUT && is_key(&out.victim, "c") && is_value(&out.evicted, "3"));
+    CHECK(jc_sweep(&desk, &out) == JC_OK && out.next == JC_NEXT_DONE);
+    static jc_flat_event told;
+    CHECK(jc_event(&desk, 0, &told) == JC_OK && told.kind == JC_EVENT_EVICTION && told.cause == JC_CAUSE_INVALIDATED && is_key(&told.key, "c"));
+    bool is_legal = false;
+    const jc_entry *left = &opening[2];
+    CHECK(jc_legal(&shape, left, 1, &told, 1, &is_legal) == JC_OK && is_legal);
+    CHECK(jc_legal(&shape, left, 0, &told, 1, &is_legal) == JC_OK && !is_legal);
+    told.cause = JC_CAUSE_INVALIDATED + 1;
+    CHECK(jc_legal(&shape, left, 1, &told, 1, &is_legal) == JC_CODE_BAD_ARGUMENT);
     CHECK(jc_close(&desk) == JC_OK);
 }
 
@@ -164,6 +297,7 @@ static void bad_arguments(void) {
         BAD(jc_hit(&desk, 1, long_bytes, len, &value));
         BAD(jc_peek(&desk, long_bytes, len, &value));
         BAD(jc_pick_up(&desk, 1, 0, long_bytes, len, 0, &out));
+        BAD(jc_invalidate(&desk, long_bytes, len, &out));
     }
     BAD(jc_begin(&desk, 1, JC_OP_PUT, BYTES("a"), long_bytes, JC_VALUE_MAX + 1, NONE, &out));
     BAD(jc_begin(&desk, 1, JC_OP_REPLACE_IF, BYTES("a"), NONE, long_bytes, JC_VALUE_MAX + 1, &out));
@@ -179,7 +313,7 @@ static void bad_arguments(void) {
     ticket = out.number;
     BAD(jc_commit_write(&desk, ticket, JC_ANSWER_NOT_ASKED, 0, &out));
     BAD(jc_commit_write(&desk, ticket, JC_ANSWER_NOTHING, 0, &out));
-    CHECK(jc_withdraw(&desk, ticket) == JC_OK);
+    CHECK(jc_withdraw(&desk, ticket, &out) == JC_OK);
     CHECK(jc_close(&desk) == JC_OK);
 }
 
@@ -198,7 +332,7 @@ static void bad_processors(void) {
     for (size_t i = 0; i < sizeof wrong / sizeof *wrong; i++) {
         BAD(jc_commit_process(&desk, ticket, &wrong[i], &out));
     }
-    CHECK(jc_withdraw(&desk, ticket) == JC_OK);
+    CHECK(jc_withdraw(&desk, ticket, &out) == JC_OK);
     CHECK(jc_close(&desk) == JC_OK);
 }
 
@@ -236,6 +370,7 @@ static void bad_openings(void) {
     jc_out out = {0};
     CHECK(begin(&desk, 1, JC_OP_CONTAINS_KEY, "a", "", &out) == JC_OK && out.reply == JC_REPLY_YES);
     CHECK(begin(&desk, 1, JC_OP_CONTAINS_KEY, "b", "", &out) == JC_CODE_MISUSE);
+    CHECK(jc_invalidate(&desk, BYTES("b"), &out) == JC_CODE_MISUSE);
     CHECK(jc_close(&desk) == JC_OK);
     CHECK(jc_open(&desk, &SHAPE, 0, many, 2) == JC_OK);
     jc_entry listed[2];
@@ -255,9 +390,9 @@ static void misused_tickets(void) {
     REFUSED(JC_CODE_MISUSE, jc_commit_load(&desk, ticket + 1, JC_ANSWER_NOTHING, 0, NONE, &out));
     REFUSED(JC_CODE_MISUSE, jc_commit_write(&desk, ticket, JC_ANSWER_WRITTEN, 0, &out));
     REFUSED(JC_CODE_MISUSE, jc_commit_process(&desk, ticket, &keep, &out));
-    REFUSED(JC_CODE_MISUSE, jc_withdraw(&desk, UINT64_MAX));
+    REFUSED(JC_CODE_MISUSE, jc_withdraw(&desk, UINT64_MAX, &out));
     CHECK(jc_commit_load(&other, ticket, JC_ANSWER_NOTHING, 0, NONE, &out) == JC_CODE_MISUSE);
-    CHECK(jc_withdraw(&other, ticket) == JC_CODE_MISUSE);
+    CHECK(jc_withdraw(&other, ticket, &out) == JC_CODE_MISUSE);
     CHECK(begin(&desk, 2, JC_OP_GET, "a", "", &joined) == JC_OK && joined.next == JC_NEXT_JOINED);
     REFUSED(JC_CODE_MISUSE, jc_pick_up(&desk, 3, joined.call, BYTES("a"), joined.number, &out));
     REFUSED(JC_CODE_MISUSE, jc_pick_up(&desk, 2, joined.call + 1, BYTES("a"), joined.number, &out));
@@ -266,7 +401,7 @@ static void misused_tickets(void) {
     CHECK(jc_close(&desk) == JC_CODE_IN_USE && desk.is_open);
     CHECK(jc_commit_load(&desk, ticket, JC_ANSWER_NOTHING, 0, NONE, &out) == JC_OK);
     REFUSED(JC_CODE_MISUSE, jc_commit_load(&desk, ticket, JC_ANSWER_NOTHING, 0, NONE, &out));
-    REFUSED(JC_CODE_MISUSE, jc_withdraw(&desk, ticket));
+    REFUSED(JC_CODE_MISUSE, jc_withdraw(&desk, ticket, &out));
     CHECK(jc_close(&desk) == JC_CODE_IN_USE);
     CHECK(jc_pick_up(&desk, 2, joined.call, BYTES("a"), joined.number, &out) == JC_OK && out.reply == JC_REPLY_NULL);
     REFUSED(JC_CODE_MISUSE, jc_pick_up(&desk, 2, joined.call, BYTES("a"), joined.number, &out));
@@ -293,7 +428,10 @@ static void closed_handles(void) {
         CHECK(jc_commit_load(&desk, 0, JC_ANSWER_NOTHING, 0, NONE, &out) == JC_CODE_WRONG_HANDLE);
         CHECK(jc_commit_write(&desk, 0, JC_ANSWER_WRITTEN, 0, &out) == JC_CODE_WRONG_HANDLE);
         CHECK(jc_commit_process(&desk, 0, &keep, &out) == JC_CODE_WRONG_HANDLE);
-        CHECK(jc_withdraw(&desk, 0) == JC_CODE_WRONG_HANDLE);
+        CHECK(jc_withdraw(&desk, 0, &out) == JC_CODE_WRONG_HANDLE);
+        CHECK(jc_invalidate(&desk, BYTES("a"), &out) == JC_CODE_WRONG_HANDLE);
+        CHECK(jc_invalidate_all(&desk) == JC_CODE_WRONG_HANDLE);
+        CHECK(jc_sweep(&desk, &out) == JC_CODE_WRONG_HANDLE);
         CHECK(jc_pick_up(&desk, 1, 0, BYTES("a"), 0, &out) == JC_CODE_WRONG_HANDLE);
         CHECK(jc_peek(&desk, BYTES("a"), &value) == JC_CODE_WRONG_HANDLE);
         CHECK(jc_statistics_of(&desk, &counts) == JC_CODE_WRONG_HANDLE);
@@ -320,7 +458,7 @@ static void limits_of_calls_under_way(void) {
     CHECK(jc_close(&desk) == JC_CODE_IN_USE);
     /* A desk that isn't closed is the host's to leak: here all that is out is given back. */
     for (uint64_t ticket = 0; ticket < JC_RESERVATIONS_MAX; ticket++) {
-        CHECK(jc_withdraw(&desk, ticket) == JC_OK);
+        CHECK(jc_withdraw(&desk, ticket, &out) == JC_OK);
     }
     for (uint32_t i = 0; i < JC_RESERVATIONS_MAX; i++) {
         snprintf(key, sizeof key, "k%u", i);
@@ -364,6 +502,10 @@ int main(void) {
     CHECK(jc_version() == JC_VERSION);
     loads_and_joins();
     writes_and_evictions();
+    invalidations();
+    sweeps();
+    no_place();
+    no_place_before_the_events_are_taken();
     processors();
     generations();
     events();

@@ -70,8 +70,9 @@ enum jc_next {
     JC_NEXT_JOINED = 5,        /* another call loads this key: wait for its commit or withdrawal, then jc_pick_up(session, call, key, number) */
     JC_NEXT_REFUSED = 6,       /* nothing was done; reply is a jc_refusal. JC_REFUSAL_BUSY: retry after the next commit, withdrawal or pick-up here */
     JC_NEXT_AGAIN = 7,         /* of jc_pick_up: the load was withdrawn; begin anew */
-    JC_NEXT_NOT_YET = 8,       /* of jc_pick_up: the load isn't over; the join is still out */
-    JC_NEXT_FULL = 9           /* with keeps_events: nothing was done; hand out the events, call jc_end_generation, begin anew */
+    JC_NEXT_NOT_YET = 8,       /* of jc_pick_up: the load isn't over; the join is still out. Of jc_sweep: see there */
+    JC_NEXT_FULL = 9,          /* with keeps_events: nothing was done; hand out the events, call jc_end_generation, begin (or sweep) anew */
+    JC_NEXT_SHUT = 10          /* of jc_begin: nothing was done; call jc_sweep as long as it says JC_NEXT_SHUT, too, then begin anew */
 };
 
 enum jc_reply { JC_REPLY_UNIT = 0, JC_REPLY_NO = 1, JC_REPLY_YES = 2, JC_REPLY_NULL = 3, JC_REPLY_VALUE = 4, JC_REPLY_LOADER_FAILED = 5, JC_REPLY_WRITER_FAILED = 6, JC_REPLY_PROCESSOR_FAILED = 7,
@@ -80,13 +81,15 @@ enum jc_refusal { JC_REFUSAL_HISTORY_FULL = 0 /* only after 2^64 calls */, JC_RE
                   JC_REFUSAL_OTHER = 4 /* a desk never gives it */ };
 
 /* out->moves: which values came and went with a step. A host that keeps what values stand for beside the desk (an object table, a slab)
- * counts references by it. It is there after JC_NEXT_DONE of jc_begin and of the commits; 0 otherwise. */
+ * counts references by it. It is there after JC_NEXT_DONE of jc_begin and of the commits, after jc_withdraw, jc_invalidate and jc_sweep; 0
+ * otherwise. */
 enum jc_moves {
     JC_MOVE_STORED = 1,    /* the key's entry has a value now that it hadn't before: the one that this call brought (put, loaded, set) */
     JC_MOVE_REMOVED = 2,    /* out->left: the value that the key's entry had before, and hasn't now (overwritten, removed) */
-    JC_MOVE_EVICTED = 4, /* out->victim had out->evicted, and was evicted for this step */
+    JC_MOVE_EVICTED = 4, /* out->victim had out->evicted, and was evicted for this step, or by this sweep */
     JC_MOVE_OWN_EVICTED_FULL = 8,    /* the step's own new entry was evicted at once: all others are reserved (no JC_MOVE_STORED then) */
-    JC_MOVE_OWN_EVICTED_MEMORY = 16  /* the same: there was no memory for it */
+    JC_MOVE_OWN_EVICTED_MEMORY = 16, /* the same: there was no memory for it */
+    JC_MOVE_INVALIDATED = 32 /* the key's entry was evicted, since the key was invalidated (no JC_MOVE_STORED then; JC_MOVE_REMOVED if it had one before) */
 };
 
 /* Only the fields that next and reply speak of are written; the others stay as they were. */
@@ -119,7 +122,8 @@ typedef struct jc_statistics { uint64_t hits, misses, puts, removals, evictions;
 /* An event of a generation. Only the fields that count are written: of an eviction kind, key and cause; of a step those values that its
  * operation, its answers and its reply have. A struct begins as all zeros, so that jc_legal finds lengths that fit. */
 enum jc_event_kind { JC_EVENT_STEP = 0, JC_EVENT_EVICTION = 1 };
-enum jc_cause { JC_CAUSE_ROOM = 0 /* the stripe was full */, JC_CAUSE_MEMORY = 1 /* an allocation for the entry failed */ };
+enum jc_cause { JC_CAUSE_ROOM = 0 /* the stripe was full */, JC_CAUSE_MEMORY = 1 /* an allocation for the entry failed */,
+                JC_CAUSE_INVALIDATED = 2 /* its key was invalidated: no eviction that is counted */ };
 typedef struct jc_flat_event {
     uint32_t kind, session;
     uint64_t call;
@@ -150,8 +154,8 @@ uint32_t jc_close(jc_desk *h);
 uint32_t jc_begin(jc_desk *h, uint32_t session, uint32_t op, const uint8_t *key, size_t key_len,
                   const uint8_t *value, size_t value_len, const uint8_t *other, size_t other_len, jc_out *out);
 
-/* A get that finds its entry, and nothing else: JC_CODE_NONE says that no call was made (no entry; the generation is full; misuse): jc_begin
- * then. A full generation may have ended by then, but none of a desk with keeps_events. It evicts nothing. */
+/* A get that finds its entry, and nothing else: JC_CODE_NONE says that no call was made (no entry; the generation is full; the key was
+ * invalidated, or the desk is shut; misuse): jc_begin then. A full generation may have ended by then, but none of a desk with keeps_events. It evicts nothing. */
 uint32_t jc_hit(jc_desk *h, uint32_t session, const uint8_t *key, size_t key_len, jc_value *value);
 
 /* The last phases. A ticket's number serves once: JC_CODE_MISUSE if it isn't out here, or asks for another one. */
@@ -160,10 +164,32 @@ uint32_t jc_commit_load(jc_desk *h, uint64_t ticket, uint32_t answer /* JC_ANSWE
 uint32_t jc_commit_write(jc_desk *h, uint64_t ticket, uint32_t answer /* JC_ANSWER_WRITTEN, JC_ANSWER_FAILED */, uint32_t code, jc_out *out);
 /* JC_CODE_MISUSE also: the loader answered though it may not be asked; the writer was (not) asked though it wasn't (was) due. */
 uint32_t jc_commit_process(jc_desk *h, uint64_t ticket, const jc_processed *processed, jc_out *out);
-/* Gives a ticket back whose loader, writer or processor was NOT asked: joiners are told to retry. */
-uint32_t jc_withdraw(jc_desk *h, uint64_t ticket);
+/* Gives a ticket back whose loader, writer or processor was NOT asked: joiners are told to retry. out->moves is 0; or, if its key was
+ * invalidated meanwhile and had an entry, JC_MOVE_REMOVED | JC_MOVE_INVALIDATED. Of *out next, moves and left are written. */
+uint32_t jc_withdraw(jc_desk *h, uint64_t ticket, jc_out *out);
 /* Until it says JC_NEXT_DONE or JC_NEXT_AGAIN, the join is out. */
 uint32_t jc_pick_up(jc_desk *h, uint32_t session, uint64_t call, const uint8_t *key, size_t key_len, uint64_t load, jc_out *out);
+
+/* Forgets a key that somebody else has written in the store: no call that begins later is answered from what is cached or reserved of it
+ * now. It is no call: it has no session, no number and no event but an eviction, is never refused, waits for nobody, and takes no memory.
+ *  - The entry is evicted at once: out->moves is JC_MOVE_REMOVED | JC_MOVE_INVALIDATED, or 0 if there was none.
+ *  - If the key is reserved, it is evicted by the commit or the withdrawal of that ticket, whose moves tell it. Until then each call that
+ *    begins at the key is JC_REFUSAL_BUSY, and jc_hit says JC_CODE_NONE. Calls that have joined its load are answered.
+ *  - out->next is JC_NEXT_DONE, or JC_NEXT_SHUT: the generation has no place for the eviction, and can't end now. Then no call begins until
+ *    jc_sweep has evicted all entries whose keys aren't reserved.
+ * JC_CODE_MISUSE: the key is of another stripe. Of *out next, moves and left are written. */
+uint32_t jc_invalidate(jc_desk *h, const uint8_t *key, size_t key_len, jc_out *out);
+/* The same of all keys: those that are reserved as jc_invalidate says; and the desk is shut until jc_sweep has evicted the entries of all
+ * others. */
+uint32_t jc_invalidate_all(jc_desk *h);
+/* Evicts an entry of a desk that is shut, the least recently used one whose key isn't reserved: out->moves is JC_MOVE_EVICTED, or 0. By
+ * out->next the host goes on:
+ *  - JC_NEXT_SHUT: one was evicted: sweep again.
+ *  - JC_NEXT_DONE: none is left, or the desk wasn't shut: calls may begin.
+ *  - JC_NEXT_NOT_YET: one is left, and there is no place for its eviction: sweep again after the next commit, withdrawal or pick-up here.
+ *  - JC_NEXT_FULL: with keeps_events: hand out the events, call jc_end_generation, sweep again.
+ * Of *out next, moves, victim and evicted are written. */
+uint32_t jc_sweep(jc_desk *h, jc_out *out);
 
 /* The key's entry. No call is made, and the order of use stays. JC_CODE_NONE: it has none. */
 uint32_t jc_peek(jc_desk *h, const uint8_t *key, size_t key_len, jc_value *value);

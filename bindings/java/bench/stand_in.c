@@ -240,8 +240,8 @@ uint32_t jc_commit_process(jc_desk *h, uint64_t number, const jc_processed *proc
     return JC_CODE_BAD_ARGUMENT;
 }
 
-uint32_t jc_withdraw(jc_desk *h, uint64_t number) {
-    (void)h, (void)number;
+uint32_t jc_withdraw(jc_desk *h, uint64_t number, jc_out *out) {
+    (void)h, (void)number, (void)out;
     return JC_CODE_BAD_ARGUMENT;
 }
 

@@ -32,15 +32,15 @@ CODES = (
 
 (GET, CONTAINS_KEY, PUT, GET_AND_PUT, PUT_IF_ABSENT, REMOVE, REMOVE_IF, GET_AND_REMOVE, REPLACE, REPLACE_IF, GET_AND_REPLACE, CLEAR_KEY,
  LOAD, RELOAD, INVOKE) = range(15)
-(DONE, ASK_LOAD, ASK_WRITE, ASK_DELETE, ASK_PROCESS, JOINED, REFUSED, AGAIN, NOT_YET, FULL) = range(10)
+(DONE, ASK_LOAD, ASK_WRITE, ASK_DELETE, ASK_PROCESS, JOINED, REFUSED, AGAIN, NOT_YET, FULL, SHUT) = range(11)
 UNIT, NO, YES, NULL, VALUE, LOADER_FAILED, WRITER_FAILED, PROCESSOR_FAILED = range(8)
 HISTORY_FULL, BUSY, TOO_MANY_IN_FLIGHT, TOO_MANY_JOINERS, OTHER = range(5)
-STORED, REMOVED, EVICTED, OWN_EVICTED_FULL, OWN_EVICTED_MEMORY = 1, 2, 4, 8, 16
+STORED, REMOVED, EVICTED, OWN_EVICTED_FULL, OWN_EVICTED_MEMORY, INVALIDATED = 1, 2, 4, 8, 16, 32
 NOT_ASKED, FOUND, NOTHING, FAILED = range(4)
 WRITTEN = 1
 KEEP, SET, EFFECT_REMOVE, EFFECT_FAILED, NOT_RUN = range(5)
 STEP, EVICTION = range(2)
-ROOM, MEMORY = range(2)
+ROOM, MEMORY, CAUSE_INVALIDATED = range(3)
 
 
 class CoreError(Exception):
@@ -147,8 +147,11 @@ def _load():
         'jc_commit_load': (handle, c_uint64, c_uint32, c_uint32, c_char_p, c_size_t, out),
         'jc_commit_write': (handle, c_uint64, c_uint32, c_uint32, out),
         'jc_commit_process': (handle, c_uint64, pointer, out),
-        'jc_withdraw': (handle, c_uint64),
+        'jc_withdraw': (handle, c_uint64, out),
         'jc_pick_up': (handle, c_uint32, c_uint64, c_char_p, c_size_t, c_uint64, out),
+        'jc_invalidate': (handle, c_char_p, c_size_t, out),
+        'jc_invalidate_all': (handle,),
+        'jc_sweep': (handle, out),
         'jc_peek': (handle, c_char_p, c_size_t, pointer),
         'jc_statistics_of': (handle, pointer),
         'jc_entries': (handle, pointer, c_size_t, pointer),
@@ -252,11 +255,27 @@ class Desk:
 
     def withdraw(self, ticket):
         """Gives a ticket back whose loader, writer or processor was not asked."""
-        _check(LIBRARY.jc_withdraw(self.address, ticket))
+        _check(LIBRARY.jc_withdraw(self.address, ticket, self._told))
+        return self.out
 
     def pick_up(self, session, call, key, load):
         """Picks up the answer of a load that was joined."""
         _check(LIBRARY.jc_pick_up(self.address, session, call, key, len(key), load, self._told))
+        return self.out
+
+    def invalidate(self, key):
+        """Forgets a key that somebody else has written in the store. out.next is DONE; or SHUT: sweep."""
+        _check(LIBRARY.jc_invalidate(self.address, key, len(key), self._told))
+        return self.out
+
+    def invalidate_all(self):
+        """The same of all keys: sweep."""
+        _check(LIBRARY.jc_invalidate_all(self.address))
+
+    def sweep(self):
+        """Evicts an entry of a desk that is shut. out.next is SHUT: sweep again; DONE: calls may begin; NOT_YET: sweep again after the next
+        commit, withdrawal or pick-up; or FULL: take the events, end the generation, sweep again."""
+        _check(LIBRARY.jc_sweep(self.address, self._told))
         return self.out
 
     def statistics(self):

@@ -361,7 +361,8 @@ bool commit_process(Call *call, const jc_processed *done, PyObject *value, uint6
 
 bool withdraw(Call *call) {
     if (!is_out(call, JC_ASK_LOAD, JC_ASK_PROCESS)) return false;
-    uint32_t code = jc_withdraw(&call->seat.at->desk, call->flight->number);
+    stripe *s = call->seat.at;
+    uint32_t code = jc_withdraw(&s->desk, call->flight->number, &s->out);
     if (code != JC_OK) return refuse(call->cache, code);
     end_reservation(call);
     return true;

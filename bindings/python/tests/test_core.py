@@ -53,9 +53,37 @@ class Misuse(unittest.TestCase):
         self.refused(core.MISUSE, desk.withdraw, ticket)
         desk.close()
         for call in (desk.close, desk.entries, desk.statistics, desk.end_generation, lambda: desk.begin(1, core.GET, b'a'),
-                     lambda: desk.hit(1, b'a'), lambda: desk.peek(b'a'), lambda: desk.withdraw(ticket)):
+                     lambda: desk.hit(1, b'a'), lambda: desk.peek(b'a'), lambda: desk.withdraw(ticket), lambda: desk.invalidate(b'a'),
+                     desk.invalidate_all, desk.sweep):
             self.refused(core.WRONG_HANDLE, call)
         self.assertEqual(desk.events_len(), 0)
+
+    def test_invalidations(self):
+        desk = Desk(shape(), 0, [(b'a', b'1'), (b'b', b'2')])
+        out = desk.invalidate(b'a')
+        self.assertEqual((out.next, out.moves, out.left.get()), (core.DONE, core.REMOVED | core.INVALIDATED, b'1'))
+        self.assertEqual((desk.invalidate(b'a').moves, desk.peek(b'a')), (0, None))
+        ticket = desk.begin(1, core.GET, b'a').number
+        self.assertEqual(desk.invalidate(b'a').moves, 0)
+        self.assertEqual((desk.begin(2, core.GET, b'a').next, desk.out.reply), (core.REFUSED, core.BUSY))
+        self.assertEqual((desk.commit_load(ticket, core.FOUND, 0, b'3').moves, desk.peek(b'a')), (core.INVALIDATED, None))
+        ticket = desk.begin(1, core.PUT, b'b', b'4').number
+        desk.invalidate(b'b')
+        self.assertEqual((desk.withdraw(ticket).moves, desk.out.left.get()), (core.REMOVED | core.INVALIDATED, b'2'))
+        self.refused(core.BAD_ARGUMENT, desk.invalidate, b'')
+        self.refused(core.MISUSE, Desk(shape(2)).invalidate, b'a')
+
+    def test_sweeps(self):
+        desk = Desk(shape(), 0, [(b'a', b'1'), (b'b', b'2')])
+        self.assertEqual(desk.sweep().next, core.DONE)
+        desk.invalidate_all()
+        self.assertEqual(desk.begin(1, core.GET, b'a').next, core.SHUT)
+        for key, value in ((b'b', b'2'), (b'a', b'1')):
+            out = desk.sweep()
+            self.assertEqual((out.next, out.moves, out.victim.get(), out.evicted.get()), (core.SHUT, core.EVICTED, key, value))
+        self.assertEqual((desk.sweep().next, desk.out.moves), (core.DONE, 0))
+        self.assertEqual((desk.entries(), desk.statistics().evictions), ([], 0))
+        self.assertEqual([desk.event(place).cause for place in range(desk.events_len())], [core.CAUSE_INVALIDATED] * 2)
 
     def test_a_full_history_waits_for_its_reader(self):
         desk = Desk(shape(keeps_events=True), 0, [(b'a', b'1')])

@@ -268,22 +268,20 @@ where
     }
 
     /// Forgets a key, of which the store has another value by now: see [`Cache::invalidate`](crate::Cache::invalidate).
+    ///
+    /// The core does it, so it is proved that no call which begins later is answered from what was cached or reserved before. It has
+    /// no memory to note a key that isn't reserved: if the history of the key's stripe is full of answers that others have to pick up,
+    /// all entries of that stripe are forgotten with it.
     pub fn invalidate(&self, key: &[u8]) {
         self.stripe(key).invalidate(key);
     }
 
     /// The same of all keys.
-    ///
-    /// # Panics
-    /// If there is no memory for a list of them.
     pub fn invalidate_all(&self) {
         self.stripes.iter().for_each(|it| it.invalidate_all(None));
     }
 
     /// Forgets all keys, and keeps nothing until [`resume`](BytesCache::resume): see [`Cache::suspend`](crate::Cache::suspend).
-    ///
-    /// # Panics
-    /// If there is no memory for a list of them.
     pub fn suspend(&self) {
         for stripe in &self.stripes {
             stripe.invalidate_all(Some(false));
@@ -291,9 +289,6 @@ where
     }
 
     /// Forgets all keys once more, and keeps what is read and written from now on.
-    ///
-    /// # Panics
-    /// If there is no memory for a list of them.
     pub fn resume(&self) {
         for stripe in &self.stripes {
             stripe.invalidate_all(Some(true));

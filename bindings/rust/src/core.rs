@@ -12,14 +12,15 @@
 #![allow(unsafe_code)]
 
 mod events;
+mod forgetting;
 mod words;
 
 use cadwrelch_sys as raw;
 pub use events::{Event, Outside, What, legal};
 use std::fmt;
 pub use words::{
-    Asked, Cause, Code, Done, Effect, Join, Loaded, Moves, Op, PickedUp, Processed, Refusal, Reply,
-    Shape, Statistics, Ticket, Written,
+    Asked, Cause, Code, Done, Effect, Invalidated, Join, Loaded, Moves, Op, PickedUp, Processed,
+    Refusal, Reply, Shape, Statistics, Swept, Ticket, Written,
 };
 
 /// The most bytes of a key; it has at least one.
@@ -106,6 +107,8 @@ impl Answer for raw::Out {
                 Some(Cause::Full)
             } else if has(raw::MOVE_OWN_EVICTED_MEMORY) {
                 Some(Cause::Memory)
+            } else if has(raw::MOVE_INVALIDATED) {
+                Some(Cause::Invalidated)
             } else {
                 None
             },
@@ -142,6 +145,7 @@ impl Answer for raw::Out {
             }),
             raw::NEXT_REFUSED => Asked::Refused(self.refusal()),
             raw::NEXT_FULL => Asked::Full,
+            raw::NEXT_SHUT => Asked::Shut,
             next => unreachable!("the core answered next {next}"),
         }
     }
@@ -290,13 +294,16 @@ impl Desk {
         Ok(out.done(out.shared))
     }
 
-    /// Gives a ticket back whose loader, writer or processor was not asked: its joiners are told to begin anew.
+    /// Gives a ticket back whose loader, writer or processor was not asked: its joiners are told to begin anew. If its key was
+    /// invalidated meanwhile, its entry is evicted.
     ///
     /// # Errors
     /// [`Code::Misuse`]: the ticket isn't out here. [`Code::WrongHandle`].
-    pub fn withdraw(&mut self, ticket: Ticket) -> Result<(), Code> {
+    pub fn withdraw(&mut self, ticket: Ticket) -> Result<Moves<'_>, Code> {
+        let Room { handle, out } = &mut *self.room;
         // SAFETY: as in `begin`.
-        checked(unsafe { raw::jc_withdraw(&mut self.room.handle, ticket.0) })
+        checked(unsafe { raw::jc_withdraw(handle, ticket.0, out) })?;
+        Ok(out.moves())
     }
 
     /// Picks up the answer of a load that was joined.

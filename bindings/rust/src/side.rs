@@ -106,7 +106,7 @@ impl<K, V, E> Side<K, V, E> {
                 return Ok(First::Done(reply.expect("a first phase has no fault")));
             }
             Asked::Refused(refusal) => return self.refused(slot, refusal).map(First::Busy),
-            Asked::Full => unreachable!("a full generation ends by itself"),
+            Asked::Full | Asked::Shut => unreachable!("it ends by itself, and is never shut"),
             Asked::Joined(join) => return Ok(self.joined(call, slot, session, join)),
             Asked::Load(ticket) => (ticket, First::Load),
             Asked::Write(ticket, value) => {

@@ -41,7 +41,7 @@ use Rattle.jc_model.specs.declared.event.Event.{Event}
 use Rattle.jc_model.specs.declared.event.Event.TheVariants.{Step, Evict}
 use Rattle.jc_model.specs.Cache.{Bytes}
 use Rattle.jc_model.specs.Table.{op_values}
-use Rattle.jc_c.specs.declared.codes.TheConstants.{JC_EVENT_EVICTION, JC_CAUSE_MEMORY, JC_CAUSE_ROOM, JC_REPLY_LOADER_FAILED, JC_REPLY_NO, JC_ANSWER_NOT_ASKED, JC_EFFECT_NOT_RUN, JC_REPLY_NULL, JC_REPLY_PROCESSOR_FAILED, JC_EVENT_STEP, JC_REPLY_UNIT, JC_REPLY_VALUE, JC_REPLY_WRITER_FAILED, JC_REPLY_YES}
+use Rattle.jc_c.specs.declared.codes.TheConstants.{JC_EVENT_EVICTION, JC_CAUSE_INVALIDATED, JC_CAUSE_MEMORY, JC_CAUSE_ROOM, JC_REPLY_LOADER_FAILED, JC_REPLY_NO, JC_ANSWER_NOT_ASKED, JC_EFFECT_NOT_RUN, JC_REPLY_NULL, JC_REPLY_PROCESSOR_FAILED, JC_EVENT_STEP, JC_REPLY_UNIT, JC_REPLY_VALUE, JC_REPLY_WRITER_FAILED, JC_REPLY_YES}
 use Rattle.jc_c.specs.declared.layouts.FlatEvent.{FlatEvent}
 use Rattle.jc_c.specs.declared.layouts.ProcessorAnswers.{ProcessorAnswers}
 use Rattle.jc_c.specs.declared.layouts.InlineValue.{InlineValue}
@@ -52,7 +52,8 @@ use Rattle.jc_c.specs.Replies.{ShowsReply, KeepsBesideValue, KeepsBesideReply}
 -- 1. An event that is written.
 
 abbrev pub read_cause : ℕ → Cause
-read_cause n = if n == JC_CAUSE_ROOM then cause.Full else cause.Memory
+read_cause n =
+    if n == JC_CAUSE_ROOM then cause.Full else (if n == JC_CAUSE_MEMORY then cause.Memory else cause.Invalidated)
 
 abbrev pub process_if_run : ProcessorAnswers → ProcessAnswer
 process_if_run p = if p.effect == JC_EFFECT_NOT_RUN then process.NotAsked else read_process p
@@ -83,7 +84,7 @@ ShowsEvent (Step caller op key out shared reply) f =
     × HoldsKey f.key key × (read_outside f.outside ≡ out) × (shared_in f ≡ shared)
     × ShowsReply reply f.reply f.reply_code f.replied × HasKnownNumbers f
 ShowsEvent (Evict key cause) f = (f.kind ≡ JC_EVENT_EVICTION) × HoldsKey f.key key × (read_cause f.cause ≡ cause)
-    × (nat_le f.cause JC_CAUSE_MEMORY ≡ true)
+    × (nat_le f.cause JC_CAUSE_INVALIDATED ≡ true)
 
 abbrev pub KeepsBesideValues : List Bytes → InlineValue → InlineValue → InlineValue → InlineValue → Type 0
 KeepsBesideValues [] old new old_other other = (new ≡ old) × (other ≡ old_other)
@@ -162,5 +163,5 @@ step_fits f =
     && nat_le f.reply JC_REPLY_PROCESSOR_FAILED
 
 abbrev pub event_fits : FlatEvent → Bool
-event_fits f = is_inline_key f.key && (if f.kind == JC_EVENT_EVICTION then nat_le f.cause JC_CAUSE_MEMORY
+event_fits f = is_inline_key f.key && (if f.kind == JC_EVENT_EVICTION then nat_le f.cause JC_CAUSE_INVALIDATED
     else ((f.kind == JC_EVENT_STEP) && step_fits f))

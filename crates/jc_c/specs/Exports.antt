@@ -6,6 +6,9 @@
 --     HitsForC          a get that found its entry
 --     join_named        the join of this call, at this key, of this load
 --     PicksUpForC       the answer of a joiner was picked up, or is not there yet
+--     WithdrawsForC     the reservation with this number is given back
+--     InvalidatesForC   a key is invalidated
+--     SweepsForC        a desk that is shut is swept
 --     counts_written    the counts
 --     opens_fit         the arguments of an opening fit
 --     ListsEntries      these entries are written in their order, as far as there is room, and the rest of the buffer stays
@@ -19,10 +22,11 @@ use Rattle.jc_stripe.specs.Tickets.{JoinClaim}
 use Rattle.jc_stripe.specs.declared.desk.answers.FirstAnswer.{FirstAnswer}
 use Rattle.jc_stripe.specs.declared.desk.answers.CommitDone.{CommitDone}
 use Rattle.jc_stripe.specs.declared.desk.answers.PickUpAnswer.{PickUpAnswer}
+use Rattle.jc_stripe.specs.declared.desk.answers.SweepAnswer.{SweepAnswer}
 use Rattle.jc_stripe.specs.ValuesMoved.{MovesMade}
 use Rattle.jc_stripe.specs.DeskState.{DeskState, is_open_shape, are_contents}
-use Rattle.jc_stripe.specs.DeskPhases.{newest, BeginsAtDesk, HitsAtDesk, CommitsAtDesk, PicksUpAtDesk}
-use Rattle.jc_c.specs.declared.codes.TheConstants.{JC_OK, JC_CODE_WRONG_HANDLE, JC_CODE_BAD_ARGUMENT, JC_OUT_SIZE}
+use Rattle.jc_stripe.specs.DeskPhases.{newest, BeginsAtDesk, HitsAtDesk, CommitsAtDesk, PicksUpAtDesk, WithdrawsAtDesk, InvalidatesAtDesk, SweepsAtDesk}
+use Rattle.jc_c.specs.declared.codes.TheConstants.{JC_OK, JC_CODE_WRONG_HANDLE, JC_CODE_BAD_ARGUMENT, JC_NEXT_DONE, JC_OUT_SIZE}
 use Rattle.jc_c.specs.declared.layouts.PhaseOut.{PhaseOut}
 use Rattle.jc_c.specs.declared.layouts.CacheShape.{CacheShape}
 use Rattle.jc_c.specs.declared.layouts.InlineEntry.{InlineEntry}
@@ -30,7 +34,8 @@ use Rattle.jc_c.specs.declared.layouts.InlineValue.{InlineValue}
 use Rattle.jc_c.specs.declared.layouts.CountsOut.{CountsOut}
 use Rattle.jc_c.specs.Layouts.{inline_value, is_inline_value, StaysBehindValue, inline_entry, inline_entries, config_of}
 use Rattle.jc_c.specs.Requests.{op_of_number, entry_fits}
-use Rattle.jc_c.specs.Replies.{ShowsFirstAnswer, ShowsDone, ShowsPickUp, KeepsBesideAnswer, KeepsBesideDone, KeepsBesidePickUp}
+use Rattle.jc_c.specs.Replies.{ShowsFirstAnswer, ShowsDone, ShowsPickUp, ShowsGone, shut_number, sweep_number}
+use Rattle.jc_c.specs.Replies.{KeepsBesideAnswer, KeepsBesideDone, KeepsBesidePickUp, KeepsBesideGone}
 
 abbrev pub export_code : Bool → Bool → Bool → ℕ → ℕ
 export_code is_open fits takes other = if is_open then (if fits then (if takes then JC_OK else other)
@@ -70,6 +75,25 @@ pub record PicksUpForC (old : DeskState) (join : JoinClaim) (before out : PhaseO
   pub picks_up : PicksUpAtDesk old join reply answer new
   pub shown : ShowsPickUp answer reply out
   pub others_stay : KeepsBesidePickUp answer reply before out
+
+pub record WithdrawsForC (old : DeskState) (number : ℕ) (before out : PhaseOut) (new : DeskState) : Type 0 where
+  pub moves : MovesMade
+  pub withdraws : WithdrawsAtDesk old number moves new
+  pub shown : ShowsGone JC_NEXT_DONE moves out
+  pub others_stay : KeepsBesideGone moves before out
+
+pub record InvalidatesForC (old : DeskState) (key : Bytes) (before out : PhaseOut) (new : DeskState) : Type 0 where
+  pub moves : MovesMade
+  pub invalidates : InvalidatesAtDesk old key moves new
+  pub shown : ShowsGone (shut_number new.stripe.shut) moves out
+  pub others_stay : KeepsBesideGone moves before out
+
+pub record SweepsForC (old : DeskState) (before out : PhaseOut) (new : DeskState) : Type 0 where
+  pub moves : MovesMade
+  pub answer : SweepAnswer
+  pub sweeps : SweepsAtDesk old moves answer new
+  pub shown : ShowsGone (sweep_number answer) moves out
+  pub others_stay : KeepsBesideGone moves before out
 
 -- 2. The contents of a desk.
 

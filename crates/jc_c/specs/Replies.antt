@@ -3,7 +3,7 @@
 --     ShowsReply          a reply, by its number, its code and its value
 --     ShowsValue          a value, if there is one
 --     ShowsVictim         a victim with the value that it had, if there is one
---     own_number          the cause for which the step's own entry was evicted, by its flag
+--     own_number          the cause for which the key's own entry was evicted, by its flag
 --     ShowsMoves          the values that came and went: the sum of their flags, and the values
 --     ShowsDone           a step that was done, by its place, its reply, its moves, and the number of calls that share it
 --     ShowsFirst          the partner to ask, and the value to ask with
@@ -11,6 +11,9 @@
 --     ShowsReservation    the partner that a reservation asks first, if there is a reservation
 --     ShowsFirstAnswer    the outcome of a first phase; if it reserved its key, the partner that the reservation asks
 --     ShowsPickUp         the answer to a joiner: no value came or went
+--     ShowsGone           what a phase answers that is no call's step, and the values that went by it
+--     shut_number         whether a desk is shut, as what is to be done next
+--     sweep_number        the outcome of a sweep, as what is to be done next
 --     KeepsBesideValue    if a value was written, the bytes behind it stay; if none was, all of the room stays
 --     KeepsBesideVictim   the same for a victim and the value that it had
 --     KeepsBesideReply    the same for the value of a reply; the code stays, but with a fault
@@ -20,7 +23,8 @@
 --     KeepsBesideReservation    the same for the newest reservation, if there is one
 --     KeepsBesideAnswer   the same for the outcome of a first phase, beside the call's number
 --     KeepsBesidePickUp   the same for the answer of a pick-up
-use Rattle.std.specs.Prelude.{◌≡◌, ◌+◌, ℕ, true, false, Option, None, Some, is_some, if◌then◌else◌}
+--     KeepsBesideGone     beside what a phase answers that is no call's step, only the values that went are written
+use Rattle.std.specs.Prelude.{◌≡◌, ◌+◌, ℕ, Bool, true, false, Option, None, Some, is_some, if◌then◌else◌}
 use Rattle.jc_types.specs.declared.refusal.Refusal.{Refusal}
 use Rattle.jc_types.specs.declared.refusal.Refusal.TheVariants as refusal
 use Rattle.jc_model.specs.declared.event.Cause.{Cause}
@@ -36,8 +40,10 @@ use Rattle.jc_stripe.specs.declared.desk.answers.FirstAnswer.{FirstAnswer}
 use Rattle.jc_stripe.specs.declared.desk.answers.FirstAnswer.TheVariants as first_answer
 use Rattle.jc_stripe.specs.declared.desk.answers.PickUpAnswer.{PickUpAnswer}
 use Rattle.jc_stripe.specs.declared.desk.answers.PickUpAnswer.TheVariants as pick_up_answer
+use Rattle.jc_stripe.specs.declared.desk.answers.SweepAnswer.{SweepAnswer}
+use Rattle.jc_stripe.specs.declared.desk.answers.SweepAnswer.TheVariants as sweep_answers
 use Rattle.jc_stripe.specs.ValuesMoved.{MovesMade}
-use Rattle.jc_c.specs.declared.codes.TheConstants.{JC_NEXT_AGAIN, JC_ASK_LOAD, JC_REFUSAL_BUSY, JC_NEXT_DONE, JC_MOVE_EVICTED, JC_NEXT_FULL, JC_ASK_DELETE, JC_ASK_WRITE, JC_REFUSAL_HISTORY_FULL, JC_NEXT_JOINED, JC_MOVE_STORED, JC_MOVE_REMOVED, JC_REPLY_LOADER_FAILED, JC_REPLY_NO, JC_NEXT_NOT_YET, JC_REPLY_NULL, JC_REFUSAL_OTHER, JC_REPLY_OTHER_FAULT, JC_MOVE_OWN_EVICTED_FULL, JC_MOVE_OWN_EVICTED_MEMORY, JC_REPLY_PROCESSOR_FAILED, JC_NEXT_REFUSED, JC_ASK_PROCESS, JC_REFUSAL_TOO_MANY_IN_FLIGHT, JC_REFUSAL_TOO_MANY_JOINERS, JC_REPLY_UNIT, JC_REPLY_VALUE, JC_REPLY_WRITER_FAILED, JC_REPLY_YES}
+use Rattle.jc_c.specs.declared.codes.TheConstants.{JC_NEXT_AGAIN, JC_ASK_LOAD, JC_REFUSAL_BUSY, JC_NEXT_DONE, JC_MOVE_EVICTED, JC_NEXT_FULL, JC_ASK_DELETE, JC_ASK_WRITE, JC_REFUSAL_HISTORY_FULL, JC_NEXT_JOINED, JC_MOVE_STORED, JC_MOVE_REMOVED, JC_REPLY_LOADER_FAILED, JC_REPLY_NO, JC_NEXT_NOT_YET, JC_REPLY_NULL, JC_REFUSAL_OTHER, JC_REPLY_OTHER_FAULT, JC_MOVE_OWN_EVICTED_FULL, JC_MOVE_OWN_EVICTED_MEMORY, JC_MOVE_INVALIDATED, JC_NEXT_SHUT, JC_REPLY_PROCESSOR_FAILED, JC_NEXT_REFUSED, JC_ASK_PROCESS, JC_REFUSAL_TOO_MANY_IN_FLIGHT, JC_REFUSAL_TOO_MANY_JOINERS, JC_REPLY_UNIT, JC_REPLY_VALUE, JC_REPLY_WRITER_FAILED, JC_REPLY_YES}
 use Rattle.jc_c.specs.declared.layouts.InlineValue.{InlineValue}
 use Rattle.jc_c.specs.declared.layouts.InlineKey.{InlineKey}
 use Rattle.jc_c.specs.declared.layouts.PhaseOut.{PhaseOut}
@@ -80,6 +86,7 @@ abbrev pub own_number : Option Cause → ℕ
 own_number None = 0
 own_number (Some cause.Full) = JC_MOVE_OWN_EVICTED_FULL
 own_number (Some cause.Memory) = JC_MOVE_OWN_EVICTED_MEMORY
+own_number (Some cause.Invalidated) = JC_MOVE_INVALIDATED
 
 pub record ShowsMoves (moves : MovesMade) (flags : ℕ) (left : InlineValue) (victim : InlineKey) (evicted : InlineValue) : Type 0 where
   pub flags_are : flags ≡ (if moves.kept then JC_MOVE_STORED else 0) + (if is_some moves.left then JC_MOVE_REMOVED else 0)
@@ -134,6 +141,7 @@ ShowsFirstAnswer (first_answer.Joined load) newest reply moves out = (out.next �
 ShowsFirstAnswer (first_answer.Refused refusal) newest reply moves out = (out.next ≡ JC_NEXT_REFUSED)
     × (out.reply ≡ refusal_number refusal) × (out.moves ≡ 0)
 ShowsFirstAnswer first_answer.Full newest reply moves out = (out.next ≡ JC_NEXT_FULL) × (out.moves ≡ 0)
+ShowsFirstAnswer first_answer.Shut newest reply moves out = (out.next ≡ JC_NEXT_SHUT) × (out.moves ≡ 0)
 ShowsFirstAnswer first_answer.Misuse newest reply moves out = ⊥
 
 abbrev pub ShowsPickUp : PickUpAnswer → Reply → PhaseOut → Type 0
@@ -142,6 +150,21 @@ ShowsPickUp (pick_up_answer.Answer place shared_with) reply out = (out.next ≡ 
 ShowsPickUp pick_up_answer.Again reply out = (out.next ≡ JC_NEXT_AGAIN) × (out.moves ≡ 0)
 ShowsPickUp pick_up_answer.NotYet reply out = (out.next ≡ JC_NEXT_NOT_YET) × (out.moves ≡ 0)
 ShowsPickUp pick_up_answer.Misuse reply out = ⊥
+
+-- What is no call's step.
+
+pub record ShowsGone (next : ℕ) (moves : MovesMade) (out : PhaseOut) : Type 0 where
+  pub next_is : out.next ≡ next
+  pub moves_are : ShowsMoves moves out.moves out.left out.victim out.evicted
+
+abbrev pub shut_number : Bool → ℕ
+shut_number shut = if shut then JC_NEXT_SHUT else JC_NEXT_DONE
+
+abbrev pub sweep_number : SweepAnswer → ℕ
+sweep_number sweep_answers.Open = JC_NEXT_DONE
+sweep_number sweep_answers.Evicted = JC_NEXT_SHUT
+sweep_number sweep_answers.Full = JC_NEXT_FULL
+sweep_number sweep_answers.NoPlace = JC_NEXT_NOT_YET
 
 -- What stays.
 
@@ -162,6 +185,17 @@ KeepsBesideReply (reply.Fault fault) old_code code old new = new ≡ old
 pub record KeepsBesideDone (reply : Reply) (moves : MovesMade) (old new : PhaseOut) : Type 0 where
   pub number_stays : new.number ≡ old.number
   pub reply_stays : KeepsBesideReply reply old.code new.code old.value new.value
+  pub left_stays : KeepsBesideValue moves.left old.left new.left
+  pub victim_stays : KeepsBesideVictim moves.victim old.victim new.victim old.evicted new.evicted
+
+pub record KeepsBesideGone (moves : MovesMade) (old new : PhaseOut) : Type 0 where
+  pub rest_stays : new ≡ record old {
+    next = new.next;
+    moves = new.moves;
+    left = new.left;
+    victim = new.victim;
+    evicted = new.evicted;
+  }
   pub left_stays : KeepsBesideValue moves.left old.left new.left
   pub victim_stays : KeepsBesideVictim moves.victim old.victim new.victim old.evicted new.evicted
 
@@ -190,6 +224,7 @@ KeepsBesideAnswer (first_answer.Joined load) newest reply moves old new =
 KeepsBesideAnswer (first_answer.Refused refusal) newest reply moves old new =
     new ≡ record old { next = new.next; reply = new.reply; moves = new.moves }
 KeepsBesideAnswer first_answer.Full newest reply moves old new = new ≡ record old { next = new.next; moves = new.moves }
+KeepsBesideAnswer first_answer.Shut newest reply moves old new = new ≡ record old { next = new.next; moves = new.moves }
 KeepsBesideAnswer first_answer.Misuse newest reply moves old new = Unit {0}
 
 abbrev pub KeepsBesidePickUp : PickUpAnswer → Reply → PhaseOut → PhaseOut → Type 0

@@ -67,10 +67,12 @@ pub const JC_NEXT_JOINED: u32 = 5;
 pub const JC_NEXT_REFUSED: u32 = 6;
 /// The load was withdrawn: the call is to begin anew.
 pub const JC_NEXT_AGAIN: u32 = 7;
-/// The load isn't over.
+/// The load isn't over. Of a sweep: there is no place for an eviction.
 pub const JC_NEXT_NOT_YET: u32 = 8;
 /// The events of a full generation are to be taken first.
 pub const JC_NEXT_FULL: u32 = 9;
+/// The desk is shut: its entries are to be swept first.
+pub const JC_NEXT_SHUT: u32 = 10;
 
 /// The reply has no value.
 pub const JC_REPLY_UNIT: u32 = 0;
@@ -93,7 +95,7 @@ pub const JC_REPLY_OTHER_FAULT: u32 = 8;
 
 /// The call's number, or that of the next reservation, would overflow.
 pub const JC_REFUSAL_HISTORY_FULL: u32 = 0;
-/// The key is reserved, or the history lacks the places for now.
+/// The key is reserved, or was invalidated while it is reserved, or the history lacks the places for now.
 pub const JC_REFUSAL_BUSY: u32 = 1;
 /// Too many reservations are out.
 pub const JC_REFUSAL_TOO_MANY_IN_FLIGHT: u32 = 2;
@@ -106,12 +108,14 @@ pub const JC_REFUSAL_OTHER: u32 = 4;
 pub const JC_MOVE_STORED: u32 = 1;
 /// The key's entry lost its value.
 pub const JC_MOVE_REMOVED: u32 = 2;
-/// An entry was evicted for the step.
+/// An entry was evicted for the step, or by a sweep.
 pub const JC_MOVE_EVICTED: u32 = 4;
 /// The step's own new entry was evicted: all other entries are reserved.
 pub const JC_MOVE_OWN_EVICTED_FULL: u32 = 8;
 /// The step's own new entry was evicted: an allocation for it failed.
 pub const JC_MOVE_OWN_EVICTED_MEMORY: u32 = 16;
+/// The key's entry was evicted: the key was invalidated.
+pub const JC_MOVE_INVALIDATED: u32 = 32;
 
 /// The loader or the writer was not asked.
 pub const JC_ANSWER_NOT_ASKED: u32 = 0;
@@ -144,3 +148,5 @@ pub const JC_EVENT_EVICTION: u32 = 1;
 pub const JC_CAUSE_ROOM: u32 = 0;
 /// An allocation for the entry failed.
 pub const JC_CAUSE_MEMORY: u32 = 1;
+/// The key was invalidated.
+pub const JC_CAUSE_INVALIDATED: u32 = 2;

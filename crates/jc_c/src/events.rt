@@ -6,7 +6,7 @@ ghost use Rattle.jc_model.specs.declared.event.Event.{Event};
 ghost use Rattle.jc_model.specs.declared.event.ProcessAnswer.TheVariants.{Ended};
 ghost use Rattle.jc_model.specs.Legal.{Legal};
 ghost use Rattle.jc_model.specs.Table.{op_values};
-ghost use Rattle.jc_c.specs.declared.codes.TheConstants.{JC_OK, JC_CODE_NONE, JC_CODE_NO_MEMORY, JC_CODE_BAD_ARGUMENT, JC_ANSWER_NOT_ASKED, JC_EFFECT_NOT_RUN, JC_CAUSE_MEMORY, JC_REPLY_PROCESSOR_FAILED};
+ghost use Rattle.jc_c.specs.declared.codes.TheConstants.{JC_OK, JC_CODE_NONE, JC_CODE_NO_MEMORY, JC_CODE_BAD_ARGUMENT, JC_ANSWER_NOT_ASKED, JC_EFFECT_NOT_RUN, JC_CAUSE_INVALIDATED, JC_REPLY_PROCESSOR_FAILED};
 ghost use Rattle.jc_c.specs.Layouts.{inline_value, is_inline_value, StaysBehindValue, inline_entries, config_of};
 ghost use Rattle.jc_c.specs.Requests.{op_of_number, op_number_fits, load_number_fits, write_number_fits, effect_number_fits, load_of_number, write_of_number, process_answer_of, read_outcome, entry_fits};
 ghost use Rattle.jc_c.specs.Events.{read_cause, process_if_run, read_outside, shared_in, read_reply, step_fits, read_step, outside_fits, event_fits, read_event, HasOutsideLengths, HasLengths, ShowsEvent};
@@ -16,11 +16,11 @@ ghost use Rattle.jc_c.specs.Exports.{export_code};
 
 use crate::codes::{
     JC_ANSWER_FAILED, JC_ANSWER_FOUND, JC_ANSWER_NOT_ASKED, JC_ANSWER_NOTHING, JC_ANSWER_WRITTEN,
-    JC_CAUSE_MEMORY, JC_CAUSE_ROOM, JC_CODE_BAD_ARGUMENT, JC_CODE_NO_MEMORY, JC_CODE_NONE,
-    JC_CODE_WRONG_HANDLE, JC_EFFECT_FAILED, JC_EFFECT_KEEP, JC_EFFECT_NOT_RUN, JC_EFFECT_REMOVE,
-    JC_EFFECT_SET, JC_EVENT_EVICTION, JC_EVENT_STEP, JC_OK, JC_REPLY_LOADER_FAILED, JC_REPLY_NO,
-    JC_REPLY_NULL, JC_REPLY_PROCESSOR_FAILED, JC_REPLY_UNIT, JC_REPLY_VALUE,
-    JC_REPLY_WRITER_FAILED, JC_REPLY_YES,
+    JC_CAUSE_INVALIDATED, JC_CAUSE_MEMORY, JC_CAUSE_ROOM, JC_CODE_BAD_ARGUMENT, JC_CODE_NO_MEMORY,
+    JC_CODE_NONE, JC_CODE_WRONG_HANDLE, JC_EFFECT_FAILED, JC_EFFECT_KEEP, JC_EFFECT_NOT_RUN,
+    JC_EFFECT_REMOVE, JC_EFFECT_SET, JC_EVENT_EVICTION, JC_EVENT_STEP, JC_OK,
+    JC_REPLY_LOADER_FAILED, JC_REPLY_NO, JC_REPLY_NULL, JC_REPLY_PROCESSOR_FAILED, JC_REPLY_UNIT,
+    JC_REPLY_VALUE, JC_REPLY_WRITER_FAILED, JC_REPLY_YES,
 };
 use crate::handle::Handle;
 use crate::layouts::{CacheShape, FlatEvent, InlineEntry, InlineValue, ProcessorAnswers};
@@ -200,6 +200,7 @@ fn show_event(event: &Event, out: &mut FlatEvent)
             out.cause = match cause {
                 Cause::Full => JC_CAUSE_ROOM,
                 Cause::Memory => JC_CAUSE_MEMORY,
+                Cause::Invalidated => JC_CAUSE_INVALIDATED,
             };
         }
     }
@@ -249,8 +250,10 @@ fn read_cause(number: u32) -> Cause
 {
     if number == JC_CAUSE_ROOM {
         Cause::Full
-    } else {
+    } else if number == JC_CAUSE_MEMORY {
         Cause::Memory
+    } else {
+        Cause::Invalidated
     }
 }
 
@@ -327,7 +330,7 @@ fn read_event(flat: &FlatEvent) -> Option<Event>
 {
     let key = flat.key.key()?;
     if flat.kind == JC_EVENT_EVICTION {
-        if flat.cause > JC_CAUSE_MEMORY {
+        if flat.cause > JC_CAUSE_INVALIDATED {
             return None;
         }
         return Some(Event::Evict {

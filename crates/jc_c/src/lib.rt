@@ -14,6 +14,7 @@
 
 pub mod codes;
 mod events;
+mod forgetting;
 mod handle;
 mod layouts;
 mod looking;
@@ -24,6 +25,7 @@ mod requests;
 mod rooms;
 
 pub use events::{jc_event, jc_legal};
+pub use forgetting::{jc_invalidate, jc_invalidate_all, jc_sweep};
 pub use handle::Handle;
 pub use layouts::{
     CacheShape, CountsOut, FlatEvent, InlineEntry, InlineKey, InlineValue, PhaseOut,

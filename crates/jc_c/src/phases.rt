@@ -2,10 +2,10 @@
 ghost use Rattle.std.specs.Prelude.{◌≡◌, ◌&&◌, ◌⊎◌, true, is_some, if◌then◌else◌};
 ghost use Rattle.jc_model.specs.Group.{load_only, write_only};
 ghost use Rattle.jc_stripe.specs.DeskState.{may_call_next};
-ghost use Rattle.jc_stripe.specs.DeskPhases.{WithdrawsAtDesk, hits_next, without_hit, takes_load, takes_write, takes_process, ticket_of, is_join_out};
+ghost use Rattle.jc_stripe.specs.DeskPhases.{hits_next, without_hit, takes_load, takes_write, takes_process, ticket_of, is_join_out};
 ghost use Rattle.jc_c.specs.declared.codes.TheConstants.{JC_OK, JC_CODE_MISUSE, JC_CODE_NONE};
 ghost use Rattle.jc_c.specs.Requests.{key_fits, value_fits, op_fits, load_of_number, load_number_fits, write_of_number, write_number_fits, processor_out, processed_fits};
-ghost use Rattle.jc_c.specs.Exports.{export_code, join_named, BeginsForC, CommitsForC, PicksUpForC, HitsForC};
+ghost use Rattle.jc_c.specs.Exports.{export_code, join_named, BeginsForC, CommitsForC, PicksUpForC, HitsForC, WithdrawsForC};
 
 use crate::codes::{JC_CODE_BAD_ARGUMENT, JC_CODE_MISUSE, JC_CODE_WRONG_HANDLE, JC_OK};
 use crate::handle::Handle;
@@ -167,21 +167,22 @@ pub extern "C" fn jc_commit_process(
     code
 }
 
-/// Gives back a ticket whose loader, writer or processor was not asked. `JC_CODE_MISUSE` says that no ticket with this number is out.
+/// Gives back a ticket whose loader, writer or processor was not asked. If its key was invalidated meanwhile, its entry is evicted.
+/// `JC_CODE_MISUSE` says that no ticket with this number is out; then nothing was done.
 #[unsafe(no_mangle)]
-pub extern "C" fn jc_withdraw(h: &mut Handle, alloc: Global, number: u64) -> u32
+pub extern "C" fn jc_withdraw(h: &mut Handle, alloc: Global, number: u64, out: &mut PhaseOut) -> u32
     ensures code { result ≡ export_code h.old.is_open true (is_some (ticket_of h.old.desk.stripe number)) JC_CODE_MISUSE }
-    ensures withdraws { result ≡ JC_OK → WithdrawsAtDesk h.old.desk number h.new.desk }
-    ensures refused { (result ≡ JC_OK) ⊎ (h.new.desk ≡ h.old.desk) }
+    ensures withdraws { result ≡ JC_OK → WithdrawsForC h.old.desk number out.old out.new h.new.desk }
+    ensures refused { (result ≡ JC_OK) ⊎ ((h.new.desk ≡ h.old.desk) × (out.new ≡ out.old)) }
     ensures is_open { h.new.is_open ≡ h.old.is_open }
 {
     if !h.is_open() {
         return JC_CODE_WRONG_HANDLE;
     }
     let mut rooms = h.take(alloc).into_box();
-    let done = rooms.desk.withdraw(number);
+    let code = rooms.withdraw(number, out);
     h.put(Loose::of(rooms));
-    if done { JC_OK } else { JC_CODE_MISUSE }
+    code
 }
 
 /// Picks up the answer of a load that was joined. `JC_CODE_MISUSE` says that no such join is out; then nothing was done.

@@ -2,23 +2,23 @@
 ghost use Rattle.std.specs.Prelude.{◌≡◌, ◌≤◌, true, if◌then◌else◌};
 ghost use Rattle.std.specs.Option.{option_copied};
 ghost use Rattle.jc_stripe.specs.DeskPhases.{is_first_misuse, is_pick_up_misuse};
-ghost use Rattle.jc_c.specs.declared.codes.TheConstants.{JC_OK, JC_CODE_MISUSE, JC_MOVE_OWN_EVICTED_MEMORY};
+ghost use Rattle.jc_c.specs.declared.codes.TheConstants.{JC_OK, JC_CODE_MISUSE, JC_MOVE_INVALIDATED};
 ghost use Rattle.jc_c.specs.Layouts.{inline_value, is_inline_value, StaysBehindValue};
-ghost use Rattle.jc_c.specs.Replies.{ShowsFault, ShowsReply, ShowsMoves, own_number, ShowsDone, ShowsFirst, refusal_number, ShowsFirstAnswer, ShowsPickUp};
-ghost use Rattle.jc_c.specs.Replies.{KeepsBesideValue, KeepsBesideVictim, KeepsBesideReply, KeepsBesideDone, KeepsBesideFirst, KeepsBesideAnswer, KeepsBesidePickUp};
+ghost use Rattle.jc_c.specs.Replies.{ShowsFault, ShowsReply, ShowsMoves, own_number, ShowsDone, ShowsFirst, refusal_number, ShowsFirstAnswer, ShowsPickUp, ShowsGone, shut_number, sweep_number};
+ghost use Rattle.jc_c.specs.Replies.{KeepsBesideValue, KeepsBesideVictim, KeepsBesideReply, KeepsBesideDone, KeepsBesideFirst, KeepsBesideAnswer, KeepsBesidePickUp, KeepsBesideGone};
 
 use crate::codes::{
     JC_ASK_DELETE, JC_ASK_LOAD, JC_ASK_PROCESS, JC_ASK_WRITE, JC_CODE_MISUSE, JC_MOVE_EVICTED,
-    JC_MOVE_OWN_EVICTED_FULL, JC_MOVE_OWN_EVICTED_MEMORY, JC_MOVE_REMOVED, JC_MOVE_STORED,
-    JC_NEXT_AGAIN, JC_NEXT_DONE, JC_NEXT_FULL, JC_NEXT_JOINED, JC_NEXT_NOT_YET, JC_NEXT_REFUSED,
-    JC_OK, JC_REFUSAL_BUSY, JC_REFUSAL_HISTORY_FULL, JC_REFUSAL_OTHER,
-    JC_REFUSAL_TOO_MANY_IN_FLIGHT, JC_REFUSAL_TOO_MANY_JOINERS, JC_REPLY_LOADER_FAILED,
-    JC_REPLY_NO, JC_REPLY_NULL, JC_REPLY_OTHER_FAULT, JC_REPLY_PROCESSOR_FAILED, JC_REPLY_UNIT,
-    JC_REPLY_VALUE, JC_REPLY_WRITER_FAILED, JC_REPLY_YES,
+    JC_MOVE_INVALIDATED, JC_MOVE_OWN_EVICTED_FULL, JC_MOVE_OWN_EVICTED_MEMORY, JC_MOVE_REMOVED,
+    JC_MOVE_STORED, JC_NEXT_AGAIN, JC_NEXT_DONE, JC_NEXT_FULL, JC_NEXT_JOINED, JC_NEXT_NOT_YET,
+    JC_NEXT_REFUSED, JC_NEXT_SHUT, JC_OK, JC_REFUSAL_BUSY, JC_REFUSAL_HISTORY_FULL,
+    JC_REFUSAL_OTHER, JC_REFUSAL_TOO_MANY_IN_FLIGHT, JC_REFUSAL_TOO_MANY_JOINERS,
+    JC_REPLY_LOADER_FAILED, JC_REPLY_NO, JC_REPLY_NULL, JC_REPLY_OTHER_FAULT,
+    JC_REPLY_PROCESSOR_FAILED, JC_REPLY_UNIT, JC_REPLY_VALUE, JC_REPLY_WRITER_FAILED, JC_REPLY_YES,
 };
 use crate::layouts::{InlineKey, InlineValue, PhaseOut};
 use jc_model::{Cause, Change, Reply};
-use jc_stripe::{First, FirstAnswer, PickUpAnswer, Reservation, ValueMoves};
+use jc_stripe::{First, FirstAnswer, PickUpAnswer, Reservation, SweepAnswer, ValueMoves};
 use jc_types::{Refusal, Value};
 
 /// Writes a value.
@@ -83,15 +83,16 @@ pub(crate) fn show_reply(reply: &Reply, number: &mut u32, code: &mut u32, out: &
     }
 }
 
-/// The number of the cause for which the step's own key was evicted, or 0.
+/// The number of the cause for which the key's own entry was evicted, or 0.
 fn number_of_own(own: Option<Cause>) -> u32
     ensures number { result ≡ own_number own }
-    ensures few { result ≤ JC_MOVE_OWN_EVICTED_MEMORY }
+    ensures few { result ≤ JC_MOVE_INVALIDATED }
 {
     match own {
         None => 0,
         Some(Cause::Full) => JC_MOVE_OWN_EVICTED_FULL,
         Some(Cause::Memory) => JC_MOVE_OWN_EVICTED_MEMORY,
+        Some(Cause::Invalidated) => JC_MOVE_INVALIDATED,
     }
 }
 
@@ -146,6 +147,40 @@ pub(crate) fn show_done(
         &mut out.victim,
         &mut out.evicted,
     );
+}
+
+/// Writes what is to be done next after a phase that is no call's step, and the values that went by it.
+pub(crate) fn show_gone(next: u32, moves: &ValueMoves, out: &mut PhaseOut)
+    ensures shown { ShowsGone next moves.now out.new }
+    ensures others { KeepsBesideGone moves.now out.old out.new }
+{
+    out.next = next;
+    show_moves(
+        moves,
+        &mut out.moves,
+        &mut out.left,
+        &mut out.victim,
+        &mut out.evicted,
+    );
+}
+
+/// What is to be done next at a desk that is shut, or isn't.
+pub(crate) fn shut_number(is_shut: bool) -> u32
+    ensures { result ≡ shut_number is_shut }
+{
+    if is_shut { JC_NEXT_SHUT } else { JC_NEXT_DONE }
+}
+
+/// What is to be done next after a sweep.
+pub(crate) fn sweep_number(answer: SweepAnswer) -> u32
+    ensures { result ≡ sweep_number answer }
+{
+    match answer {
+        SweepAnswer::Open => JC_NEXT_DONE,
+        SweepAnswer::Evicted => JC_NEXT_SHUT,
+        SweepAnswer::Full => JC_NEXT_FULL,
+        SweepAnswer::NoPlace => JC_NEXT_NOT_YET,
+    }
 }
 
 /// Writes whom to ask: the loader, the writer or the processor.
@@ -241,6 +276,7 @@ pub(crate) fn show_asked(
             out.reply = number_of(refusal);
         }
         FirstAnswer::Full => out.next = JC_NEXT_FULL,
+        FirstAnswer::Shut => out.next = JC_NEXT_SHUT,
         FirstAnswer::Misuse => return JC_CODE_MISUSE,
     }
     JC_OK

@@ -1,15 +1,18 @@
 //! A desk with the buffers that its exports write into.
-ghost use Rattle.std.specs.Prelude.{◌≡◌, ◌⊎◌, true, if◌then◌else◌};
+ghost use Rattle.std.specs.Prelude.{◌≡◌, ◌⊎◌, true, is_some, if◌then◌else◌};
 ghost use Rattle.jc_model.specs.Group.{load_only, write_only};
+ghost use Rattle.jc_stripe.specs.State.{is_of};
 ghost use Rattle.jc_stripe.specs.DeskState.{may_call_next};
-ghost use Rattle.jc_stripe.specs.DeskPhases.{hits_next, without_hit, takes_load, takes_write, takes_process, is_join_out};
+ghost use Rattle.jc_stripe.specs.DeskPhases.{hits_next, without_hit, takes_load, takes_write, takes_process, ticket_of, is_join_out};
 ghost use Rattle.jc_c.specs.declared.codes.TheConstants.{JC_OK, JC_CODE_MISUSE, JC_CODE_NONE};
 ghost use Rattle.jc_c.specs.Requests.{op_fits};
-ghost use Rattle.jc_c.specs.Exports.{export_code, BeginsForC, CommitsForC, PicksUpForC, HitsForC};
+ghost use Rattle.jc_c.specs.Exports.{export_code, BeginsForC, CommitsForC, PicksUpForC, HitsForC, WithdrawsForC, InvalidatesForC, SweepsForC};
 
-use crate::codes::{JC_CODE_BAD_ARGUMENT, JC_CODE_MISUSE, JC_CODE_NONE, JC_OK};
+use crate::codes::{JC_CODE_BAD_ARGUMENT, JC_CODE_MISUSE, JC_CODE_NONE, JC_NEXT_DONE, JC_OK};
 use crate::layouts::{InlineValue, PhaseOut};
-use crate::replies::{show_asked, show_done, show_picked, show_value};
+use crate::replies::{
+    show_asked, show_done, show_gone, show_picked, show_value, shut_number, sweep_number,
+};
 use crate::requests::write_op;
 use jc_model::{LoadAnswer, Op, Out, Reply, WriteAnswer};
 use jc_stripe::{Desk, ValueMoves};
@@ -152,6 +155,40 @@ impl DeskRooms {
         };
         show_done(done.place, done.shared, &self.reply, &self.moves, out);
         JC_OK
+    }
+
+    /// A ticket is given back, with the values that went by it written for C.
+    pub(crate) fn withdraw(&mut self, number: u64, out: &mut PhaseOut) -> u32
+        ensures code { result ≡ (if is_some (ticket_of self.old.stripe number) then JC_OK else JC_CODE_MISUSE) }
+        ensures withdraws { result ≡ JC_OK → WithdrawsForC self.old number out.old out.new self.new }
+        ensures refused { (result ≡ JC_OK) ⊎ ((self.new ≡ self.old) × (out.new ≡ out.old)) }
+    {
+        if !self.desk.withdraw(number, &mut self.moves) {
+            return JC_CODE_MISUSE;
+        }
+        show_gone(JC_NEXT_DONE, &self.moves, out);
+        JC_OK
+    }
+
+    /// A key is invalidated, with the values that went by it written for C.
+    pub(crate) fn invalidate(&mut self, key: &Key, out: &mut PhaseOut) -> u32
+        ensures code { result ≡ (if is_of self.old.stripe key.now then JC_OK else JC_CODE_MISUSE) }
+        ensures invalidates { result ≡ JC_OK → InvalidatesForC self.old key.now out.old out.new self.new }
+        ensures refused { (result ≡ JC_OK) ⊎ ((self.new ≡ self.old) × (out.new ≡ out.old)) }
+    {
+        if !self.desk.invalidate(key, &mut self.moves) {
+            return JC_CODE_MISUSE;
+        }
+        show_gone(shut_number(self.desk.is_shut()), &self.moves, out);
+        JC_OK
+    }
+
+    /// A desk that is shut is swept, with the values that went by it written for C.
+    pub(crate) fn sweep(&mut self, out: &mut PhaseOut)
+        ensures { SweepsForC self.old out.old out.new self.new }
+    {
+        let answer = self.desk.sweep(&mut self.moves);
+        show_gone(sweep_number(answer), &self.moves, out);
     }
 
     /// A joiner asks for its answer, which is written for C.

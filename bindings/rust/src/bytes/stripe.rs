@@ -1,13 +1,14 @@
 //! One stripe of a cache of bytes: a desk under a mutex, and who has a call out.
 use crate::Error;
 use crate::at::Name;
-use crate::core::{self, Asked, Desk, Done, Loaded, PickedUp, Refusal, Shape, Ticket, Written};
+use crate::core::{self, Asked, Desk, Done, Loaded, PickedUp, Refusal, Shape, Swept};
+use crate::core::{Ticket, Written};
 use crate::op::Reply;
 use crate::outside::is_in_call;
 use crate::step::{FAILED, Sessions, Stop};
 use crate::table::{Failure, Fate, Flight};
 use crate::waiting::{self, Waiters, this_thread};
-use std::collections::{HashMap, HashSet};
+use std::collections::HashMap;
 use std::sync::atomic::Ordering::Relaxed;
 use std::sync::{Arc, Mutex, MutexGuard, OnceLock};
 
@@ -16,8 +17,8 @@ pub(super) struct Side<E> {
     sessions: Sessions,
     /// The calls that have reserved a key, and what becomes of its entry when they end.
     flights: HashMap<Vec<u8>, (Arc<Flight<(), E>>, Fate)>,
-    /// The keys whose entries nobody is to see, and can't be uncached yet.
-    hidden: HashSet<Vec<u8>>,
+    /// Whether nobody is to see any more what is cached of the keys that aren't reserved: the core has had no place to uncache a key.
+    is_shut: bool,
     /// Whether the entries stay that calls leave.
     keeps: bool,
     /// Joins that nobody waits for any more.
@@ -106,7 +107,8 @@ impl<E> Asking<'_, E> {
         let done = commit(&mut side.desk, Ticket(self.flight.number));
         let reply = owned(&done.expect("the host keeps the core's rules").reply);
         let reserved = side.flights.remove(&self.key);
-        if reserved.is_some_and(|(_, fate)| fate != Fate::Stays) {
+        // What was overtaken the core has uncached.
+        if reserved.is_some_and(|(_, fate)| fate == Fate::Dropped) {
             side.drop_entry(&self.key);
         }
         self.flight.is_over.store(true, Relaxed);
@@ -148,7 +150,7 @@ impl<E> Stripe<E> {
                 desk: Desk::open(shape, number, &[])?,
                 sessions: Sessions::new(),
                 flights: HashMap::new(),
-                hidden: HashSet::new(),
+                is_shut: false,
                 keeps: true,
                 abandoned: Vec::new(),
                 is_closed: false,
@@ -184,9 +186,6 @@ impl<E> Stripe<E> {
     /// A `get` that finds its entry. None: nothing was done.
     pub(super) fn hit(&self, key: &[u8]) -> Option<Vec<u8>> {
         let mut side = self.open_side().ok()?;
-        if side.is_hidden(key) {
-            return None;
-        }
         let session = side.sessions.next();
         side.desk.hit(session, key).ok()?.map(<[u8]>::to_vec)
     }
@@ -194,12 +193,7 @@ impl<E> Stripe<E> {
     pub(super) fn begin(&self, op: core::Op<'_>, key: &[u8]) -> Result<First<'_, E>, Stop> {
         let mut guard = self.open_side()?;
         let side = &mut *guard;
-        if let Some(blocked) = side.out_of_date(key) {
-            return Ok(match op {
-                core::Op::ContainsKey => First::Done(Reply::Flag(false)),
-                _ => First::Busy(blocked),
-            });
-        }
+        side.sweep();
         let session = side.sessions.next();
         let asked = match side.desk.begin(session, op, key) {
             Ok(asked) => asked,
@@ -209,7 +203,7 @@ impl<E> Stripe<E> {
         let (number, is_load, value) = match asked {
             Asked::Done(done) => {
                 let reply = owned(&done.reply);
-                if !side.keeps {
+                if !side.keeps && !side.flights.contains_key(key) {
                     side.drop_entry(key);
                 }
                 return Ok(First::Done(reply.expect("a first phase has no fault")));
@@ -221,7 +215,8 @@ impl<E> Stripe<E> {
                 side.sessions.take();
                 return Ok(First::Joined(join, side.flights[key].0.clone()));
             }
-            Asked::Refused(refusal) => return side.refused(refusal, key).map(First::Busy),
+            Asked::Refused(refusal) => return side.refused(op, Some(refusal), key),
+            Asked::Shut => return side.refused(op, None, key),
             Asked::Process { .. } | Asked::Full => unreachable!("it was not asked for"),
         };
         let asking = self.reserve(side, key, session, number, is_load);
@@ -267,7 +262,7 @@ impl<E> Stripe<E> {
     fn leave(&self, side: &mut Side<E>, session: u32) {
         side.changes += 1;
         side.sessions.give(session);
-        side.drop_hidden();
+        side.sweep();
         self.room.wake(&mut Vec::new());
         side.shut_if_idle();
     }
@@ -341,12 +336,7 @@ impl<E> Stripe<E> {
     pub(super) fn invalidate_all(&self, keeps: Option<bool>) {
         if let Ok(mut side) = self.open_side() {
             side.keeps = keeps.unwrap_or(side.keeps);
-            let listed = side.desk.entries();
-            let cached = listed.expect("the desk is open, and has memory");
-            let reserved: Vec<_> = side.flights.keys().cloned().collect();
-            for key in cached.into_iter().map(|(key, _)| key).chain(reserved) {
-                side.invalidate(&key);
-            }
+            side.invalidate_all();
         }
     }
 
@@ -359,7 +349,7 @@ impl<E> Stripe<E> {
         let mut side = self.open_side()?;
         let listed = side.desk.entries();
         let mut entries = listed.expect("the desk is open, and has memory");
-        entries.retain(|(key, _)| !side.is_hidden(key));
+        entries.retain(|(key, _)| !side.is_forgotten(key));
         Ok(entries)
     }
 
@@ -391,66 +381,64 @@ impl<E> Side<E> {
         !self.is_closed && !is_over
     }
 
-    fn refused(&self, refusal: Refusal, key: &[u8]) -> Result<Blocked<E>, Stop> {
-        match (refusal, self.flights.get(key)) {
-            (Refusal::HistoryFull, _) => Err(Stop::HistoryFull),
-            (Refusal::Busy, Some((flight, _))) => Ok(Blocked::Key(flight.clone())),
-            _ => Ok(Blocked::Room(self.changes)),
-        }
+    /// What a call is told that was refused, or, without a refusal, for which the desk is shut.
+    fn refused<'c>(
+        &self,
+        op: core::Op<'_>,
+        refusal: Option<Refusal>,
+        key: &[u8],
+    ) -> Result<First<'c, E>, Stop> {
+        Ok(match (refusal, self.flights.get(key)) {
+            (Some(Refusal::HistoryFull), _) => return Err(Stop::HistoryFull),
+            _ if matches!(op, core::Op::ContainsKey) && self.is_forgotten(key) => {
+                First::Done(Reply::Flag(false))
+            }
+            (Some(Refusal::Busy), Some((flight, _))) => First::Busy(Blocked::Key(flight.clone())),
+            _ => First::Busy(Blocked::Room(self.changes)),
+        })
     }
 
-    fn is_hidden(&self, key: &[u8]) -> bool {
-        !self.hidden.is_empty() && self.hidden.contains(key)
+    /// Whether nobody is to see any more what is cached of a key: it was invalidated.
+    fn is_forgotten(&self, key: &[u8]) -> bool {
+        match self.flights.get(key) {
+            Some((_, fate)) => *fate == Fate::Overtaken,
+            None => self.is_shut,
+        }
     }
 
     fn invalidate(&mut self, key: &[u8]) {
-        let Some((_, fate)) = self.flights.get_mut(key) else {
-            return self.drop_entry(key);
-        };
-        *fate = Fate::Overtaken;
-        self.hidden.insert(key.to_vec());
-    }
-
-    /// Uncaches the entry of a key that isn't reserved. While the history has no room for that step, it is there, and hidden.
-    fn drop_entry(&mut self, key: &[u8]) {
-        let session = self.sessions.next();
-        let is_cached = matches!(self.desk.peek(key), Ok(Some(_)));
-        if !is_cached
-            || matches!(
-                self.desk.begin(session, core::Op::Clear, key),
-                Ok(Asked::Done(_))
-            )
-        {
-            self.hidden.remove(key);
-        } else {
-            self.hidden.insert(key.to_vec());
-        }
-    }
-
-    /// Uncaches what is hidden, as far as there is room.
-    fn drop_hidden(&mut self) {
-        if self.hidden.is_empty() {
-            return;
-        }
-        for key in std::mem::take(&mut self.hidden) {
-            if self.flights.contains_key(&key) {
-                self.hidden.insert(key);
-            } else {
-                self.drop_entry(&key);
-            }
-        }
-    }
-
-    /// What a call waits for that may see neither the entry nor the load of this key.
-    fn out_of_date(&mut self, key: &[u8]) -> Option<Blocked<E>> {
-        if !self.is_hidden(key) {
-            return None;
-        }
-        if let Some((flight, _)) = self.flights.get(key) {
-            return Some(Blocked::Key(flight.clone()));
+        if let Some((_, fate)) = self.flights.get_mut(key) {
+            *fate = Fate::Overtaken;
         }
         self.drop_entry(key);
-        self.is_hidden(key).then_some(Blocked::Room(self.changes))
+    }
+
+    fn invalidate_all(&mut self) {
+        for (_, fate) in self.flights.values_mut() {
+            *fate = Fate::Overtaken;
+        }
+        self.desk.invalidate_all().expect("the desk is open");
+        self.is_shut = true;
+        self.sweep();
+    }
+
+    /// Uncaches the entry of a key; if the key is reserved, the core does that at the end of that call. A key that is too long has none.
+    fn drop_entry(&mut self, key: &[u8]) {
+        if let Ok(gone) = self.desk.invalidate(key) {
+            self.is_shut |= gone.is_shut;
+        }
+        self.sweep();
+    }
+
+    /// Uncaches what is left of a desk that is shut, as far as there is a place for that.
+    fn sweep(&mut self) {
+        while self.is_shut {
+            match self.desk.sweep().expect("the desk is open") {
+                Swept::Evicted(_) => {}
+                Swept::Open => self.is_shut = false,
+                Swept::NotYet | Swept::Full => return,
+            }
+        }
     }
 
     /// Picks up what nobody waits for, as far as its load is over.

@@ -63,6 +63,7 @@ impl Event {
         if event.kind == raw::EVENT_EVICTION {
             return What::Eviction(match event.cause {
                 raw::CAUSE_MEMORY => Cause::Memory,
+                raw::CAUSE_INVALIDATED => Cause::Invalidated,
                 _ => Cause::Full,
             });
         }

@@ -200,25 +200,27 @@ impl<'d> Reply<'d> {
     }
 }
 
-/// Why an entry was evicted: of a step, the one that it made, at once.
+/// Why an entry was evicted: of a step, the one that it made or left, at once.
 #[derive(Clone, Copy, Debug, PartialEq, Eq)]
 pub enum Cause {
     /// The stripe was full; of a step's own new entry: all others are reserved.
     Full,
     /// An allocation failed.
     Memory,
+    /// The key was invalidated.
+    Invalidated,
 }
 
-/// Which values came and went with a step. All other entries are as they were.
+/// Which values came and went with a step, or with what is no step. All other entries are as they were.
 #[derive(Clone, Copy, Debug, PartialEq, Eq)]
 pub struct Moves<'d> {
     /// The key's entry has a value that it hadn't before: the one that this call brought.
     pub is_kept: bool,
     /// The value that the key's entry had, and hasn't now.
     pub left: Option<&'d [u8]>,
-    /// The key that was evicted for this step, and the value that it had.
+    /// The key that was evicted for this step, or by this sweep, and the value that it had.
     pub victim: Option<(&'d [u8], &'d [u8])>,
-    /// Why the entry that this step made was evicted at once, if it was.
+    /// Why the key's own entry was evicted at once, if it was.
     pub own: Option<Cause>,
 }
 
@@ -260,6 +262,30 @@ pub enum Asked<'d> {
     /// Nothing was done.
     Refused(Refusal),
     /// With `keeps_events`: nothing was done. Read the events, call [`Desk::end_generation`](super::Desk::end_generation), begin anew.
+    Full,
+    /// Nothing was done. Call [`Desk::sweep`](super::Desk::sweep) as long as it evicts an entry, and begin anew.
+    Shut,
+}
+
+/// What was done by [`Desk::invalidate`](super::Desk::invalidate).
+#[derive(Clone, Copy, Debug)]
+pub struct Invalidated<'d> {
+    /// The value of the key's entry, if that was evicted.
+    pub moves: Moves<'d>,
+    /// Whether no call begins until [`Desk::sweep`](super::Desk::sweep) has evicted all entries that aren't reserved.
+    pub is_shut: bool,
+}
+
+/// What a sweep has found.
+#[derive(Clone, Copy, Debug)]
+pub enum Swept<'d> {
+    /// Nothing is left: calls may begin.
+    Open,
+    /// An entry, which it has evicted (the victim of these moves): sweep again.
+    Evicted(Moves<'d>),
+    /// An entry for which there is no place until the next commit, withdrawal or pick-up.
+    NotYet,
+    /// With `keeps_events`: an entry. Read the events, call [`Desk::end_generation`](super::Desk::end_generation), sweep again.
     Full,
 }
 

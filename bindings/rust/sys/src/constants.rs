@@ -90,10 +90,12 @@ pub const NEXT_JOINED: u32 = 5;
 pub const NEXT_REFUSED: u32 = 6;
 /// Of `jc_pick_up`: the load was withdrawn; begin anew.
 pub const NEXT_AGAIN: u32 = 7;
-/// Of `jc_pick_up`: the load isn't over; the join is still out.
+/// Of `jc_pick_up`: the load isn't over; the join is still out. Of `jc_sweep`: there is no place for an eviction now.
 pub const NEXT_NOT_YET: u32 = 8;
 /// With `keeps_events`: nothing was done; read the events, call `jc_end_generation`, begin anew.
 pub const NEXT_FULL: u32 = 9;
+/// Nothing was done: call `jc_sweep` as long as it says this, too, then begin anew.
+pub const NEXT_SHUT: u32 = 10;
 
 // `Out::reply` of a call that is over.
 
@@ -135,12 +137,14 @@ pub const REFUSAL_OTHER: u32 = 4;
 pub const MOVE_STORED: u32 = 1;
 /// `Out::left` is the value that the key's entry had, and hasn't now.
 pub const MOVE_REMOVED: u32 = 2;
-/// `Out::victim` had `Out::evicted`, and was evicted for this step.
+/// `Out::victim` had `Out::evicted`, and was evicted for this step, or by this sweep.
 pub const MOVE_EVICTED: u32 = 4;
 /// The step's own new entry was evicted at once: all others are reserved.
 pub const MOVE_OWN_EVICTED_FULL: u32 = 8;
 /// The same: there was no memory for it.
 pub const MOVE_OWN_EVICTED_MEMORY: u32 = 16;
+/// The key's entry was evicted, since the key was invalidated.
+pub const MOVE_INVALIDATED: u32 = 32;
 
 // What a loader and a writer answer.
 
@@ -178,3 +182,5 @@ pub const EVENT_EVICTION: u32 = 1;
 pub const CAUSE_ROOM: u32 = 0;
 /// An allocation for the entry failed.
 pub const CAUSE_MEMORY: u32 = 1;
+/// The key was invalidated.
+pub const CAUSE_INVALIDATED: u32 = 2;

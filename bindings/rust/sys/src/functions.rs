@@ -71,7 +71,7 @@ unsafe extern "C" {
     ) -> u32;
 
     /// Gives a ticket back whose loader, writer or processor was not asked.
-    pub fn jc_withdraw(h: *mut Handle, ticket: u64) -> u32;
+    pub fn jc_withdraw(h: *mut Handle, ticket: u64, out: *mut Out) -> u32;
 
     /// Picks up the answer of a load that was joined. Until it says [`NEXT_DONE`](crate::NEXT_DONE) or [`NEXT_AGAIN`](crate::NEXT_AGAIN), the join is out.
     pub fn jc_pick_up(
@@ -83,6 +83,15 @@ unsafe extern "C" {
         load: u64,
         out: *mut Out,
     ) -> u32;
+
+    /// Forgets a key that somebody else has written in the store. After [`NEXT_SHUT`](crate::NEXT_SHUT) it is `jc_sweep`'s turn.
+    pub fn jc_invalidate(h: *mut Handle, key: *const u8, key_len: usize, out: *mut Out) -> u32;
+
+    /// Forgets all keys. Then it is `jc_sweep`'s turn.
+    pub fn jc_invalidate_all(h: *mut Handle) -> u32;
+
+    /// Evicts an entry of a desk that is shut. `Out::next` says how it goes on.
+    pub fn jc_sweep(h: *mut Handle, out: *mut Out) -> u32;
 
     /// The key's entry. No call is made.
     pub fn jc_peek(h: *mut Handle, key: *const u8, key_len: usize, value: *mut Value) -> u32;

@@ -271,7 +271,7 @@ fn functions() {
             (name.to_string(), (parameters, words(result)))
         })
         .collect();
-    assert_eq!(found.len(), 17, "{found:?}");
+    assert_eq!(found.len(), 20, "{found:?}");
     assert_eq!(found, expected);
 }
 
