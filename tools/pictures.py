@@ -1,6 +1,7 @@
-"""The pictures of docs/pictures: each is of the example that has its name."""
+"""The pictures of docs/pictures: each is of the example that has its name, a script with its transcript or a record with its answer."""
 import os
 
+import recorded
 from diagram import Diagram
 from mermaid import text_of
 from played import Mismatch, Reader
@@ -36,10 +37,21 @@ def drawn(script, transcript, name, theme='both'):
         raise Mismatch(f'the script and the transcript don\'t belong together: {error}') from error
 
 
+def source(name):
+    """The file of an example, and the file of what is printed for it."""
+    base = os.path.join(EXAMPLES, name)
+    return (f'{base}.history', f'{base}.verdict') if os.path.exists(f'{base}.history') else (f'{base}.script', f'{base}.transcript')
+
+
+def drawn_of(path, printed, name, theme='both'):
+    """The SVG and the text of a script or a record, by the name of its file."""
+    return (recorded.drawn if path.endswith('.history') else drawn)(read(path), printed, name, theme)
+
+
 def example(name):
     """The files of docs/pictures that an example has, and what is to be in them."""
-    base = os.path.join(EXAMPLES, name)
-    picture, text = drawn(read(f'{base}.script'), read(f'{base}.transcript'), name)
+    path, printed = source(name)
+    picture, text = drawn_of(path, read(printed), name)
     return {f'{name}.svg': picture, f'{name}.mmd': text}
 
 

@@ -127,8 +127,10 @@ class Conversion:
             self.record.append(f't0 foreign {words[1]} {words[2]}')
         elif words[0] == 'audit':
             del self.lines[:4]
-        elif words[0] in ('drop', 'reopen', 'untold'):
+        elif words[0] in ('drop', 'reopen', 'untold', 'invalidate'):
+            self.take(lambda w: w[0] == 'evict')
             self.lines.pop(0)
+            self.take(lambda w: w[0] == 'evict' and words[0] == 'invalidate')
 
 
 def record_of(script, transcript):

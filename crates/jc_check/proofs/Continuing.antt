@@ -1,6 +1,6 @@
 -- What is left of an order: turns that explain, from a node on, what isn't done yet. An order explains a record exactly if it continues
 -- from the opening, and it continues from a node exactly if its first turn leads to a node from which the others continue.
-use Rattle.std.proofs.Common.{◌≡◌, ℕ, ◌-◌, ◌⊎◌, inl, inr, List, [], ◌∷◌, get_or, Bool, true, false, Option, Some, None, slice_get, sym, subst, ap, refl, ◌∙◌, arith, true≢false}
+use Rattle.std.proofs.Common.{◌≡◌, ℕ, ◌⊎◌, inl, inr, List, [], ◌∷◌, get_or, Bool, true, false, Option, Some, None, slice_get, sym, subst, ap, refl, ◌∙◌, arith, true≢false}
 use Rattle.std.specs.List.{All}
 use Rattle.jc_check.specs.declared.record.Act.{Act}
 use Rattle.jc_check.specs.declared.record.Act.TheVariants.{Step, Share, Land, Foreign, LeaveEntry, LeaveStore, LeaveBoth, LeaveLoad}
@@ -22,7 +22,7 @@ pub record Continues (rules : Rules) (calls : List Recorded) (n : NodeValue) (tu
   pub order : AreInOrder rules calls turns
   pub each : (call : ℕ) → must_at calls call ≡ true → IsSettled n call ⊎ IsPlaced turns call
 
-abbrev later-not : Rules → List Recorded → Turn → Turn → Type 0
+abbrev pub later-not : Rules → List Recorded → Turn → Turn → Type 0
 later-not rules calls t u = MustPrecede rules calls u t → ⊥
 
 -- 1. A turn has one result.
@@ -45,13 +45,13 @@ act-one : (rules : Rules) (o : Option Recorded) (s : Spot) (act : Act) (a b : Sp
 act-one rules None s act a b x y = absurd x
 act-one rules (Some c) s act a b x y = call-one rules c s act a b x y
 
-goes-one : (rules : Rules) (calls : List Recorded) (s : Spot) (t : Turn) (a b : Spot) → Goes rules calls s t a → Goes rules calls s t b → a ≡ b
+pub goes-one : (rules : Rules) (calls : List Recorded) (s : Spot) (t : Turn) (a b : Spot) → Goes rules calls s t a → Goes rules calls s t b → a ≡ b
 goes-one rules calls s Vanish a b x y = x.1 ∙ sym y.1
 goes-one rules calls s (Call i act) a b x y = act-one rules (slice_get calls i) s act a b x y
 
 -- 2. The first turn may be made.
 
-placed-late : (rules : Rules) (calls : List Recorded) (t : Turn) (ts : List Turn) (call : ℕ) → All (later-not rules calls t) ts
+pub placed-late : (rules : Rules) (calls : List Recorded) (t : Turn) (ts : List Turn) (call : ℕ) → All (later-not rules calls t) ts
     → NumbersPrecede rules calls (Some call) (call_of t) → IsPlaced ts call → ⊥
 placed-late rules calls t ts call order before (k, x, h, at, placed) =
     order k x h
@@ -74,7 +74,7 @@ first-may rules calls n t ts is =
 
 -- 3. From a node to the next one.
 
-settled-after : (rules : Rules) (calls : List Recorded) (n next : NodeValue) (t : Turn) → NodeGoes rules calls n t next → (x : Option ℕ)
+pub settled-after : (rules : Rules) (calls : List Recorded) (n next : NodeValue) (t : Turn) → NodeGoes rules calls n t next → (x : Option ℕ)
     → IsNot (IsSettled n) x → AreApart (placed_call t) x → (NumbersPrecede rules calls x (call_of t) → ⊥) → IsNot (IsSettled next) x
 settled-after rules calls n next t goes None was apart never = tt
 settled-after rules calls n next t goes (Some call) was apart never = λ s.
@@ -162,7 +162,7 @@ continues-before rules calls n next t ts goes is =
 
 -- 4. The opening, and the end.
 
-must-some : (calls : List Recorded) (call : ℕ) (o : Option Recorded) → slice_get calls call ≡ o → is_must o ≡ true
+pub must-some : (calls : List Recorded) (call : ℕ) (o : Option Recorded) → slice_get calls call ≡ o → is_must o ≡ true
     → (c : Recorded) × (slice_get calls call ≡ Some c) × (must_be_placed c ≡ true)
 must-some calls call None at must = absurd (true≢false (sym must))
 must-some calls call (Some c) at must = (c, at, must)
@@ -234,31 +234,15 @@ whole-explains rules calls opening turns n plays whole =
 
 -- 6. Closed nodes: no order continues from one of them.
 
-fewer-landed : (m n : NodeValue) → IsCovering m n → (x : Option ℕ) → IsNot (HasLanded n.landed) x → IsNot (HasLanded m.landed) x
-fewer-landed m n is None was = tt
-fewer-landed m n is (Some call) was = λ has. was (is.landed call has)
+pub fewer-landed : (calls : List Recorded) (m n : NodeValue) → IsCovering calls m n → (x : Option ℕ) → IsNot (HasLanded n.landed) x → IsNot (HasLanded m.landed) x
+fewer-landed calls m n is None was = tt
+fewer-landed calls m n is (Some call) was = λ has. was (is.landed call has)
 
-same-settled : (m n : NodeValue) → IsCovering m n → (call : ℕ) → IsSettled n call → IsSettled m call
-same-settled m n is call (inl less) = inl (omega (arith, less, is.from))
-same-settled m n is call (inr more) =
-    inr (
-      omega (arith, more.0, is.end),
-      ap (λ (from : ℕ). get_or m.rest (call - from) false) is.from ∙ ap (λ (rest : List Bool). get_or rest (call - n.from) false) is.rest ∙ more.1,
-    )
+pub not-settled : (calls : List Recorded) (m n : NodeValue) → IsCovering calls m n → (x : Option ℕ) → IsNot (IsSettled n) x → IsNot (IsSettled m) x
+not-settled calls m n is None was = tt
+not-settled calls m n is (Some call) was = λ s. was ((is.settled call).0 s)
 
-settled-same : (m n : NodeValue) → IsCovering m n → (call : ℕ) → IsSettled m call → IsSettled n call
-settled-same m n is call (inl less) = inl (omega (arith, less, is.from))
-settled-same m n is call (inr more) =
-    inr (
-      omega (arith, more.0, is.end),
-      sym (ap (λ (from : ℕ). get_or m.rest (call - from) false) is.from ∙ ap (λ (rest : List Bool). get_or rest (call - n.from) false) is.rest) ∙ more.1,
-    )
-
-not-settled : (m n : NodeValue) → IsCovering m n → (x : Option ℕ) → IsNot (IsSettled n) x → IsNot (IsSettled m) x
-not-settled m n is None was = tt
-not-settled m n is (Some call) was = λ s. was (settled-same m n is call s)
-
-covering-continues : (rules : Rules) (calls : List Recorded) (m n : NodeValue) (turns : List Turn) → IsCovering m n → Continues rules calls n turns
+covering-continues : (rules : Rules) (calls : List Recorded) (m n : NodeValue) (turns : List Turn) → IsCovering calls m n → Continues rules calls n turns
     → Continues rules calls m turns
 covering-continues rules calls m n turns is h =
     record {
@@ -266,15 +250,15 @@ covering-continues rules calls m n turns is h =
       plays = subst (λ (s : Spot). PlaysTurns rules calls s turns h.last) (sym is.spot) h.plays;
       once = h.once;
       fresh = λ k d less. (
-        not-settled m n is (placed_call (get_or turns k d)) (h.fresh k d less).0,
-        fewer-landed m n is (landed_call calls (get_or turns k d)) (h.fresh k d less).1,
+        not-settled calls m n is (placed_call (get_or turns k d)) (h.fresh k d less).0,
+        fewer-landed calls m n is (landed_call calls (get_or turns k d)) (h.fresh k d less).1,
       );
       order = h.order;
-      each = λ call must. elim (h.each call must) [ inl was ↦ inl (same-settled m n is call was) | inr now ↦ inr now ];
+      each = λ call must. elim (h.each call must) [ inl was ↦ inl ((is.settled call).1 must was) | inr now ↦ inr now ];
     }
 
 none-continues : (rules : Rules) (calls : List Recorded) (nodes : List NodeValue) → All (IsClosedAt rules calls nodes) nodes
-    → (turns : List Turn) (n : NodeValue) → IsCovered nodes n → Continues rules calls n turns → ⊥
+    → (turns : List Turn) (n : NodeValue) → IsCovered calls nodes n → Continues rules calls n turns → ⊥
 none-continues rules calls nodes closed [] n (k, m, h, at, covers) is =
     let here : IsClosedAt rules calls nodes m = subst (IsClosedAt rules calls nodes) at (closed k m h) in
     here.undone (ended rules calls m (covering-continues rules calls m n [] covers is))
@@ -289,6 +273,6 @@ pub refutes : (rules : Rules) (calls : List Recorded) (opening : Spot) (nodes : 
 refutes rules calls opening nodes closed order =
     none-continues rules calls nodes closed.each order.0 (opening_node opening) (first closed.first) (opens rules calls opening order.0 order.1)
   where
-    first : IsAmong nodes (opening_node opening) → IsCovered nodes (opening_node opening)
+    first : IsAmong nodes (opening_node opening) → IsCovered calls nodes (opening_node opening)
     first (k, m, h, at, same) =
-        (k, m, h, at, subst (IsCovering m) same (record { from = refl; end = refl; rest = refl; spot = refl; landed = λ call has. has }))
+        (k, m, h, at, subst (IsCovering calls m) same (record { settled = λ call. (λ s. s, λ must s. s); spot = refl; landed = λ call has. has }))

@@ -23,7 +23,7 @@ use Rattle.jc_check.proofs.Numbers.{lt_or_le}
 
 pub inside-grows : (rules : Rules) (calls : List Recorded) (old new : States) (n : NodeValue) (t : Turn) → Grows old new
     → LeadsInside rules calls (node_values old.list.items) n t → LeadsInside rules calls (node_values new.list.items) n t
-inside-grows rules calls old new n t grows is = record { next = is.next; goes = is.goes; inside = covered-grows old new is.next grows is.inside }
+inside-grows rules calls old new n t grows is = record { next = is.next; goes = is.goes; inside = covered-grows calls old new is.next grows is.inside }
 
 pub covers-grows : (rules : Rules) (calls : List Recorded) (old new : States) (n : NodeValue) (t : Turn) → Grows old new
     → Covers rules calls old n t → Covers rules calls new n t
@@ -214,8 +214,8 @@ all-done rules calls s end done h k d less =
     done k (get_or (node_values s.list.items) k d) (omega (arith, h, less, length-map s.list.items node_value))
     (slice_get-get_or (node_values s.list.items) k d less)
 
-pub taken-all : (k : ℕ) (xs : List ℕ) → length xs ≤ k → take k xs ≡ xs
-taken-all zero [] h = refl
-taken-all (suc k) [] h = refl
-taken-all zero (x ∷ xs) h = absurd (omega (arith, h))
-taken-all (suc k) (x ∷ xs) h = ap (λ (ys : List ℕ). x ∷ ys) (taken-all k xs (omega (arith, h)))
+pub taken-all : {X : Type 0} (k : ℕ) (xs : List X) → length xs ≤ k → take k xs ≡ xs
+taken-all {X = X} zero [] h = refl
+taken-all {X = X} (suc k) [] h = refl
+taken-all {X = X} zero (x ∷ xs) h = absurd (omega (arith, h))
+taken-all {X = X} (suc k) (x ∷ xs) h = ap (λ (ys : List X). x ∷ ys) (taken-all k xs (omega (arith, h)))

@@ -4,7 +4,7 @@ use Rattle.std.proofs.lemmas.List.{get_or_default, length-map, map-append, rever
 use Rattle.std.proofs.lemmas.List.Elements.{All-push}
 use Rattle.std.proofs.lemmas.List.Quantifiers.{all_pairs_push}
 use Rattle.std.proofs.lemmas.Option.{get_or_from_slice_get, slice_get-get_or, slice_get-map, slice_get_within}
-use Rattle.std.specs.List.{All, AllPairs, Any}
+use Rattle.std.specs.List.{All, AllPairs}
 use Rattle.jc_check.specs.declared.node.Node.{Node}
 use Rattle.jc_check.specs.declared.places.Places.{Places}
 use Rattle.jc_check.specs.declared.record.Recorded.{Recorded}
@@ -18,8 +18,8 @@ use Rattle.jc_check.specs.declared.states.Step.{Step}
 use Rattle.jc_model.specs.declared.event.LoadAnswer.{LoadAnswer}
 use Rattle.jc_model.specs.declared.event.LoadAnswer.TheVariants as load
 use Rattle.jc_model.specs.Cache.{Bytes}
-use Rattle.jc_check.specs.Nodes.{IsAmong, IsCovered, IsCovering, NodeGoes, NodeValue, PlaysNodes, node_value}
-use Rattle.jc_check.specs.States.{AreKnown, Comes, Grows, HasMorePlaces, HasPlace, HaveSameMarks, HavePlaces, HavePrints, HaveSameParts, HaveSameSpots, IsAt, IsEmpty, IsMet, IsNodeAt, node_values, print_of}
+use Rattle.jc_check.specs.Nodes.{IsAmong, IsCovered, NodeGoes, NodeValue, PlaysNodes, node_value}
+use Rattle.jc_check.specs.States.{AreKnown, Comes, Grows, HasMorePlaces, HasPlace, HavePlaces, HavePrints, HaveSameParts, HaveSameSpots, IsAt, IsEmpty, IsMet, IsNodeAt, node_values, print_of}
 use Rattle.jc_check.proofs.Numbers.{lt_or_le}
 
 pub values-push : (nodes : List Node) (n : Node) → node_values (nodes ++ n ∷ []) ≡ node_values nodes ++ node_value n ∷ []
@@ -59,14 +59,6 @@ same-node a b parts =
     ∙ ap (λ (x : List Bool). node-of b.from b.end x a.landed a.spot) parts.marks.rest
     ∙ ap (λ (x : List ℕ). node-of b.from b.end b.rest x a.spot) parts.landed
     ∙ ap (λ (x : Spot). node-of b.from b.end b.rest b.landed x) (same-spot a.spot b.spot parts.spot)
-
-pub covering-of : (a b : NodeValue) → HaveSameMarks a b → HaveSameSpots a.spot b.spot
-    → ((call : ℕ) → Any (λ c. c ≡ call) a.landed → Any (λ c. c ≡ call) b.landed) → IsCovering a b
-covering-of a b marks spots landed =
-    record { from = marks.from; end = marks.end; rest = marks.rest; spot = same-spot a.spot b.spot spots; landed = landed }
-
-pub of-covering : (a b : NodeValue) → IsCovering a b → HaveSameMarks a b × HaveSameSpots a.spot b.spot
-of-covering a b is = (record { from = is.from; end = is.end; rest = is.rest }, spot-same a.spot b.spot is.spot)
 
 -- 1. Where a node is.
 
@@ -167,14 +159,16 @@ at-shrinks old new place n grows h at =
     sym (get-append (node_values old.list.items) (node_values grows.0) place (omega (arith, h, length-map old.list.items node_value)))
     ∙ sym (ap (λ (xs : List NodeValue). slice_get xs place) (values-grow old new grows)) ∙ at
 
-pub covered-grows : (old new : States) (n : NodeValue) → Grows old new → IsCovered (node_values old.list.items) n → IsCovered (node_values new.list.items) n
-covered-grows old new n grows (k, m, h, at, covers) =
+pub covered-grows : (calls : List Recorded) (old new : States) (n : NodeValue) → Grows old new → IsCovered calls (node_values old.list.items) n
+    → IsCovered calls (node_values new.list.items) n
+covered-grows calls old new n grows (k, m, h, at, covers) =
     let xs = node_values old.list.items in
     let there = at-grows old new k m grows (slice_get-get_or xs k m h ∙ ap Some at) in
     (k, m, omega (arith, slice_get_within (node_values new.list.items) k m there), get_or_from_slice_get (node_values new.list.items) k m m there, covers)
 
-pub covered-last : (new : States) (old : List Node) (n : Node) → new.list.items ≡ old ++ n ∷ [] → IsCovered (node_values new.list.items) (node_value n)
-covered-last new old n list =
+pub covered-last : (calls : List Recorded) (new : States) (old : List Node) (n : Node) → new.list.items ≡ old ++ n ∷ []
+    → IsCovered calls (node_values new.list.items) (node_value n)
+covered-last calls new old n list =
     let there : IsAt new (length (node_values old)) (node_value n) =
     ap (λ (xs : List NodeValue). slice_get xs (length (node_values old))) (ap node_values list ∙ values-push old n)
     ∙ get-end (node_values old) (node_value n) in
@@ -183,7 +177,7 @@ covered-last new old n list =
       node_value n,
       slice_get_within xs (length (node_values old)) (node_value n) there,
       get_or_from_slice_get xs (length (node_values old)) (node_value n) (node_value n) there,
-      record { from = refl; end = refl; rest = refl; spot = refl; landed = λ call has. has },
+      record { settled = λ call. (λ s. s, λ must s. s); spot = refl; landed = λ call has. has },
     )
 
 pub at-index : (s : States) (place : ℕ) (m : Node) → place < length s.list.items → m ≡ get_or s.list.items place m → IsAt s place (node_value m)

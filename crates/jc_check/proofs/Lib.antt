@@ -7,6 +7,7 @@ pub mod Landings
 pub mod Ordering
 pub mod Marking
 pub mod Continuing
+pub mod Leading
 pub mod Settling
 pub mod Orders
 pub mod Known

@@ -1,5 +1,5 @@
 -- Lists by their first element.
-use Rattle.std.proofs.Common.{zero, suc, ◌⊎◌, inl, inr, List, ◌∷◌, sym, subst, refl, arith}
+use Rattle.std.proofs.Common.{zero, suc, ◌⊎◌, inl, inr, List, [], ◌∷◌, ◌++◌, sym, subst, refl, arith}
 use Rattle.std.specs.List.{All, AllPairs, Any}
 
 pub all-cons : {X : Type 0} (P : X → Type 0) (x : X) (xs : List X) → P x → All P xs → All P (x ∷ xs)
@@ -29,3 +29,11 @@ any-there P x xs any = (suc any.0, any.1, omega (arith, any.2), any.3, any.4)
 pub any-either : {X : Type 0} (P : X → Type 0) (x : X) (xs : List X) → Any P (x ∷ xs) → P x ⊎ Any P xs
 any-either P x xs (zero, y, h, is, holds) = inl (subst P (sym is) holds)
 any-either P x xs (suc k, y, h, is, holds) = inr (k, y, omega (arith, h), is, holds)
+
+pub any-push : {X : Type 0} (P : X → Type 0) (xs : List X) (x : X) → Any P (xs ++ x ∷ []) → Any P xs ⊎ P x
+any-push P [] x any = elim (any-either P x [] any) [ inl here ↦ inr here | inr none ↦ absurd (omega (arith, none.2)) ]
+any-push P (y ∷ ys) x any =
+    elim (any-either P y (ys ++ x ∷ []) any) [
+      | inl here ↦ inl (any-here P y ys here)
+      | inr rest ↦ elim (any-push P ys x rest) [ inl later ↦ inl (any-there P y ys later) | inr last ↦ inr last ]
+    ]

@@ -393,5 +393,5 @@ legal-recorded config opening events key some legal heeded = (
     walks : Walks rules key spot events
     walks =
         subst (Walks rules key spot) (sym legal.history.spelled)
-        (lawful-walks config rules key legal.history.groups (from_entries opening) 0 spot
+        (lawful-walks config rules key legal.history.parts (from_entries opening) 0 spot
         (record { read = refl; write = refl; table = refl; program = refl; vanish = refl }) refl legal.history.lawful)

@@ -350,5 +350,5 @@ pub legal-explained : (config : Config) (opening : List (Bytes × Bytes)) (event
 legal-explained config opening events key rules calls spot legal table is told =
     record-explained config rules key events calls spot (entry_at (from_entries opening) key) table is
     (subst (Walks rules key spot) (sym legal.history.spelled)
-    (lawful-walks config rules key legal.history.groups (from_entries opening) 0 spot table is legal.history.lawful))
+    (lawful-walks config rules key legal.history.parts (from_entries opening) 0 spot table is legal.history.lawful))
     legal.history.order told

@@ -9,7 +9,7 @@ use Rattle.std.specs.FinMap.{remove, get-remove}
 use Rattle.jc_types.specs.declared.caller.Caller.{Caller}
 use Rattle.jc_types.specs.declared.config.Config.{Config}
 use Rattle.jc_model.specs.declared.event.Cause.{Cause}
-use Rattle.jc_model.specs.declared.event.Cause.TheVariants.{Full}
+use Rattle.jc_model.specs.declared.event.Cause.TheVariants.{Full, Invalidated}
 use Rattle.jc_model.specs.declared.event.Event.{Event}
 use Rattle.jc_model.specs.declared.event.Event.TheVariants.{Step, Evict}
 use Rattle.jc_model.specs.declared.event.LoadAnswer.{LoadAnswer}
@@ -18,8 +18,8 @@ use Rattle.jc_model.specs.declared.event.Op.{Op}
 use Rattle.jc_model.specs.declared.event.Op.TheVariants.{Get}
 use Rattle.jc_model.specs.declared.event.Out.{Out}
 use Rattle.jc_model.specs.Cache.{Bytes, Cache, entry_at, key_cmp}
-use Rattle.jc_model.specs.Group.{Group, cache_after_group, cache_after_step, cache_before_step, evicted_events, events_of, history_of, shared_event, step_event, step_place, victim_events, without_own, without_victim}
-use Rattle.jc_model.specs.Lawful.{AreLawful, IsLawful, is_joinable, joined_fits, loads_whole}
+use Rattle.jc_model.specs.Group.{Group, Part, Made, Dropped, cache_after_group, cache_after_part, cache_after_step, cache_before_step, evicted_events, events_of, history_of, part_events, shared_event, step_event, step_place, victim_events, without_own, without_victim}
+use Rattle.jc_model.specs.Lawful.{AreLawful, IsLawful, IsLawfulPart, is_joinable, joined_fits, loads_whole}
 use Rattle.jc_model.specs.Table.{NewStep, Seq, answers_fit, entry_after, is_load_given, reply_after, seq_cache, seq_entry}
 use Rattle.jc_model.proofs.CallerLemmas.{get-with_entry, same_key}
 use Rattle.jc_check.specs.declared.record.Rules.{Rules}
@@ -179,7 +179,7 @@ joined-walks config rules key cache group place s (caller ∷ callers) table is 
     shared-walks rules key group.step.key place group.step.out.load (spot_if (pointwise ◌==◌ group.step.key key) rules s (step_event group))
     (caller ∷ callers) (shares (pointwise ◌==◌ group.step.key key) config rules key cache group s table refl is fits)
 
--- 7. Groups.
+-- 7. Groups, and parts.
 
 after-step : (config : Config) (rules : Rules) (key : Bytes) (cache : Cache) (group : Group) (place : ℕ) (s : Spot) → AreTableRules config rules
     → s.entry ≡ entry_at (cache_before_step cache group) key → IsLawful config cache group
@@ -214,11 +214,18 @@ walks-on : (rules : Rules) (key : Bytes) (s : Spot) (xs ys : List Event) → Wal
     → Walks rules key s (xs ++ ys)
 walks-on rules key s xs ys first next = (leads-on rules key s xs ys _ first (next, refl)).0
 
-pub lawful-walks : (config : Config) (rules : Rules) (key : Bytes) (groups : List Group) (cache : Cache) (place : ℕ) (s : Spot)
-    → AreTableRules config rules → s.entry ≡ entry_at cache key → AreLawful config cache groups → Walks rules key s (history_of place groups)
+part-leads : (config : Config) (rules : Rules) (key : Bytes) (cache : Cache) (part : Part) (place : ℕ) (s : Spot) → AreTableRules config rules
+    → s.entry ≡ entry_at cache key → IsLawfulPart config cache part
+    → Leads rules key s (part_events place part) (entry_at (cache_after_part cache part) key)
+part-leads config rules key cache (Made group) place s table is lawful = group-leads config rules key cache group place s table is lawful
+part-leads config rules key cache (Dropped gone) place s table is lawful =
+    let one = evict-leads (is_at key (Evict gone Invalidated)) rules key gone Invalidated cache s refl is in ((one.0, tt), one.1)
+
+pub lawful-walks : (config : Config) (rules : Rules) (key : Bytes) (parts : List Part) (cache : Cache) (place : ℕ) (s : Spot)
+    → AreTableRules config rules → s.entry ≡ entry_at cache key → AreLawful config cache parts → Walks rules key s (history_of place parts)
 lawful-walks config rules key [] cache place s table is lawful = tt
-lawful-walks config rules key (group ∷ groups) cache place s table is lawful =
-    let one = group-leads config rules key cache group place s table is lawful.0 in
-    walks-on rules key s (events_of place group) (history_of (place + length (events_of place group)) groups) one.0
-    (lawful-walks config rules key groups (cache_after_group cache group) (place + length (events_of place group))
-    (spot_over rules key s (events_of place group)) table one.1 lawful.1)
+lawful-walks config rules key (part ∷ parts) cache place s table is lawful =
+    let one = part-leads config rules key cache part place s table is lawful.0 in
+    walks-on rules key s (part_events place part) (history_of (place + length (part_events place part)) parts) one.0
+    (lawful-walks config rules key parts (cache_after_part cache part) (place + length (part_events place part))
+    (spot_over rules key s (part_events place part)) table one.1 lawful.1)

@@ -47,5 +47,5 @@ whole-explained config opening events next key rules calls spot whole table is t
     let part = whole.parts stripe (mod_below (sum key) config.stripes (some_stripe config whole.config_fits)) in
     record-explained config rules key events calls spot (entry_at (opening stripe) key) table is
     (part-walks config.stripes rules key events spot
-    (subst (Walks rules key spot) (sym part.spelled) (lawful-walks config rules key part.groups (opening stripe) 0 spot table is part.lawful)))
+    (subst (Walks rules key spot) (sym part.spelled) (lawful-walks config rules key part.parts (opening stripe) 0 spot table is part.lawful)))
     whole.order told

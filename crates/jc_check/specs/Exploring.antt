@@ -1,4 +1,4 @@
--- Which turns from a node are covered by the nodes that are known.
+-- The search for an order of turns that explains a record: which turns it has covered.
 --     IsSurvey          what is known of the calls of a record as a whole is right
 --     Covers            a turn leads to a node that a known one covers, or can't be made
 --     CoversActs        the same of all that a call may do, but for a landing
@@ -6,7 +6,7 @@
 --     CoversAll         the same of all turns
 --     AreDone           the nodes before a place are closed
 --     EndsRight         an exploration's ending is right
-use Rattle.std.specs.Prelude.{◌≡◌, ◌<◌, ℕ, List, length, true}
+use Rattle.std.specs.Prelude.{◌≡◌, ◌≤◌, ◌<◌, ℕ, List, length, true}
 use Rattle.std.specs.List.{All}
 use Rattle.jc_check.specs.declared.exploring.Ending.{Ending}
 use Rattle.jc_check.specs.declared.exploring.Ending.TheVariants.{Whole, Closed, Spent}
@@ -44,5 +44,6 @@ AreDone rules calls states end = (place : ℕ) (n : NodeValue) → place < end �
 
 abbrev pub EndsRight : Rules → List Recorded → ℕ → States → Ending → Type 0
 EndsRight rules calls budget states (Whole place) = (n : NodeValue) × IsAt states place n × IsWhole calls n
-EndsRight rules calls budget states Closed = All (IsClosedAt rules calls (node_values states.list.items)) (node_values states.list.items)
+EndsRight rules calls budget states Closed =
+    All (IsClosedAt rules calls (node_values states.list.items)) (node_values states.list.items) × (length states.list.items ≤ budget)
 EndsRight rules calls budget states Spent = budget < length states.list.items

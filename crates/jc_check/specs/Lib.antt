@@ -8,3 +8,4 @@ pub mod States
 pub mod Exploring
 pub mod Verdict
 pub mod Parts
+pub mod Reasons

@@ -24,8 +24,9 @@
 --     PlaysNodes         turns lead from one node to another one
 --     IsWhole            each call that has to be placed is settled
 --     IsAmong            a node is one of these
---     IsCovering         what may follow a node may follow another one, too: they differ at most in writes that the other one has still
---                        to come
+--     IsNoMore           a call is settled in a node only if it is in another one, and then, too, if it has to be placed
+--     IsCovering         what may follow another node may follow a node, too: the other one differs at most in calls that it has settled
+--                        and that need not be placed, and in writes that have changed the store
 --     IsCovered          one of these nodes covers a node
 --     LeadsInside        a turn leads to a node that one of these nodes covers
 --     IsClosedAt         each turn from a node leads to a node that one of these covers; and the node isn't whole
@@ -143,20 +144,21 @@ IsWhole calls n = (call : ℕ) → must_at calls call ≡ true → IsSettled n c
 abbrev pub IsAmong : List NodeValue → NodeValue → Type 0
 IsAmong nodes n = Any (λ m. m ≡ n) nodes
 
-pub record IsCovering (m n : NodeValue) : Type 0 where
-  pub from : m.from ≡ n.from
-  pub end : m.end ≡ n.end
-  pub rest : m.rest ≡ n.rest
+abbrev pub IsNoMore : List Recorded → NodeValue → NodeValue → ℕ → Type 0
+IsNoMore calls m n call = (IsSettled m call → IsSettled n call) × (must_at calls call ≡ true → IsSettled n call → IsSettled m call)
+
+pub record IsCovering (calls : List Recorded) (m n : NodeValue) : Type 0 where
+  pub settled : (call : ℕ) → IsNoMore calls m n call
   pub spot : m.spot ≡ n.spot
   pub landed : (call : ℕ) → HasLanded m.landed call → HasLanded n.landed call
 
-abbrev pub IsCovered : List NodeValue → NodeValue → Type 0
-IsCovered nodes n = Any (λ m. IsCovering m n) nodes
+abbrev pub IsCovered : List Recorded → List NodeValue → NodeValue → Type 0
+IsCovered calls nodes n = Any (λ m. IsCovering calls m n) nodes
 
 pub record LeadsInside (rules : Rules) (calls : List Recorded) (nodes : List NodeValue) (n : NodeValue) (t : Turn) : Type 0 where
   pub next : NodeValue
   pub goes : NodeGoes rules calls n t next
-  pub inside : IsCovered nodes next
+  pub inside : IsCovered calls nodes next
 
 pub record IsClosedAt (rules : Rules) (calls : List Recorded) (nodes : List NodeValue) (n : NodeValue) : Type 0 where
   pub goes : (t : Turn) (spot : Spot) → MayGo rules calls n t spot → LeadsInside rules calls nodes n t

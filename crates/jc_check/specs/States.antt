@@ -1,4 +1,4 @@
--- The nodes that a search has come to.
+-- Fingerprints of the nodes that a search for an explanation has met, for its table.
 --     print_with          a fingerprint with one more number, as in FNV-1a
 --     print_with_mark     a fingerprint with one more mark
 --     print_with_entry    a fingerprint with an entry

@@ -99,62 +99,20 @@ fn try_call(
     ensures grows { OnOk result (Grows states.old states.new) }
     ensures covers { OnOk result ((n : NodeValue) → IsAt states.old place n → CoversActs rules.now calls.now states.new n call) }
 {
-    try_turn(
-        rules,
-        calls,
-        survey,
-        states,
-        place,
-        turn_of(call, Act::Step),
-    )?;
-    try_turn(
-        rules,
-        calls,
-        survey,
-        states,
-        place,
-        turn_of(call, Act::Share),
-    )?;
-    try_turn(
-        rules,
-        calls,
-        survey,
-        states,
-        place,
-        turn_of(call, Act::Foreign),
-    )?;
-    try_turn(
-        rules,
-        calls,
-        survey,
-        states,
-        place,
-        turn_of(call, Act::LeaveEntry),
-    )?;
-    try_turn(
-        rules,
-        calls,
-        survey,
-        states,
-        place,
-        turn_of(call, Act::LeaveStore),
-    )?;
-    try_turn(
-        rules,
-        calls,
-        survey,
-        states,
-        place,
-        turn_of(call, Act::LeaveBoth),
-    )?;
-    try_turn(
-        rules,
-        calls,
-        survey,
-        states,
-        place,
-        turn_of(call, Act::LeaveLoad),
-    )?;
+    let step = turn_of(call, Act::Step);
+    let share = turn_of(call, Act::Share);
+    let foreign = turn_of(call, Act::Foreign);
+    let entry = turn_of(call, Act::LeaveEntry);
+    let store = turn_of(call, Act::LeaveStore);
+    let both = turn_of(call, Act::LeaveBoth);
+    let load = turn_of(call, Act::LeaveLoad);
+    try_turn(rules, calls, survey, states, place, step)?;
+    try_turn(rules, calls, survey, states, place, share)?;
+    try_turn(rules, calls, survey, states, place, foreign)?;
+    try_turn(rules, calls, survey, states, place, entry)?;
+    try_turn(rules, calls, survey, states, place, store)?;
+    try_turn(rules, calls, survey, states, place, both)?;
+    try_turn(rules, calls, survey, states, place, load)?;
     Ok(())
 }
 

@@ -1,5 +1,5 @@
 //! Laws about verdicts and records, for provers. None of these functions does anything.
-ghost use Rattle.jc_check.specs.Laws.{ClosedNodesRefute, LegalIsExplained, LegalIsRecorded, WholeIsExplained, WholeNodesExplain};
+ghost use Rattle.jc_check.specs.Laws.{ClosedNodesForesee, ClosedNodesRefute, LegalIsExplained, LegalIsRecorded, WholeIsExplained, WholeNodesExplain};
 
 /// No order explains a record of which some nodes are closed.
 pub fn closed_nodes_refute()
@@ -24,4 +24,9 @@ pub fn whole_is_explained()
 /// A legal history has a record at each key, unless a processor whose load failed has an effect.
 pub fn legal_is_recorded()
     ensures { LegalIsRecorded }
+{}
+
+/// What is there when it is a call's turn is among what is at the closed nodes at which it is.
+pub fn closed_nodes_foresee()
+    ensures { ClosedNodesForesee }
 {}

@@ -3,6 +3,7 @@
 #![tactic(auto)]
 
 mod choices;
+mod coverage;
 mod explaining;
 mod exploring;
 mod fitting;
@@ -13,6 +14,7 @@ mod node;
 mod order;
 mod places;
 mod playing;
+mod reasons;
 mod record;
 mod sights;
 mod smallest;
@@ -22,6 +24,7 @@ mod verdict;
 pub use explaining::does_explain;
 pub use node::{Marks, Node};
 pub use places::Places;
+pub use reasons::{Reason, could_be, reason_of};
 pub use record::{Act, EntrySight, Recorded, Role, Rules, Spot, Stored, Turn};
 pub use smallest::{Need, PartLimits, RefutedPart, smallest_part};
 pub use states::{States, Step};

@@ -328,7 +328,7 @@ impl Node {
     }
 
     /// Whether no call that has to be placed, and isn't, has to come before what a turn does; none from `end` on does.
-    fn keeps(&self, rules: &Rules, calls: &[Recorded], turn: Turn, end: usize) -> bool
+    pub(crate) fn keeps(&self, rules: &Rules, calls: &[Recorded], turn: Turn, end: usize) -> bool
         requires { IsEnd rules.now calls.now turn end }
         ensures { IsTrue result ↔ Keeps rules.now calls.now (node_value self.now) turn }
     {

@@ -23,7 +23,7 @@ impl Recorded {
     }
 
     /// Whether it is forgotten.
-    pub(crate) fn is_forgotten(&self) -> bool
+    pub fn is_forgotten(&self) -> bool
         ensures { result ≡ is_forgotten self.now.role }
     {
         match self.role {

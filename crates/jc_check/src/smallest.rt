@@ -254,8 +254,9 @@ impl Shrinking {
         Ok(kept)
     }
 
-    /// Forgets groups of calls, the groups half as large each time, down to single calls. An `Err` says that an allocation failed.
-    fn halved(
+    /// Forgets the calls behind the last one that is needed, since the search for an order is the shorter the fewer calls are forgotten
+    /// before the last one that is kept. An `Err` says that an allocation failed.
+    fn without_tail(
         &mut self,
         rules: &Rules,
         opening: &Spot,
@@ -267,6 +268,37 @@ impl Shrinking {
         ensures left { IfOk result (λ k. (length k.items ≡ length kept.items) × IsLeft rules.now (whole self.old) opening.now k.items) }
     {
         let mut kept = kept;
+        let mut from: usize = 0;
+        let mut end = kept.len();
+        for _halving in 0..usize::BITS {
+            let middle = from.saturating_add(end.saturating_sub(from) / 2);
+            if middle <= from || kept.len() <= middle {
+                return Ok(kept);
+            }
+            kept = self.without_group(rules, opening, kept, middle, end)?;
+            if middle < kept.len() && kept[middle] {
+                from = middle;
+            } else {
+                end = middle;
+            }
+        }
+        Ok(kept)
+    }
+
+    /// Forgets the calls behind the last one that is needed, and then groups of calls, the groups half as large each time, down to
+    /// single calls. An `Err` says that an allocation failed.
+    fn halved(
+        &mut self,
+        rules: &Rules,
+        opening: &Spot,
+        kept: Vec<bool>,
+    ) -> Result<Vec<bool>, AllocError>
+        requires roles { HasRoles self.old }
+        requires left { IsLeft rules.now (whole self.old) opening.now kept.items }
+        ensures same { OnOk result (IsSame self.old self.new) }
+        ensures left { IfOk result (λ k. (length k.items ≡ length kept.items) × IsLeft rules.now (whole self.old) opening.now k.items) }
+    {
+        let mut kept = self.without_tail(rules, opening, kept)?;
         let mut size = kept.len();
         for _halving in 0..usize::BITS {
             size /= 2;

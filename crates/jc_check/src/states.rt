@@ -1,12 +1,12 @@
 //! The nodes that a search has come to, each once.
-ghost use Rattle.std.specs.Prelude.{◌≡◌, ◌↔◌, ◌<◌, ◌++◌, ◌∷◌, [], IfOk, IsTrue, OnOk, length, true};
+ghost use Rattle.std.specs.Prelude.{◌≡◌, ◌↔◌, ◌<◌, ℕ, ◌++◌, ◌∷◌, [], IfOk, IsTrue, OnOk, length, true};
 ghost use Rattle.std.specs.List.{fold};
-ghost use Rattle.jc_check.specs.Nodes.{IsAmong, IsCovered, IsCovering, NodeValue, PlaysNodes, node_value};
+ghost use Rattle.jc_check.specs.Nodes.{IsAmong, IsCovered, NodeValue, PlaysNodes, node_value};
 ghost use Rattle.jc_check.specs.States.{AreKnown, Comes, Grows, HasMorePlaces, HavePlaces, HavePrints, HaveSameMarks, HaveSameParts, HaveSameSpots, IsAt, IsEmpty};
 ghost use Rattle.jc_check.specs.States.{IsNodeAt, node_values, print_of, print_of_rest, print_with, print_with_entry, print_with_load, print_with_mark};
 ghost use Rattle.jc_check.specs.States.{print_with_spot, print_with_store};
 
-use crate::node::{Node, are_landed};
+use crate::node::Node;
 use crate::places::Places;
 use crate::record::{Recorded, Rules, Spot, Stored, Turn};
 use jc_model::LoadAnswer;
@@ -38,12 +38,12 @@ pub struct States {
     pub prints: Vec<u64>,
     /// The places of the fingerprints.
     pub places: Places,
-    /// The places of the fingerprints without the writes that have landed.
+    /// The places of those by which nodes are looked up that may cover others.
     pub near: Places,
 }
 
 /// A fingerprint with one more number.
-fn with_word(print: u64, word: u64) -> u64
+pub(crate) fn with_word(print: u64, word: u64) -> u64
     ensures { result ≡ print_with print word }
 {
     (print ^ word).wrapping_mul(PRINT_FACTOR)
@@ -126,7 +126,7 @@ fn with_load(print: u64, answer: &LoadAnswer) -> u64
 }
 
 /// A fingerprint with what is at a key.
-fn with_spot(print: u64, spot: &Spot) -> u64
+pub(crate) fn with_spot(print: u64, spot: &Spot) -> u64
     ensures { result ≡ print_with_spot print spot.now }
 {
     with_load(
@@ -187,7 +187,7 @@ fn is_same_load(first: &LoadAnswer, second: &LoadAnswer) -> bool
 }
 
 /// Whether the same is at the key.
-fn is_same_spot(first: &Spot, second: &Spot) -> bool
+pub(crate) fn is_same_spot(first: &Spot, second: &Spot) -> bool
     ensures { IsTrue result ↔ HaveSameSpots first.now second.now }
 {
     is_same_entry(&first.entry, &second.entry)
@@ -250,19 +250,6 @@ impl Node {
         ensures { IsTrue result ↔ (node_value self.now ≡ node_value other.now) }
     {
         self.has_same_parts(other)
-    }
-
-    /// Whether what may follow another node may follow this one, too.
-    pub(crate) fn covers(&self, other: &Node) -> bool
-        ensures { result ≡ true → IsCovering (node_value self.now) (node_value other.now) }
-    {
-        if !self.has_same_marks(other) {
-            return false;
-        }
-        if !is_same_spot(&self.spot, &other.spot) {
-            return false;
-        }
-        are_landed(&self.landed, &other.landed)
     }
 }
 
@@ -348,24 +335,24 @@ impl States {
         }
     }
 
-    /// Whether a node that differs at most in the writes that have landed covers this one.
-    fn covers(&self, node: &Node) -> bool
-        ensures { result ≡ true → IsCovered (node_values self.now.list.items) (node_value node.now) }
+    /// Whether a node that was looked up covers this one.
+    fn covers(&self, calls: &[Recorded], node: &Node) -> bool
+        ensures { result ≡ true → IsCovered calls.now (node_values self.now.list.items) (node_value node.now) }
     {
-        match self.near.find(node.print_of_rest()) {
-            Some(place) => place < self.list.len() && self.list[place].covers(node),
+        match self.near.find(node.near_print(calls)) {
+            Some(place) => place < self.list.len() && self.list[place].covers(calls, node),
             None => false,
         }
     }
 
-    /// Notes the place of a node that is to be added, if no other one differs from it at most in the writes that have landed.
-    fn note_near(&mut self, node: &Node) -> Result<(), AllocError>
+    /// Notes the place of a node that is to be added, if none was noted that may cover it.
+    fn note_near(&mut self, calls: &[Recorded], node: &Node) -> Result<(), AllocError>
         ensures list { OnOk result (self.new.list ≡ self.old.list) }
         ensures steps { OnOk result (self.new.steps ≡ self.old.steps) }
         ensures prints { OnOk result (self.new.prints ≡ self.old.prints) }
         ensures places { OnOk result (self.new.places ≡ self.old.places) }
     {
-        let print = node.print_of_rest();
+        let print = node.near_print(calls);
         if self.near.find(print).is_none() {
             let place = self.list.len();
             self.near.note(print, place)?;
@@ -374,13 +361,13 @@ impl States {
     }
 
     /// Appends a node. An `Err` says that an allocation failed.
-    fn push(&mut self, node: Node, step: Step) -> Result<(), AllocError>
+    fn push(&mut self, calls: &[Recorded], node: Node, step: Step) -> Result<(), AllocError>
         ensures list { OnOk result (self.new.list.items ≡ self.old.list.items ++ node ∷ []) }
         ensures steps { OnOk result (self.new.steps.items ≡ self.old.steps.items ++ step ∷ []) }
         ensures prints { OnOk result (self.new.prints.items ≡ self.old.prints.items ++ print_of (node_value node) ∷ []) }
         ensures places { OnOk result (HasMorePlaces self.old.places self.new.places (print_of (node_value node))) }
     {
-        self.note_near(&node)?;
+        self.note_near(calls, &node)?;
         let print = node.print();
         let place = self.list.len();
         self.places.note(print, place)?;
@@ -401,8 +388,9 @@ impl States {
         ensures known { OnOk result (AreKnown rules.now calls.now self.new) }
         ensures first { OnOk result (IsAt self.new 0 (node_value node)) }
     {
-        let _calls = (*rules, calls.len());
+        let _rules = *rules;
         self.push(
+            calls,
             node,
             Step {
                 from: 0,
@@ -426,8 +414,8 @@ impl States {
         ensures known { OnOk result (AreKnown rules.now calls.now self.new) }
         ensures list { OnOk result (self.new.list.items ≡ self.old.list.items ++ node ∷ []) }
     {
-        let _calls = (*rules, calls.len());
-        self.push(node, step)?;
+        let _rules = *rules;
+        self.push(calls, node, step)?;
         Ok(())
     }
 
@@ -443,9 +431,9 @@ impl States {
         requires comes { Comes rules.now calls.now self.old step (node_value node) }
         ensures known { OnOk result (AreKnown rules.now calls.now self.new) }
         ensures grows { OnOk result (Grows self.old self.new) }
-        ensures covers { OnOk result (IsCovered (node_values self.new.list.items) (node_value node)) }
+        ensures covers { OnOk result (IsCovered calls.now (node_values self.new.list.items) (node_value node)) }
     {
-        if self.covers(&node) || self.has(&node) {
+        if self.covers(calls, &node) || self.has(&node) {
             return Ok(());
         }
         self.add(rules, calls, node, step)?;

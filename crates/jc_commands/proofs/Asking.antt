@@ -134,18 +134,20 @@ word_in name = option_map (λ named. first_of name named.1)
 pub asks_to_check : (found : Option (Text × List Row))
     → option_map (λ named. named.0) found ≡ Some (codes "check")
     → word_in (codes "rules") found ≡ Some None → word_in (codes "order") found ≡ Some None → word_in (codes "evict") found ≡ Some None
+    → word_in (codes "witness") found ≡ Some None
     → option_in (codes "states") found ≡ Some None
-    → (t : Task) → IsAsked found t → t ≡ task.Check (record { rules = First; order = First; evict = First; states = KEY_STATES_DEFAULT })
-asks_to_check found named r o e s task.Run not_named = absurd (not_named.2 named)
-asks_to_check found named r o e s task.Shell is = absurd (check_is_no_shell (some_injective (sym named ∙ is)))
-asks_to_check found named r o e s (task.Explore states) (options, is, p) =
+    → (t : Task) → IsAsked found t → t ≡ task.Check (record { rules = First; order = First; evict = First; witness = First; states = KEY_STATES_DEFAULT })
+asks_to_check found named r o e w s task.Run not_named = absurd (not_named.2 named)
+asks_to_check found named r o e w s task.Shell is = absurd (check_is_no_shell (some_injective (sym named ∙ is)))
+asks_to_check found named r o e w s (task.Explore states) (options, is, p) =
     absurd (explore_is_no_check (some_injective (sym (ap (option_map (λ named. named.0)) is) ∙ named)))
-asks_to_check found named r o e s (task.Threads plan) (options, is, w, w', w'') =
+asks_to_check found named r o e w s (task.Threads plan) (options, is, x, x', x'') =
     absurd (threads_is_no_check (some_injective (sym (ap (option_map (λ named. named.0)) is) ∙ named)))
-asks_to_check found named r o e s (task.Check plan) (options, is, p) =
+asks_to_check found named r o e w s (task.Check plan) (options, is, p) =
     let rules = p.rules ∙ ap (choice_of (codes "store") (codes "table")) (some_injective (sym (ap (word_in (codes "rules")) is) ∙ r)) in
     let order = p.order ∙ ap (choice_of (codes "real") (codes "program")) (some_injective (sym (ap (word_in (codes "order")) is) ∙ o)) in
     let evict = p.evict ∙ ap (choice_of (codes "free") (codes "never")) (some_injective (sym (ap (word_in (codes "evict")) is) ∙ e)) in
+    let witness = p.witness ∙ ap (choice_of (codes "no") (codes "yes")) (some_injective (sym (ap (word_in (codes "witness")) is) ∙ w)) in
     let at : one_of (codes "states") options ≡ None = some_injective (sym (ap (option_in (codes "states")) is) ∙ s) in
     let states = states_by_default plan.states (subst (λ o. SpellsOr KEY_STATES_DEFAULT o plan.states) at p.states) in
-    λ i. task.Check (record { rules = rules i; order = order i; evict = evict i; states = states i })
+    λ i. task.Check (record { rules = rules i; order = order i; evict = evict i; witness = witness i; states = states i })

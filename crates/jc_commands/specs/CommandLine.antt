@@ -84,7 +84,7 @@ judging =
 
 abbrev pub check : App
 check =
-    with_rule judging (option_rule (codes "states") (Signed (pos 1) (pos KEY_STATES_MAX)) false)
+    with_rule (with_rule judging (word_rule (codes "witness"))) (option_rule (codes "states") (Signed (pos 1) (pos KEY_STATES_MAX)) false)
 
 abbrev pub player : App
 player =
@@ -130,12 +130,13 @@ is_wrong_choice Second = false
 is_wrong_choice Wrong = true
 
 abbrev pub is_wrong : CheckPlan → Bool
-is_wrong plan = is_wrong_choice plan.rules || is_wrong_choice plan.order || is_wrong_choice plan.evict
+is_wrong plan = is_wrong_choice plan.rules || is_wrong_choice plan.order || is_wrong_choice plan.evict || is_wrong_choice plan.witness
 
 pub record IsCheckPlan (options : List Row) (plan : CheckPlan) : Type 0 where
   pub rules : plan.rules ≡ choice_of (codes "store") (codes "table") (first_of (codes "rules") options)
   pub order : plan.order ≡ choice_of (codes "real") (codes "program") (first_of (codes "order") options)
   pub evict : plan.evict ≡ choice_of (codes "free") (codes "never") (first_of (codes "evict") options)
+  pub witness : plan.witness ≡ choice_of (codes "no") (codes "yes") (first_of (codes "witness") options)
   pub states : SpellsOr KEY_STATES_DEFAULT (one_of (codes "states") options) plan.states
 
 abbrev pub Names : Option (Text × List Row) → Text → Type 0
@@ -180,7 +181,7 @@ abbrev pub AsksToCheck : List (List ℕ) → CheckPlan → Type 0
 AsksToCheck words plan = (faults_at words ≡ []) × ((t : Task) → IsAsked (subcommand_at words) t → t ≡ task.Check plan)
 
 abbrev pub CheckIsRight : Type 0
-CheckIsRight = (name : List ℕ) → AsksToCheck (name ∷ codes "check" ∷ []) (record { rules = First; order = First; evict = First; states = 500000 })
+CheckIsRight = (name : List ℕ) → AsksToCheck (name ∷ codes "check" ∷ []) (record { rules = First; order = First; evict = First; witness = First; states = 500000 })
 
 abbrev pub is_too_much : Plan → Bool
 is_too_much plan = is_none plan.history && nat_lt INCREMENTS_MAX (plan.workers * plan.rounds)

@@ -28,6 +28,8 @@ pub struct CheckPlan {
     pub order: Choice,
     /// Whether entries may vanish: `free`, or `never`.
     pub evict: Choice,
+    /// Whether the order that explains a key is told: `no`, or `yes`.
+    pub witness: Choice,
     /// The most states that are met at one key.
     pub states: u32,
 }
@@ -57,6 +59,9 @@ impl CheckPlan {
     pub fn is_wrong(&self) -> bool
         ensures { result ≡ is_wrong self.now }
     {
-        self.rules.is_wrong() || self.order.is_wrong() || self.evict.is_wrong()
+        self.rules.is_wrong()
+            || self.order.is_wrong()
+            || self.evict.is_wrong()
+            || self.witness.is_wrong()
     }
 }

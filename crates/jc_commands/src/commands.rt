@@ -176,7 +176,12 @@ fn check_command<'a>(alloc: Global) -> Result<Command<'a>, Error>
         false,
         "How many states are met at most at one key, 1 to 5000000; by default 500000",
     );
-    Ok(judging_command(alloc)?.arg(states)?)
+    let witness = word_option(
+        alloc,
+        "witness",
+        "yes: the order that explains a key is told, a line for each turn; no: it isn't; by default no",
+    );
+    Ok(judging_command(alloc)?.arg(witness)?.arg(states)?)
 }
 
 /// The program's command with the subcommands `run` and `shell`.
@@ -268,6 +273,7 @@ fn check_plan(options: &ArgMatches) -> CheckPlan
         rules: choice(options, "rules", "store", "table"),
         order: choice(options, "order", "real", "program"),
         evict: choice(options, "evict", "free", "never"),
+        witness: choice(options, "witness", "no", "yes"),
         states: number_or(options, "states", KEY_STATES_DEFAULT),
     }
 }

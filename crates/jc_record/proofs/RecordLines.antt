@@ -2,7 +2,7 @@
 --     next_line    a line that is read
 --     at_fault     a line at fault
 --     last_line    what is behind the last line feed
-use Rattle.jc_record.proofs.Common.{◌≡◌, ◌∙◌, ap, sym, refl, ℕ, ◌+◌, List, [], ◌∷◌, ◌++◌, Result, Ok, Err}
+use Rattle.jc_record.proofs.Common.{◌≡◌, ◌∙◌, ap, sym, ℕ, ◌+◌, List, [], ◌∷◌, Result, Ok, Err}
 use Rattle.jc_text.proofs.CallerLemmas.{pieces_some}
 use Rattle.jc_text.specs.Pieces.{pieces_of}
 use Rattle.jc_text.specs.Lines.{Gives}

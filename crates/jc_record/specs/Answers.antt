@@ -14,7 +14,7 @@
 --     count_text, verdicts_text, closing_text
 --                             a text and how many, how many keys have which verdict, and the last line
 --     fault_text              the only line for a record whose line has a fault, with a hint
-use Rattle.std.specs.Prelude.{◌≡◌, ◌==◌, ℕ, ◌+◌, List, [], ◌∷◌, ◌++◌, length, codes, decimal, Bool, true, false, Option, None, Some, if◌then◌else◌}
+use Rattle.std.specs.Prelude.{ℕ, ◌+◌, List, [], ◌++◌, length, codes, decimal, Option, None, Some, if◌then◌else◌}
 use Rattle.std.specs.List.{flat_map}
 use Rattle.jc_model.specs.Cache.{Bytes}
 use Rattle.jc_model.specs.declared.event.Change.{Change}
@@ -31,8 +31,6 @@ use Rattle.jc_model.specs.declared.event.WriteAnswer.TheVariants as write
 use Rattle.jc_check.specs.declared.record.Recorded.{Recorded}
 use Rattle.jc_check.specs.declared.record.Role.{Role}
 use Rattle.jc_check.specs.declared.record.Role.TheVariants as role
-use Rattle.jc_text.specs.declared.fault.Fault.{Fault}
-use Rattle.jc_text.specs.FaultTexts.{text_of}
 use Rattle.jc_text.specs.Printing.{reply_text, value_or_none_text, value_text}
 use Rattle.jc_record.specs.declared.answer.KeyEnd.{KeyEnd}
 use Rattle.jc_record.specs.declared.answer.KeyEnd.TheVariants.{Explained, NotExplained, Odd, GaveUp}

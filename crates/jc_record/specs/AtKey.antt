@@ -21,10 +21,8 @@
 --     foreign_call           what another program did
 --     at_foreign, at_set, at_call, at_note, at_place, at_key
 --                            the same with one more line, and with those at some places
-use Rattle.std.specs.Prelude.{◌≡◌, ◌==◌, ℕ, ◌+◌, List, [], ◌∷◌, ◌++◌, drop, map, Bool, true, false, not, ◌&&◌, ◌||◌, Option, None, Some, is_some, is_none, Result, Ok, Err, slice_get, if◌then◌else◌}
-use Rattle.std.specs.Option.{option_or}
+use Rattle.std.specs.Prelude.{◌==◌, ℕ, List, [], ◌∷◌, ◌++◌, drop, Bool, true, false, ◌&&◌, ◌||◌, Option, None, Some, is_some, is_none, Result, Ok, Err, if◌then◌else◌}
 use Rattle.std.specs.Cmp.Lexicographic.{pointwise}
-use Rattle.std.specs.Str.{bytes_eq}
 use Rattle.jc_types.specs.declared.refusal.Refusal.TheVariants.{LoaderFailed}
 use Rattle.jc_model.specs.Batches.{is_among}
 use Rattle.jc_model.specs.Cache.{Bytes}
@@ -56,8 +54,7 @@ use Rattle.jc_text.specs.declared.read.line.BulkLine.{BulkLine}
 use Rattle.jc_text.specs.declared.read.line.BulkLine.TheVariants as bulk
 use Rattle.jc_text.specs.declared.read.line.Line.{Line}
 use Rattle.jc_text.specs.declared.read.line.Line.TheVariants as line
-use Rattle.jc_text.specs.declared.read.line.Operation.{Operation}
-use Rattle.jc_text.specs.Words.{Pairs, distinct_keys_of, key_of, number_of, pairs_of, said, value_or_none_of}
+use Rattle.jc_text.specs.Words.{distinct_keys_of, key_of, number_of, pairs_of, value_or_none_of}
 use Rattle.jc_record.specs.declared.note.NoteKind.{NoteKind}
 use Rattle.jc_record.specs.declared.note.NoteKind.TheVariants as kind
 use Rattle.jc_record.specs.declared.part.Ask.{Ask}
@@ -66,7 +63,7 @@ use Rattle.jc_record.specs.declared.told.AnswerForm.{AnswerForm}
 use Rattle.jc_record.specs.declared.told.AnswerForm.TheVariants as form
 use Rattle.jc_record.specs.declared.told.Told.{Told}
 use Rattle.jc_record.specs.declared.told.Told.TheVariants as told
-use Rattle.jc_record.specs.Notes.{NoteValue, is_foreign_kind, rest_of}
+use Rattle.jc_record.specs.Notes.{NoteValue, rest_of}
 use Rattle.jc_record.specs.Words.{RunValue, call_line, form_of_op, is_named, keys_left, run_of, said_of, stored_told, told_of}
 
 -- 1. A call.

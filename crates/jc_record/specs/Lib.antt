@@ -4,4 +4,5 @@ pub mod Reading
 pub mod AtKey
 pub mod Index
 pub mod Answers
+pub mod Details
 pub mod Running

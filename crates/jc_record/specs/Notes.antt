@@ -1,4 +1,4 @@
--- The lines of a record, read.
+-- One line of a record of calls: its time, its thread, its kind and its words.
 --     thread_if, thread_of      a thread: t, and its number
 --     clock_from, clock_of      a time that continues with these digits, and a time
 --     is_clock                  a word that begins with @ is a time

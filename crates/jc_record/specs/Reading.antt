@@ -1,4 +1,4 @@
--- A record, read line by line.
+-- A record of calls (what `jcache check` reads), line by line: what is kept of the lines so far.
 --     are_left, are_failure, are_run, are_foreign
 --                               the words of a line are those of a writer's return, of a failure, of a processor's run, and of
 --                               what another program did
@@ -6,6 +6,7 @@
 --     OpenCall                  a call that has begun and not ended, and how it answers
 --     form_open                 how an open call answers, if it is open
 --     without                   the open calls without one
+--     form_begun                how the call of a line that begins one answers
 --     begun_with, ended_with, during
 --                               the open calls after a call's begin, after its end, and after a line between them
 --     open_after                the same after a line
@@ -21,10 +22,8 @@
 --     fault_at                  an error of the line with a number
 --     record_value              the data of a record that was read
 --     ReadsLines, ReadsRecord   the result of reading a text is that of `record_of`, unless an allocation failed
-use Rattle.std.specs.Prelude.{◌≡◌, ◌==◌, ℕ, ◌+◌, List, [], ◌∷◌, ◌++◌, map, codes, Bool, true, false, not, ◌&&◌, nat_lt, Option, None, Some, Result, Ok, Err, if◌then◌else◌}
+use Rattle.std.specs.Prelude.{◌≡◌, ◌==◌, ℕ, ◌+◌, List, [], ◌∷◌, ◌++◌, map, codes, Bool, true, false, ◌&&◌, nat_lt, Option, None, Some, Result, Ok, Err, if◌then◌else◌}
 use Rattle.std.specs.Str.{bytes_eq}
-use Rattle.jc_model.specs.Cache.{Bytes}
-use Rattle.jc_check.specs.declared.record.Stored.{Stored}
 use Rattle.jc_text.specs.declared.fault.Fault.{Fault}
 use Rattle.jc_text.specs.declared.fault.Fault.TheVariants.{BadLine, CutLine, NoSuchCall, NotNow, NotOpen, NotRising, OpenTwice}
 use Rattle.jc_text.specs.declared.fault.ReadError.{ReadError}
@@ -32,7 +31,6 @@ use Rattle.jc_text.specs.declared.fault.ReadError.TheVariants as errors
 use Rattle.jc_text.specs.Pieces.{pieces_of}
 use Rattle.jc_text.specs.Words.{◌>>=◌, key_of, number_of, pairs_of, value_or_none_of, words_of}
 use Rattle.jc_record.specs.declared.told.AnswerForm.{AnswerForm}
-use Rattle.jc_record.specs.declared.told.Told.{Told}
 use Rattle.jc_record.specs.declared.note.NoteKind.{NoteKind}
 use Rattle.jc_record.specs.declared.note.NoteKind.TheVariants as kind
 use Rattle.jc_record.specs.declared.open_calls.OpenCall.{OpenCall}
@@ -91,9 +89,12 @@ abbrev pub without : ℕ → List OpenCall → List OpenCall
 without call [] = []
 without call (first ∷ under_way) = if first.call == call then without call under_way else first ∷ without call under_way
 
+abbrev pub form_begun : List (List ℕ) → Result AnswerForm Fault
+form_begun words = call_line words >>= λ l. Ok (form_of l)
+
 abbrev pub begun_with : List OpenCall → ℕ → Option AnswerForm → List (List ℕ) → Result (List OpenCall) Fault
 begun_with under_way call (Some form) words = Err NotNow
-begun_with under_way call None words = call_line words >>= λ l. Ok (under_way ++ record { call = call; form = form_of l } ∷ [])
+begun_with under_way call None words = form_begun words >>= λ form. Ok (under_way ++ record { call = call; form = form } ∷ [])
 
 abbrev pub ended_with : List OpenCall → ℕ → Option AnswerForm → List (List ℕ) → Result (List OpenCall) Fault
 ended_with under_way call None words = Err NoSuchCall

@@ -2,9 +2,14 @@
 --     Asked, rules_of          what is asked, and the rules of a record by it
 --     opening_spot             what is at a key at first: the cache is empty
 --     end_of_verdict           how a key ends by a verdict
---     IsJudged                 a key ends by a verdict on its calls, or at once if one of them is odd
+--     IsJudged                 the verdict on calls, or none if one of them is odd
+--     end_of_judged            how a key ends by it
 --     at_key                   the calls at a key, by the places of the lines that name it, and of those that name every key
 --     is_listed, listed_text   the calls of a key that isn't explained, up to a number of them
+--     ReasonTold, PartTold     a text tells why no order explains a part, and such a part of calls that no order explains
+--     IsPartTold, IsDetail     a text tells such a part, if parts are told; it tells the order that explains a key, if it is asked for; or such a part, if it is told
+--     is_told                  parts are told for so many keys alone
+--     case_of, AnswersCase     what calls are judged by, and a text is the answer for a key with these calls
 --     AnswersKey, AnswersKeys  a text is the answer for a key, whose calls may be in any order, and for keys
 --     end_of                   the end of a check
 --     AnswersCalls             the answer for a record that was read
@@ -15,10 +20,9 @@
 --     TakesAll                 all the bytes of a reader were taken, and they are these, within the limit
 --     ChecksRecord, BreaksOffCheck
 --                              the input was read to its end, and its answer written, or a part of it up to a write that failed
-use Rattle.std.specs.Prelude.{◌≡◌, ◌≤◌, ◌<◌, ◌⊎◌, ℕ, ◌+◌, List, [], ◌∷◌, ◌++◌, take, min, length, map, codes, Bool, true, false, nat_lt, Option, None, Some, Result, Ok, Err, if◌then◌else◌}
+use Rattle.std.specs.Prelude.{◌≡◌, ◌≤◌, ◌⊎◌, ℕ, ◌+◌, List, [], ◌∷◌, ◌++◌, take, min, length, map, codes, Bool, true, false, nat_lt, Option, None, Some, Ok, Err, if◌then◌else◌}
 use Rattle.std.specs.List.Sorted.{IsPermutation}
 use Rattle.std.specs.Io.KnownBytes.{Appends, Consumes, IsAtEnd}
-use Rattle.jc_types.specs.declared.config.Config.{Config}
 use Rattle.jc_model.specs.Cache.{Bytes}
 use Rattle.jc_model.specs.declared.event.LoadAnswer.TheVariants as load
 use Rattle.jc_check.specs.declared.record.Recorded.{Recorded}
@@ -28,6 +32,10 @@ use Rattle.jc_check.specs.declared.record.Stored.{Stored}
 use Rattle.jc_check.specs.declared.verdict.Verdict.{Verdict}
 use Rattle.jc_check.specs.declared.verdict.Verdict.TheVariants as verdict
 use Rattle.jc_check.specs.Verdict.{IsVerdict}
+use Rattle.jc_check.specs.declared.reasons.Reason.{Reason}
+use Rattle.jc_check.specs.declared.smallest.RefutedPart.{RefutedPart}
+use Rattle.jc_check.specs.Parts.{IsRefutedPart}
+use Rattle.jc_check.specs.Reasons.{IsReason}
 use Rattle.jc_text.specs.declared.fault.Fault.{Fault}
 use Rattle.jc_text.specs.declared.fault.Fault.TheVariants as fault
 use Rattle.jc_text.specs.Printing.{fault_line}
@@ -36,14 +44,16 @@ use Rattle.jc_record.specs.declared.answer.KeyEnd.TheVariants.{Explained, NotExp
 use Rattle.jc_record.specs.declared.answer.Tally.{Tally}
 use Rattle.jc_record.specs.declared.input.TheConstants.{RECORD_MAX}
 use Rattle.jc_record.specs.declared.judge.Asked.{Asked}
-use Rattle.jc_record.specs.declared.judge.TheConstants.{LISTED_MAX}
+use Rattle.jc_record.specs.declared.judge.Case.{Case}
+use Rattle.jc_record.specs.declared.judge.Wanted.{Wanted}
+use Rattle.jc_record.specs.declared.judge.TheConstants.{LISTED_MAX, PARTS_MAX, PART_NODES}
 use Rattle.jc_record.specs.declared.run.RecordEnd.{RecordEnd}
 use Rattle.jc_record.specs.declared.run.RecordEnd.TheVariants as ending
-use Rattle.jc_record.specs.Notes.{NoteValue}
 use Rattle.jc_record.specs.Reading.{RecordValue, record_of}
 use Rattle.jc_record.specs.Index.{IndexValue, index_of, places_at}
 use Rattle.jc_record.specs.AtKey.{AtKey, at_places, call_value, new_at_key}
 use Rattle.jc_record.specs.Answers.{call_lines, closing_text, key_line, tally_with}
+use Rattle.jc_record.specs.Details.{part_text, reason_text, witness_text}
 
 -- 1. A key.
 
@@ -65,10 +75,13 @@ end_of_verdict budget (verdict.Explained turns) = Explained
 end_of_verdict budget (verdict.Refuted states) = NotExplained
 end_of_verdict budget (verdict.Stopped states) = GaveUp budget
 
-abbrev pub IsJudged : Rules → ℕ → Stored → List Recorded → Bool → KeyEnd → Type 0
-IsJudged rules budget store calls true end = end ≡ Odd
-IsJudged rules budget store calls false end =
-    (verdict : Verdict) × IsVerdict rules calls (opening_spot store) budget verdict × (end ≡ end_of_verdict budget verdict)
+abbrev pub IsJudged : Rules → Spot → ℕ → List Recorded → Bool → Option Verdict → Type 0
+IsJudged rules opening budget calls odd None = odd ≡ true
+IsJudged rules opening budget calls odd (Some verdict) = (odd ≡ false) × IsVerdict rules calls opening budget verdict
+
+abbrev pub end_of_judged : ℕ → Option Verdict → KeyEnd
+end_of_judged budget None = Odd
+end_of_judged budget (Some verdict) = end_of_verdict budget verdict
 
 abbrev pub at_key : Bytes → RecordValue → List ℕ → List ℕ → AtKey
 at_key key r places every = at_places key r.config.1 r.notes (at_places key r.config.1 r.notes new_at_key places) every
@@ -82,20 +95,57 @@ is_listed (GaveUp states) = false
 abbrev pub listed_text : KeyEnd → List Recorded → List ℕ
 listed_text end calls = if is_listed end then call_lines (take (min (length calls) LISTED_MAX) calls) else []
 
-pub record AnswersKey (asked : Asked) (r : RecordValue) (key : Bytes) (places every : List ℕ) (out : List ℕ) (end : KeyEnd) : Type 0 where
+abbrev pub ReasonTold : Rules → List Recorded → Spot → Option Reason → List ℕ → Type 0
+ReasonTold rules calls opening None out = out ≡ []
+ReasonTold rules calls opening (Some reason) out = IsReason rules calls opening reason × (out ≡ reason_text rules calls reason)
+
+pub record PartTold (rules : Rules) (calls : List Recorded) (opening : Spot) (out : List ℕ) : Type 0 where
+  pub part : RefutedPart
+  pub right : IsRefutedPart rules calls opening PART_NODES part
+  pub reason : Option Reason
+  pub why : List ℕ
+  pub told : ReasonTold rules part.calls.items opening reason why
+  pub text : out ≡ part_text part ++ why
+
+abbrev pub IsPartTold : Bool → Rules → List Recorded → Spot → List ℕ → Type 0
+IsPartTold true rules calls opening out = PartTold rules calls opening out
+IsPartTold false rules calls opening out = out ≡ []
+
+-- is the order asked for; is a part told
+abbrev pub IsDetail : Bool → Bool → Rules → List Recorded → Spot → Option Verdict → List ℕ → Type 0
+IsDetail ordered parted rules calls opening None out = out ≡ []
+IsDetail ordered parted rules calls opening (Some (verdict.Explained turns)) out = out ≡ (if ordered then witness_text calls turns.items else [])
+IsDetail ordered parted rules calls opening (Some (verdict.Refuted states)) out = IsPartTold parted rules calls opening out
+IsDetail ordered parted rules calls opening (Some (verdict.Stopped states)) out = out ≡ []
+
+abbrev pub is_told : Tally → Bool
+is_told t = nat_lt t.refuted PARTS_MAX
+
+abbrev pub case_of : Asked → Bool × Bool → AtKey → Case
+case_of asked flags at =
+    record { rules = rules_of asked flags; opening = opening_spot at.store; budget = asked.states; odd = at.odd }
+
+pub record AnswersCase (case : Case) (wanted : Wanted) (key : Bytes) (calls : List Recorded) (out : List ℕ) (end : KeyEnd) : Type 0 where
+  pub verdict : Option Verdict
+  pub judged : IsJudged case.rules case.opening case.budget calls case.odd verdict
+  pub end_is : end ≡ end_of_judged case.budget verdict
+  pub more : List ℕ
+  pub detail : IsDetail wanted.order wanted.part case.rules calls case.opening verdict more
+  pub text : out ≡ key_line key end calls ++ (listed_text end calls ++ more)
+
+pub record AnswersKey (asked : Asked) (r : RecordValue) (key : Bytes) (places every : List ℕ) (parted : Bool) (out : List ℕ) (end : KeyEnd) : Type 0 where
   pub found : List Recorded
   pub recorded : map call_value found ≡ (at_key key r places every).calls
   pub calls : List Recorded
   pub sorted : IsPermutation found calls
-  pub judged : IsJudged (rules_of asked r.config) asked.states (at_key key r places every).store calls (at_key key r places every).odd end
-  pub text : out ≡ key_line key end calls ++ listed_text end calls
+  pub answered : AnswersCase (case_of asked r.config (at_key key r places every)) (record { order = asked.is_ordered; part = parted }) key calls out end
 
 -- of the keys from a number on; from how many keys ended how, to that after all of them
 abbrev pub AnswersKeys : Asked → RecordValue → IndexValue → ℕ → List Bytes → Tally → List ℕ → Tally → Type 0
 AnswersKeys asked r index number [] t out last = (out ≡ []) × (last ≡ t)
 AnswersKeys asked r index number (key ∷ keys) t out last =
     (first : List ℕ) × (end : KeyEnd) × (rest : List ℕ)
-    × AnswersKey asked r key (places_at number index.mentions) index.every first end
+    × AnswersKey asked r key (places_at number index.mentions) index.every (is_told t) first end
     × (out ≡ first ++ rest) × AnswersKeys asked r index (number + 1) keys (tally_with t end) rest last
 
 -- 2. The whole answer.

@@ -1,4 +1,4 @@
--- What the lines about calls say, from their words.
+-- The words of a record's lines: what a call asks for, and what it was answered.
 --     begin_words, call_line      what a call's words ask for, by the line of a script that begins it: its number and its session
 --                                 are placeholders
 --     form_of_reply, form_of_op, form_of_bulk, form_of
@@ -21,9 +21,8 @@
 --     end_named, is_end           how it ended
 --     RunValue, new_run, run_onto, whole_run, run_of
 --                                 its run, from the words of a line
-use Rattle.std.specs.Prelude.{◌==◌, ℕ, ◌+◌, List, [], ◌∷◌, ◌++◌, length, drop, codes, Bool, true, false, not, ◌&&◌, ◌||◌, nat_lt, Option, None, Some, Result, Ok, Err, if◌then◌else◌, decimal}
+use Rattle.std.specs.Prelude.{ℕ, ◌+◌, List, [], ◌∷◌, ◌++◌, length, drop, codes, Bool, true, false, ◌||◌, Option, None, Some, Result, Ok, Err, if◌then◌else◌}
 use Rattle.std.specs.Str.{bytes_eq}
-use Rattle.jc_types.specs.declared.refusal.Refusal.{Refusal}
 use Rattle.jc_types.specs.declared.refusal.Refusal.TheVariants.{LoaderFailed, WriterFailed, ProcessorFailed}
 use Rattle.jc_model.specs.Cache.{Bytes}
 use Rattle.jc_model.specs.Batches.{is_among}
@@ -51,7 +50,7 @@ use Rattle.jc_text.specs.declared.read.line.BulkLine.TheVariants as bulk
 use Rattle.jc_text.specs.declared.read.line.Line.{Line}
 use Rattle.jc_text.specs.declared.read.line.Line.TheVariants as line
 use Rattle.jc_text.specs.Lines.{begin_of}
-use Rattle.jc_text.specs.Words.{◌>>=◌, Pairs, distinct_keys_of, equals_at, key_of, key_text, number_of, pairs_of, said, value_of, value_or_none_of, words_onto}
+use Rattle.jc_text.specs.Words.{◌>>=◌, Pairs, distinct_keys_of, key_text, number_of, pairs_of, said, value_of, value_or_none_of, words_onto}
 use Rattle.jc_record.specs.declared.told.AnswerForm.{AnswerForm}
 use Rattle.jc_record.specs.declared.told.AnswerForm.TheVariants as form
 use Rattle.jc_record.specs.declared.told.Told.{Told}

@@ -222,7 +222,7 @@ fn put_end(out: &mut Vec<u8>, ended: Option<u64>) -> Result<(), AllocError>
 
 /// The thread of a call, and its time.
 #[tactic(auto, unfolding(crate::specs::Answers::span_text))]
-fn put_span(out: &mut Vec<u8>, call: &Recorded) -> Result<(), AllocError>
+pub(crate) fn put_span(out: &mut Vec<u8>, call: &Recorded) -> Result<(), AllocError>
     ensures { OnOk result (out.new.items ≡ out.old.items ++ span_text call.now) }
 {
     put_pieces(
@@ -261,7 +261,7 @@ fn put_answers(out: &mut Vec<u8>, call: &Recorded) -> Result<(), AllocError>
 
 /// The line of a call.
 #[tactic(auto, unfolding(crate::specs::Answers::call_line))]
-fn put_call(out: &mut Vec<u8>, call: &Recorded) -> Result<(), AllocError>
+pub(crate) fn put_call(out: &mut Vec<u8>, call: &Recorded) -> Result<(), AllocError>
     ensures { OnOk result (out.new.items ≡ out.old.items ++ call_line call.now) }
 {
     put_question(out, call)?;

@@ -3,6 +3,7 @@
 
 mod answer;
 mod at_key;
+mod details;
 mod index;
 mod input;
 mod judge;
@@ -17,6 +18,7 @@ pub mod run;
 mod run_words;
 mod told;
 
+pub use details::REASONS_MAX;
 pub use input::RECORD_MAX;
-pub use judge::{Asked, LISTED_MAX};
+pub use judge::{Asked, LISTED_MAX, PART_NODES, PART_WORK, PARTS_MAX};
 pub use run::{CheckFault, RecordEnd};

@@ -2,7 +2,7 @@
 ghost use Rattle.std.specs.Prelude.{◌≡◌, ◌++◌, ◌∷◌, [], map, OnOk, IfOk};
 ghost use Rattle.jc_text.specs.Lines.{Gives, ok_with};
 ghost use Rattle.jc_record.specs.Words.{are_keys, are_pairs};
-ghost use Rattle.jc_record.specs.Reading.{are_all_pairs, are_code, are_failure, are_foreign, are_left, are_run, are_words_of, begun_with, during, ended_with, form_open, open_after_of, without};
+ghost use Rattle.jc_record.specs.Reading.{are_all_pairs, are_code, are_failure, are_foreign, are_left, are_run, are_words_of, begun_with, during, ended_with, form_begun, form_open, open_after_of, without};
 
 use crate::names::keys_left;
 use crate::note::NoteKind;
@@ -164,6 +164,15 @@ fn without(alloc: Global, call: u32, under_way: &[OpenCall]) -> Result<Vec<OpenC
     Ok(others)
 }
 
+/// How the call of these words answers. It has a function of its own, since a line is dear to let go.
+fn form_begun(alloc: Global, words: &[&[u8]]) -> Result<AnswerForm, ReadError>
+    ensures { Gives result (form_begun (map (λ w. w.now) words.now)) }
+{
+    let mut line = Line::Audit;
+    call_line(alloc, words, &mut line)?;
+    Ok(form_of(&line))
+}
+
 /// The open calls after a call's begin.
 fn begun_with(
     alloc: Global,
@@ -176,9 +185,7 @@ fn begun_with(
     if form_open(call, under_way).is_some() {
         return Err(ReadError::Fault(Fault::NotNow));
     }
-    let mut line = Line::Audit;
-    call_line(alloc, words, &mut line)?;
-    let form = form_of(&line);
+    let form = form_begun(alloc, words)?;
     push_open(under_way, OpenCall { call, form })?;
     Ok(())
 }

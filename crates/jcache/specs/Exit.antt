@@ -34,7 +34,7 @@
 --     status_without_words    the status if the words of the command line can't be read: 4 if an allocation failed, otherwise 2
 --     FailsByStreams          status 3 is returned if a stream failed, and otherwise only if the input is too long; after a
 --                             failed read this holds for standard output
-use Rattle.std.specs.Prelude.{◌≡◌, ◌⊎◌, ◌<◌, ◌≤◌, ◌++◌, ℕ, List, [], Bool, true, false, Option, Result, IfSome, MatchResult, codes, length, take, if◌then◌else◌}
+use Rattle.std.specs.Prelude.{◌≡◌, ◌⊎◌, ◌<◌, ◌≤◌, ◌++◌, ℕ, List, [], Bool, true, false, not, Option, Result, IfSome, MatchResult, codes, length, take, if◌then◌else◌}
 use Rattle.std.specs.Io.KnownBytes.{Appends}
 use Rattle.clap.specs.Walk.{Row, Text}
 use Rattle.clap.specs.Words.{IsAmong, Kinds}
@@ -105,7 +105,13 @@ is_first choice.Wrong = false
 
 abbrev pub asked_of : CheckPlan → Asked
 asked_of plan =
-    record { is_store_known = is_first plan.rules; may_vanish = is_first plan.evict; is_real = is_first plan.order; states = plan.states }
+    record {
+      is_store_known = is_first plan.rules;
+      may_vanish = is_first plan.evict;
+      is_real = is_first plan.order;
+      states = plan.states;
+      is_ordered = not (is_first plan.witness);
+    }
 
 abbrev pub status_of_check : RecordEnd → ℕ
 status_of_check record_end.Explained = 0

@@ -1,4 +1,4 @@
--- Sessions of workers on threads.
+-- The threads that `jcache threads` has count: how many steps each session has made.
 --     HasCounted  a session may call the cache, and has made at most a number of steps
 use Rattle.std.specs.Prelude.{◌≤◌, ℕ}
 use Rattle.jc_cache.specs.Caches.{CacheState}

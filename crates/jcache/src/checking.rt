@@ -28,6 +28,7 @@ fn asked_of(plan: &CheckPlan) -> Asked
         may_vanish: is_first(plan.evict),
         is_real: is_first(plan.order),
         states: plan.states as usize,
+        is_ordered: !is_first(plan.witness),
     }
 }
 
@@ -88,7 +89,7 @@ pub(crate) fn check_and_show<R: Read, W: Write, E: Write>(
     if plan.is_wrong() {
         complain(
             err,
-            "jcache: --rules is store or table, --order is real or program, --evict is free or never\n",
+            "jcache: --rules is store or table, --order is real or program, --evict is free or never, --witness is no or yes\n",
         );
         return STATUS_USAGE;
     }

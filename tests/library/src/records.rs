@@ -12,6 +12,7 @@ const STORE: Asked = Asked {
     may_vanish: true,
     is_real: true,
     states: 1000,
+    is_ordered: false,
 };
 
 /// A loader may answer anything.
@@ -96,6 +97,27 @@ fn judges_by_each_rule(rt: HostRuntime) {
         ),
     ] {
         ends(&rt, alloc, &asked, text, wanted.0, wanted.1);
+    }
+}
+
+#[test]
+fn tells_the_order_if_it_is_asked_for(rt: HostRuntime) {
+    let ordered = Asked {
+        is_ordered: true,
+        ..STORE
+    };
+    for (asked, begin) in [
+        (STORE, "a: explained, 2 calls\nkeys explained: 1, "),
+        (ordered, "a: explained, 2 calls\n  "),
+    ] {
+        ends(
+            &rt,
+            rt.alloc(),
+            &asked,
+            TWO_LOADS,
+            RecordEnd::Explained,
+            begin,
+        );
     }
 }
 

@@ -8,8 +8,10 @@ pub loop-place-init : goal.loop-place-init
 loop-place-init c = (c.requires.known, grows-not c.args.states.now, λ k n h at. absurd (omega (arith, h)))
 
 pub returns-then-place-len-clause-ends : goal.returns-then-place-len-clause-ends
-returns-then-place-len-clause-ends c =
-    all-done c.args.rules.now c.args.calls.now c.loop-place.states c.loop-place.place c.loop-place.invariant.2 (omega (arith, c.if-place-len.true))
+returns-then-place-len-clause-ends c = (
+  all-done c.args.rules.now c.args.calls.now c.loop-place.states c.loop-place.place c.loop-place.invariant.2 (omega (arith, c.if-place-len.true)),
+  omega (arith, c.if-place-len.true, c.loop-place-test.true),
+)
 
 pub returns-then-is_whole-clause-ends : goal.returns-then-is_whole-clause-ends
 returns-then-is_whole-clause-ends c = (
@@ -41,6 +43,8 @@ returns-then-len-budget-clause-grows c =
     grows-more c.args.states.now c.loop-place.states c.try_all.new.states c.loop-place.invariant.1 c.in_ok-try_all.ensures.grows
 
 pub returns-clause-ends : goal.returns-clause-ends
-returns-clause-ends c =
-    all-done c.args.rules.now c.args.calls.now c.loop-place.states c.loop-place.place c.loop-place.invariant.2
-    (omega (arith, c.if-len-budget-2.false, c.loop-place-test.false))
+returns-clause-ends c = (
+  all-done c.args.rules.now c.args.calls.now c.loop-place.states c.loop-place.place c.loop-place.invariant.2
+      (omega (arith, c.if-len-budget-2.false, c.loop-place-test.false)),
+  omega (arith, c.if-len-budget-2.false),
+)

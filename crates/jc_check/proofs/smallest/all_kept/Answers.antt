@@ -1,4 +1,4 @@
-use Rattle.std.proofs.Common.{◌≡◌, List, Bool, true, ap, ◌∙◌}
+use Rattle.std.proofs.Common.{List, Bool, true, ap, ◌∙◌}
 use Rattle.jc_check.specs.Parts.{forget}
 use Rattle.jc_check.proofs.Forgetting.{forget-true, pushed-length}
 use Rattle.jc_check.proofs.smallest.all_kept.Goals as goal

@@ -1,4 +1,4 @@
-use Rattle.std.proofs.Common.{◌≡◌, ◌≤◌, ◌<◌, List, Bool, false, length, ap, ◌∙◌, arith, Vec, Global}
+use Rattle.std.proofs.Common.{List, Bool, false, ap, ◌∙◌, arith, Vec, Global}
 use Rattle.jc_check.specs.declared.record.Recorded.{Recorded}
 use Rattle.jc_check.proofs.Forgetting.{forget-step, forget-true-step, forget-past-step}
 use Rattle.jc_check.proofs.smallest.forget.Goals as goal

@@ -1,4 +1,4 @@
-use Rattle.std.proofs.Common.{◌≡◌, ◌≤◌, ◌<◌, List, length, get_or, ap, ◌∙◌, arith, Vec, Global}
+use Rattle.std.proofs.Common.{List, get_or, ap, ◌∙◌, arith, Vec, Global}
 use Rattle.std.proofs.lemmas.List.{get_or_default}
 use Rattle.jc_check.specs.declared.record.Recorded.{Recorded}
 use Rattle.jc_check.specs.declared.record.Role.{Role}

@@ -1,4 +1,4 @@
-use Rattle.std.proofs.Common.{◌≡◌, ℕ, List, Bool, length, map, ap, sym, subst, ◌∙◌, arith}
+use Rattle.std.proofs.Common.{◌≡◌, ℕ, List, Bool, length, map, ap, sym, subst, ◌∙◌}
 use Rattle.jc_check.specs.declared.record.Recorded.{Recorded}
 use Rattle.jc_check.specs.declared.record.Role.{Role}
 use Rattle.jc_check.specs.Explains.{IsExplained}

@@ -21,11 +21,12 @@ returns-in-Closed c =
     let calls = c.args.calls.now in
     let states = c.explore.new.states in
     let first = opening_node c.args.opening.now in
+    let ends = subst (EndsRight rules calls c.args.budget states) c.in-Closed.is c.in_ok-place.ensures.ends in
     let closed : IsClosed rules calls c.args.opening.now (node_values states.list.items) = record {
       first = among-at-list states 0 first (at-grows c.in_ok-states.states states 0 first c.in_ok-place.ensures.grows c.in_ok-states.ensures.first);
-      each = subst (EndsRight rules calls c.args.budget states) c.in-Closed.is c.in_ok-place.ensures.ends;
+      each = ends.0;
     } in
-    record { none = c.closed_nodes_refute.ensures rules calls c.args.opening.now (node_values states.list.items) closed; closed = closed }
+    record { none = c.closed_nodes_refute.ensures rules calls c.args.opening.now (node_values states.list.items) closed; closed = closed; few = ends.1 }
 
 pub returns : goal.returns
 returns c =

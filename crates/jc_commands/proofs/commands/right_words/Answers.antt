@@ -59,16 +59,17 @@ record AskToCheck (words : List Text) : Type 0 where
   rules_are : word_in (codes "rules") (subcommand_at words) ≡ Some None
   order_is : word_in (codes "order") (subcommand_at words) ≡ Some None
   evict_is : word_in (codes "evict") (subcommand_at words) ≡ Some None
+  witness_is : word_in (codes "witness") (subcommand_at words) ≡ Some None
   states_are : option_in (codes "states") (subcommand_at words) ≡ Some None
 
 check_asks : (name : Text) → AskToCheck (name ∷ codes "check" ∷ [])
 unfolding clap_on_literals
-check_asks name = record { right = refl; named = refl; rules_are = refl; order_is = refl; evict_is = refl; states_are = refl }
+check_asks name = record { right = refl; named = refl; rules_are = refl; order_is = refl; evict_is = refl; witness_is = refl; states_are = refl }
 
 pub returns-clause-check : goal.returns-clause-check
 returns-clause-check c name =
     let plain = check_asks name in
-    (plain.right, asks_to_check _ plain.named plain.rules_are plain.order_is plain.evict_is plain.states_are)
+    (plain.right, asks_to_check _ plain.named plain.rules_are plain.order_is plain.evict_is plain.witness_is plain.states_are)
 
 pub returns-clause-explore : goal.returns-clause-explore
 returns-clause-explore c name =

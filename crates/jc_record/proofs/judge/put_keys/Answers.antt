@@ -1,4 +1,4 @@
-use Rattle.jc_record.proofs.Common.{◌≡◌, ◌++◌, ◌∙◌, List, ℕ, [], ap, append-nil, arith, drop, drop_all, refl, rules, subst, sym}
+use Rattle.jc_record.proofs.Common.{◌≡◌, ◌++◌, ◌∙◌, List, ℕ, [], ap, append-nil, drop, drop_all, refl, rules, subst, sym}
 use Rattle.jc_model.specs.Cache.{Bytes}
 use Rattle.jc_record.specs.Reading.{record_value}
 use Rattle.jc_record.specs.Running.{AnswersKeys}
