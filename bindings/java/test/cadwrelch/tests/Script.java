@@ -16,8 +16,11 @@ final class Script {
     /** The words of calls of many keys. */
     private static final Set<String> BULK =
             Set.of("getall", "putall", "removeall", "removeevery", "clear", "loadall", "invokeall");
-    /** Lines for which a provider has no call: what gives a call up, retries it, opens a cache again, or names untold keys. */
-    private static final Set<String> INSIDE = Set.of("drop", "more", "reopen", "untold");
+    /**
+     * Lines for which a provider has no call: what gives a call up, retries it, opens a cache again, or names untold keys; and
+     * what forgets a key, since a provider does that by marks of its own, and prints no eviction.
+     */
+    private static final Set<String> INSIDE = Set.of("drop", "more", "reopen", "untold", "invalidate");
     /**
      * A processor that creates an entry and removes it: by JCache's reference implementation nothing happens, here it
      * is a delete.
