@@ -1,4 +1,4 @@
--- A batch that is being filled, as data.
+-- What contracts see of a batch, the keys that one call of the loader or the writer is asked for, while it is being filled.
 --     BatchState     the items added so far, in order, and the number of further ones that there is room for
 --     with_item      the batch with one more added
 --     empty_batch    a batch to which nothing was added, with room for `room` items

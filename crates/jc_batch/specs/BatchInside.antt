@@ -1,4 +1,5 @@
--- The fields of a batch's keys.
+-- The invariant of the lists in which a batch keeps its keys: the memory that they have. No contract of a public function cites
+-- this.
 --     AreBatchKeys    each of the three lists has room for `n` keys; the two lists of a split are empty
 use Rattle.std.specs.Prelude.{◌≡◌, ◌≤◌, ℕ, [], vec_capacity}
 use Rattle.std.specs.Global.{Vec}

@@ -1,4 +1,4 @@
--- The changes that a batch asks the writer for.
+-- The changes of the store that one call of the writer is asked for, key by key of its batch.
 --     changes_of     each key of the batch with the change that is asked for there, in the batch's order
 use Rattle.std.specs.Prelude.{List, Option, Some, map}
 use Rattle.jc_model.specs.declared.event.Change.{Change}

@@ -1,4 +1,5 @@
--- The fields of a batch of loads.
+-- The invariant of the fields of a `LoadBatch`, the keys of one `loadAll`: the memory that keys and answers have. No contract of a
+-- public function cites this.
 --     IsLoadBatch    the list of keys and the answers have memory for `room` further keys; no
 --                    key has an answer yet
 use Rattle.std.specs.Prelude.{◌≡◌, ◌≤◌, ◌+◌, ℕ, vec_len, vec_capacity}

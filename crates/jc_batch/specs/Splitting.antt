@@ -1,4 +1,4 @@
--- The split of a batch, by the keys that its writer left and its fault.
+-- Which keys of a batch were written and which failed, once its writer has returned: by the keys that it left, and its fault.
 --     success_of      a key that was written, by its answer
 --     failure_of      a key that failed, with its code, by its answer
 --     successes_in    the keys of a batch that were written, in the batch's order

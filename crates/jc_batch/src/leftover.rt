@@ -1,4 +1,4 @@
-//! The collection that a writer leaves.
+//! What a writer leaves of the collection that it was given for a batch.
 ghost use Rattle.std.specs.Prelude.{◌≡◌};
 
 use indexmap::{IndexMap, IndexSet};

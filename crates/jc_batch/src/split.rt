@@ -1,4 +1,4 @@
-//! The outcomes of a batch's keys.
+//! The outcomes of a batch's keys once its writer has returned: which were written, and which failed.
 ghost use Rattle.std.specs.Prelude.{◌≡◌, ◌∷◌, List, Option, ℕ, true};
 ghost use Rattle.jc_model.specs.Cache.{Bytes};
 ghost use Rattle.jc_model.specs.Batches.{answer_in_batch};

@@ -22,7 +22,8 @@
 --                    session had seen
 --     SweepsAll      a call on all keys has this outcome for the keys that it found; or an allocation failed, and it has only
 --                    looked
-use Rattle.std.specs.Prelude.{◌≡◌, ◌≤◌, ◌<◌, ◌⊎◌, ◌++◌, ℕ, List, [], ◌∷◌, length, map, Option, None, Some, Result, Ok, Err, slice_get}
+use Rattle.std.specs.Prelude.{◌≡◌, ◌≤◌, ◌<◌, ◌⊎◌, ◌++◌, ℕ, List, [], ◌∷◌, length, map, Option, None, Some, Result, Ok, Err}
+use Rattle.std.specs.Prelude.{slice_get}
 use Rattle.std.specs.List.{flat_map}
 use mathlib.Core.List.{IsPrefix}
 use Rattle.atomic_table.specs.Seated.{TableId}
@@ -59,9 +60,11 @@ abbrev pub TellsDone : Result (Unit {0}) BulkFault → Option Refusal → List (
 TellsDone (Ok done) cause failed = (cause ≡ None) × (failed ≡ [])
 TellsDone (Err fault) cause failed = (cause ≡ Some fault.cause) × (failed ≡ fault.failed.entries) × (fault.found.entries ≡ [])
 
-abbrev pub TellsFound : {S : Type 0} → Result (IndexMap Bytes Bytes S) BulkFault → Option Refusal → List (Bytes × Refusal) → List (Bytes × Bytes) → Type 0
+abbrev pub TellsFound : {S : Type 0} → Result (IndexMap Bytes Bytes S) BulkFault → Option Refusal → List (Bytes × Refusal)
+    → List (Bytes × Bytes) → Type 0
 TellsFound (Ok values) cause failed found = (cause ≡ None) × (failed ≡ []) × (found ≡ values.entries)
-TellsFound (Err fault) cause failed found = (cause ≡ Some fault.cause) × (failed ≡ fault.failed.entries) × (found ≡ fault.found.entries)
+TellsFound (Err fault) cause failed found =
+    (cause ≡ Some fault.cause) × (failed ≡ fault.failed.entries) × (found ≡ fault.found.entries)
 
 module _ {I J : Type 0} {D : I → Type 0} {E : J → Type 0} (behavior : BulkBehavior ((i : I) × D i) ((j : J) × E j))
     (cache : CacheState) (old : Session I J D E) (targets : List (Bytes × Op)) where
@@ -74,11 +77,13 @@ module _ {I J : Type 0} {D : I → Type 0} {E : J → Type 0} (behavior : BulkBe
     pub first : IsFirst cache.config (next_call old).agent.caller targets old.seats.items [] carried.started.ends cause
 
   abbrev pub DoesAll : Result (Unit {0}) BulkFault → Session I J D E → Type 0
-  DoesAll result new = (ends : List KeyEnd) × (cause : Option Refusal) × IsBulkCall ends cause new × TellsDone result cause (failed_entries ends)
+  DoesAll result new =
+      (ends : List KeyEnd) × (cause : Option Refusal) × IsBulkCall ends cause new × TellsDone result cause (failed_entries ends)
 
   abbrev pub GetsAll : {S : Type 0} → Result (IndexMap Bytes Bytes S) BulkFault → Session I J D E → Type 0
   GetsAll result new =
-      (ends : List KeyEnd) × (cause : Option Refusal) × IsBulkCall ends cause new × TellsFound result cause (failed_entries ends) (found_entries ends)
+      (ends : List KeyEnd) × (cause : Option Refusal) × IsBulkCall ends cause new
+      × TellsFound result cause (failed_entries ends) (found_entries ends)
 
 -- 2. A call that is refused whole.
 
@@ -125,14 +130,17 @@ pub record OnlyLooks {I J : Type 0} {D : I → Type 0} {E : J → Type 0} (old n
   pub own : (i : ℕ) → (view_at new.seats.items i).own ≡ (view_at old.seats.items i).own
   pub agent : new.agent ≡ old.agent
 
-pub record LooksFirst {I J : Type 0} {D : I → Type 0} {E : J → Type 0} (stripes : ℕ) (old : Session I J D E) (keys : List Bytes) (Done : Session I J D E → Type 0) : Type 0 where
+pub record LooksFirst {I J : Type 0} {D : I → Type 0} {E : J → Type 0} (stripes : ℕ) (old : Session I J D E) (keys : List Bytes)
+    (Done : Session I J D E → Type 0) : Type 0 where
   pub looked : Session I J D E
   pub only : OnlyLooks old looked
   pub found : HasLooked stripes old.seats.items looked.seats.items keys
   pub done : Done looked
 
 -- `Ends` is how the call ends for the keys that it has found
-abbrev pub SweepsAll : {I J T : Type 0} {D : I → Type 0} {E : J → Type 0} → ℕ → (Session I J D E → List Bytes → Result T BulkFault → Session I J D E → Type 0)
+abbrev pub SweepsAll : {I J T : Type 0} {D : I → Type 0} {E : J → Type 0} → ℕ
+    → (Session I J D E → List Bytes → Result T BulkFault → Session I J D E → Type 0)
     → Session I J D E → Result T BulkFault → Session I J D E → Type 0
 SweepsAll stripes Ends old result new =
-    ((keys : List Bytes) × LooksFirst stripes old keys (λ looked. Ends looked keys result new)) ⊎ (IsRefused result OutOfMemory × OnlyLooks old new)
+    ((keys : List Bytes) × LooksFirst stripes old keys (λ looked. Ends looked keys result new))
+    ⊎ (IsRefused result OutOfMemory × OnlyLooks old new)

@@ -1,4 +1,4 @@
--- The rounds of a bulk call.
+-- The rounds of a bulk call. No contract of a public function cites this.
 --     KeysAskAs        each operation of the call asks outside by calls of this kind, if it asks at all
 --     IsOutsideReady   the call outside that a round is to make: it has no asks yet, is of the call's kind, and has room for all
 --                      keys that a round may reserve
@@ -32,5 +32,6 @@ TakesNew Load config = ⊥
 TakesNew Write config = config.write_through ≡ true
 TakesNew Delete config = config.write_through ≡ true
 
-abbrev pub RunsOn : {I J : Type 0} {D : I → Type 0} {E : J → Type 0} → BulkBehavior ((i : I) × D i) ((j : J) × E j) → CacheState → CallPast → Session I J D E → BulkCall → Session I J D E → BulkCall → Type 0
+abbrev pub RunsOn : {I J : Type 0} {D : I → Type 0} {E : J → Type 0} → BulkBehavior ((i : I) × D i) ((j : J) × E j) → CacheState
+    → CallPast → Session I J D E → BulkCall → Session I J D E → BulkCall → Type 0
 RunsOn behavior cache past old call new later = RunsRounds (HaveAsked behavior old new) cache past old call new later

@@ -1,4 +1,5 @@
--- A bulk call from its memory to its end: the room that it takes before its first phase, and the keys that failed.
+-- A bulk call from its memory to its end: the room that it takes before its first phase, and the keys that failed. No contract of a
+-- public function cites this.
 --     IsRoomOf    the memory that a call of this kind takes before its first phase, for this number of keys in a cache of this
 --                 number of stripes
 --     IsRoomOfCall   as `IsRoomOf`, for these keys, which differ, and each of which asks outside as the call's kind does
@@ -34,7 +35,8 @@ pub record IsRoomOfCall (targets : List (Bytes × Op)) (stripes : ℕ) (room : B
 
 -- `old` and `new` are the session before and after
 pub record IsCallEnd {I J : Type 0} {D : I → Type 0} {E : J → Type 0} (behavior : BulkBehavior ((i : I) × D i) ((j : J) × E j))
-    (cache : CacheState) (old : Session I J D E) (targets : List (Bytes × Op)) (end : CallEnd) (new : Session I J D E) : Type 0 where
+    (cache : CacheState) (old : Session I J D E) (targets : List (Bytes × Op)) (end : CallEnd)
+    (new : Session I J D E) : Type 0 where
   pub carried : IsBulkCall behavior cache old targets (key_ends targets end.progress.items) end.cause new
   pub failed : end.failed.entries ≡ failed_entries (key_ends targets end.progress.items)
   pub many : length end.progress.items ≡ length targets

@@ -27,7 +27,8 @@
 --     IsSpent                           as `IsRest`, once none of the answers is left
 --     Answered                          the call was made for these tickets, each of which has an answer, and this is left for a
 --                                       later round
-use Rattle.std.specs.Prelude.{◌≡◌, ◌≤◌, ◌⊎◌, ◌-◌, ◌++◌, ◌==◌, ℕ, List, [], ◌∷◌, length, map, Bool, true, false, Option, None, Some, IsSome}
+use Rattle.std.specs.Prelude.{◌≡◌, ◌≤◌, ◌⊎◌, ◌-◌, ◌++◌, ◌==◌, ℕ, List, [], ◌∷◌, length, map, Bool, true, false, Option, None, Some}
+use Rattle.std.specs.Prelude.{IsSome}
 use Rattle.std.specs.List.{AllByRecursion, IsDistinct}
 use Rattle.std.specs.Cmp.Lexicographic.{pointwise}
 use Rattle.jc_types.specs.declared.config.Config.{Config}
@@ -102,7 +103,8 @@ AsksAs Load o = (o ≡ op.Get) ⊎ ((replace : Bool) × (o ≡ op.LoadAll replac
 AsksAs Write o = (value : Bytes) × (o ≡ op.Put value)
 AsksAs Delete o = o ≡ op.Remove
 
-pub record MayAskFor {I J : Type 0} {D : I → Type 0} {E : J → Type 0} (session : Session I J D E) (call : OutsideState) (tickets : List TicketClaim) : Type 0 where
+pub record MayAskFor {I J : Type 0} {D : I → Type 0} {E : J → Type 0} (session : Session I J D E) (call : OutsideState)
+    (tickets : List TicketClaim) : Type 0 where
   pub nothing : HoldsNothing session
   pub writer : HasOneToAsk call.kind session.agent.hands.outside.writer
   pub none : call.items ≡ []
@@ -121,15 +123,25 @@ pub record BulkBehavior (L W : Type 0) : Type 1 where
   pub deletes_all : DeleteAllRelation W
   pub write_state : W → List ℕ
 
-abbrev pub bulk_behavior : {L W : Type 0} → LoadAllRelation L → (L → List ℕ) → WriteAllRelation W → DeleteAllRelation W → (W → List ℕ) → BulkBehavior L W
+abbrev pub bulk_behavior : {L W : Type 0} → LoadAllRelation L → (L → List ℕ) → WriteAllRelation W → DeleteAllRelation W
+    → (W → List ℕ) → BulkBehavior L W
 bulk_behavior loads_all load_state writes_all deletes_all write_state =
-    record { loads_all = loads_all; load_state = load_state; writes_all = writes_all; deletes_all = deletes_all; write_state = write_state }
+    record {
+      loads_all = loads_all;
+      load_state = load_state;
+      writes_all = writes_all;
+      deletes_all = deletes_all;
+      write_state = write_state;
+    }
 
 module _ {I J : Type 0} {D : I → Type 0} {E : J → Type 0} (behavior : BulkBehavior ((i : I) × D i) ((j : J) × E j)) where
   abbrev pub CallsOnce : Outside I J D E → Round → Outside I J D E → Type 0
-  CallsOnce old (LoadAll r) new = LoadsAllOnce (boxed behavior.loads_all) (boxed behavior.load_state) old.loader r.keys r.said new.loader × (new.writer ≡ old.writer)
+  CallsOnce old (LoadAll r) new =
+      LoadsAllOnce (boxed behavior.loads_all) (boxed behavior.load_state) old.loader r.keys r.said new.loader
+      × (new.writer ≡ old.writer)
   CallsOnce old (WriteAll r) new =
-      WritesAllOnce (boxed behavior.writes_all) (boxed behavior.deletes_all) (boxed behavior.write_state) old.writer r.batch r.returned r.said new.writer × (new.loader ≡ old.loader)
+      WritesAllOnce (boxed behavior.writes_all) (boxed behavior.deletes_all) (boxed behavior.write_state) old.writer r.batch
+      r.returned r.said new.writer × (new.loader ≡ old.loader)
   CallsOnce old (ProcessAll r) new = ⊥
 
   abbrev pub CallsInRounds : Outside I J D E → List Round → Outside I J D E → Type 0
@@ -174,7 +186,8 @@ pub record IsSpent (kind : OutsideKind) (room : ℕ) (answers : RoundAnswers) (r
 -- `room` is that of the call
 pub record Answered
     {I J : Type 0} {D : I → Type 0} {E : J → Type 0} (behavior : BulkBehavior ((i : I) × D i) ((j : J) × E j))
-    (old : Session I J D E) (kind : OutsideKind) (room : ℕ) (tickets : List TicketClaim) (answers : RoundAnswers) (fault : Option Refusal) (rest : Option SpentLoads) (new : Session I J D E) : Type 0 where
+    (old : Session I J D E) (kind : OutsideKind) (room : ℕ) (tickets : List TicketClaim) (answers : RoundAnswers)
+    (fault : Option Refusal) (rest : Option SpentLoads) (new : Session I J D E) : Type 0 where
   pub round : Round
   pub asked : IsAskedOf kind (map reserved_by tickets) round
   pub fault_is : fault ≡ round_fault round

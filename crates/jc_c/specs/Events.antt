@@ -41,12 +41,16 @@ use Rattle.jc_model.specs.declared.event.Event.{Event}
 use Rattle.jc_model.specs.declared.event.Event.TheVariants.{Step, Evict}
 use Rattle.jc_model.specs.Cache.{Bytes}
 use Rattle.jc_model.specs.Table.{op_values}
-use Rattle.jc_c.specs.declared.codes.TheConstants.{JC_EVENT_EVICTION, JC_CAUSE_INVALIDATED, JC_CAUSE_MEMORY, JC_CAUSE_ROOM, JC_REPLY_LOADER_FAILED, JC_REPLY_NO, JC_ANSWER_NOT_ASKED, JC_EFFECT_NOT_RUN, JC_REPLY_NULL, JC_REPLY_PROCESSOR_FAILED, JC_EVENT_STEP, JC_REPLY_UNIT, JC_REPLY_VALUE, JC_REPLY_WRITER_FAILED, JC_REPLY_YES}
+use Rattle.jc_c.specs.declared.codes.TheConstants.{JC_EVENT_EVICTION, JC_CAUSE_INVALIDATED, JC_CAUSE_MEMORY, JC_CAUSE_ROOM}
+use Rattle.jc_c.specs.declared.codes.TheConstants.{JC_REPLY_LOADER_FAILED, JC_REPLY_NO, JC_ANSWER_NOT_ASKED, JC_EFFECT_NOT_RUN}
+use Rattle.jc_c.specs.declared.codes.TheConstants.{JC_REPLY_NULL, JC_REPLY_PROCESSOR_FAILED, JC_EVENT_STEP, JC_REPLY_UNIT}
+use Rattle.jc_c.specs.declared.codes.TheConstants.{JC_REPLY_VALUE, JC_REPLY_WRITER_FAILED, JC_REPLY_YES}
 use Rattle.jc_c.specs.declared.layouts.FlatEvent.{FlatEvent}
 use Rattle.jc_c.specs.declared.layouts.ProcessorAnswers.{ProcessorAnswers}
 use Rattle.jc_c.specs.declared.layouts.InlineValue.{InlineValue}
 use Rattle.jc_c.specs.Layouts.{inline_value, inline_key, is_inline_value, is_inline_key, HoldsKey, StaysBehindValue, StaysBehindKey}
-use Rattle.jc_c.specs.Requests.{op_of_number, op_number_fits, load_number_fits, write_number_fits, effect_number_fits, op_fits, answers_beside, read_process, process_fits, others_fit}
+use Rattle.jc_c.specs.Requests.{op_of_number, op_number_fits, load_number_fits, write_number_fits, effect_number_fits, op_fits}
+use Rattle.jc_c.specs.Requests.{answers_beside, read_process, process_fits, others_fit}
 use Rattle.jc_c.specs.Replies.{ShowsReply, KeepsBesideValue, KeepsBesideReply}
 
 -- 1. An event that is written.
@@ -147,7 +151,8 @@ read_reply n code value =
 
 abbrev pub read_step : FlatEvent → Bytes → Event
 read_step f key =
-    Step (record { session = f.session; call = f.call }) (op_of_number f.op (inline_value f.value) (inline_value f.other)) key (read_outside f.outside) (shared_in f)
+    Step (record { session = f.session; call = f.call }) (op_of_number f.op (inline_value f.value) (inline_value f.other)) key
+    (read_outside f.outside) (shared_in f)
     (read_reply f.reply f.reply_code (inline_value f.replied))
 
 abbrev pub read_event : FlatEvent → Event

@@ -25,7 +25,8 @@ use Rattle.jc_stripe.specs.declared.desk.answers.PickUpAnswer.{PickUpAnswer}
 use Rattle.jc_stripe.specs.declared.desk.answers.SweepAnswer.{SweepAnswer}
 use Rattle.jc_stripe.specs.ValuesMoved.{MovesMade}
 use Rattle.jc_stripe.specs.DeskState.{DeskState, is_open_shape, are_contents}
-use Rattle.jc_stripe.specs.DeskPhases.{newest, BeginsAtDesk, HitsAtDesk, CommitsAtDesk, PicksUpAtDesk, WithdrawsAtDesk, InvalidatesAtDesk, SweepsAtDesk}
+use Rattle.jc_stripe.specs.DeskPhases.{newest, BeginsAtDesk, HitsAtDesk, CommitsAtDesk, PicksUpAtDesk, WithdrawsAtDesk}
+use Rattle.jc_stripe.specs.DeskPhases.{InvalidatesAtDesk, SweepsAtDesk}
 use Rattle.jc_c.specs.declared.codes.TheConstants.{JC_OK, JC_CODE_WRONG_HANDLE, JC_CODE_BAD_ARGUMENT, JC_NEXT_DONE, JC_OUT_SIZE}
 use Rattle.jc_c.specs.declared.layouts.PhaseOut.{PhaseOut}
 use Rattle.jc_c.specs.declared.layouts.CacheShape.{CacheShape}
@@ -43,7 +44,8 @@ export_code is_open fits takes other = if is_open then (if fits then (if takes t
 
 -- 1. Phases.
 
-pub record BeginsForC (old : DeskState) (session number : ℕ) (key value other : Bytes) (before out : PhaseOut) (new : DeskState) : Type 0 where
+pub record BeginsForC (old : DeskState) (session number : ℕ) (key value other : Bytes) (before out : PhaseOut)
+    (new : DeskState) : Type 0 where
   pub reply : Reply
   pub moves : MovesMade
   pub answer : FirstAnswer

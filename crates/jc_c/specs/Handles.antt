@@ -1,4 +1,4 @@
--- The desk that a handle owns.
+-- The desk that a handle owns. No contract of a public function cites this.
 --     heap           the allocator of C
 --     handle_owns    an open handle owns the box of its desk, at its pointer; one that isn't open owns nothing
 use Rattle.std.specs.Prelude.{Bool, true, false}

@@ -43,7 +43,14 @@ use Rattle.jc_stripe.specs.declared.desk.answers.PickUpAnswer.TheVariants as pic
 use Rattle.jc_stripe.specs.declared.desk.answers.SweepAnswer.{SweepAnswer}
 use Rattle.jc_stripe.specs.declared.desk.answers.SweepAnswer.TheVariants as sweep_answers
 use Rattle.jc_stripe.specs.ValuesMoved.{MovesMade}
-use Rattle.jc_c.specs.declared.codes.TheConstants.{JC_NEXT_AGAIN, JC_ASK_LOAD, JC_REFUSAL_BUSY, JC_NEXT_DONE, JC_MOVE_EVICTED, JC_NEXT_FULL, JC_ASK_DELETE, JC_ASK_WRITE, JC_REFUSAL_HISTORY_FULL, JC_NEXT_JOINED, JC_MOVE_STORED, JC_MOVE_REMOVED, JC_REPLY_LOADER_FAILED, JC_REPLY_NO, JC_NEXT_NOT_YET, JC_REPLY_NULL, JC_REFUSAL_OTHER, JC_REPLY_OTHER_FAULT, JC_MOVE_OWN_EVICTED_FULL, JC_MOVE_OWN_EVICTED_MEMORY, JC_MOVE_INVALIDATED, JC_NEXT_SHUT, JC_REPLY_PROCESSOR_FAILED, JC_NEXT_REFUSED, JC_ASK_PROCESS, JC_REFUSAL_TOO_MANY_IN_FLIGHT, JC_REFUSAL_TOO_MANY_JOINERS, JC_REPLY_UNIT, JC_REPLY_VALUE, JC_REPLY_WRITER_FAILED, JC_REPLY_YES}
+use Rattle.jc_c.specs.declared.codes.TheConstants.{JC_NEXT_AGAIN, JC_ASK_LOAD, JC_REFUSAL_BUSY, JC_NEXT_DONE, JC_MOVE_EVICTED}
+use Rattle.jc_c.specs.declared.codes.TheConstants.{JC_NEXT_FULL, JC_ASK_DELETE, JC_ASK_WRITE, JC_REFUSAL_HISTORY_FULL}
+use Rattle.jc_c.specs.declared.codes.TheConstants.{JC_NEXT_JOINED, JC_MOVE_STORED, JC_MOVE_REMOVED, JC_REPLY_LOADER_FAILED}
+use Rattle.jc_c.specs.declared.codes.TheConstants.{JC_REPLY_NO, JC_NEXT_NOT_YET, JC_REPLY_NULL, JC_REFUSAL_OTHER}
+use Rattle.jc_c.specs.declared.codes.TheConstants.{JC_REPLY_OTHER_FAULT, JC_MOVE_OWN_EVICTED_FULL, JC_MOVE_OWN_EVICTED_MEMORY}
+use Rattle.jc_c.specs.declared.codes.TheConstants.{JC_MOVE_INVALIDATED, JC_NEXT_SHUT, JC_REPLY_PROCESSOR_FAILED, JC_NEXT_REFUSED}
+use Rattle.jc_c.specs.declared.codes.TheConstants.{JC_ASK_PROCESS, JC_REFUSAL_TOO_MANY_IN_FLIGHT, JC_REFUSAL_TOO_MANY_JOINERS}
+use Rattle.jc_c.specs.declared.codes.TheConstants.{JC_REPLY_UNIT, JC_REPLY_VALUE, JC_REPLY_WRITER_FAILED, JC_REPLY_YES}
 use Rattle.jc_c.specs.declared.layouts.InlineValue.{InlineValue}
 use Rattle.jc_c.specs.declared.layouts.InlineKey.{InlineKey}
 use Rattle.jc_c.specs.declared.layouts.PhaseOut.{PhaseOut}
@@ -88,7 +95,8 @@ own_number (Some cause.Full) = JC_MOVE_OWN_EVICTED_FULL
 own_number (Some cause.Memory) = JC_MOVE_OWN_EVICTED_MEMORY
 own_number (Some cause.Invalidated) = JC_MOVE_INVALIDATED
 
-pub record ShowsMoves (moves : MovesMade) (flags : ℕ) (left : InlineValue) (victim : InlineKey) (evicted : InlineValue) : Type 0 where
+pub record ShowsMoves (moves : MovesMade) (flags : ℕ) (left : InlineValue) (victim : InlineKey)
+    (evicted : InlineValue) : Type 0 where
   pub flags_are : flags ≡ (if moves.kept then JC_MOVE_STORED else 0) + (if is_some moves.left then JC_MOVE_REMOVED else 0)
       + (if is_some moves.victim then JC_MOVE_EVICTED else 0) + own_number moves.own
   pub left_is : ShowsValue moves.left left

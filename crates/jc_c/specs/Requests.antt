@@ -22,7 +22,8 @@
 --     processor_out         the answers of the loader, the processor and the writer
 --     processed_fits        the fields of all three answers fit
 --     entry_fits            these bytes may be an entry
-use Rattle.std.specs.Prelude.{◌==◌, ◌&&◌, ◌||◌, ℕ, length, Bool, true, false, not, nat_le, nat_lt, Option, None, Some, if◌then◌else◌}
+use Rattle.std.specs.Prelude.{◌==◌, ◌&&◌, ◌||◌, ℕ, length, Bool, true, false, not, nat_le, nat_lt, Option, None, Some}
+use Rattle.std.specs.Prelude.{if◌then◌else◌}
 use Rattle.jc_types.specs.declared.limits.TheConstants.{KEY_MAX, VALUE_MAX}
 use Rattle.jc_model.specs.declared.event.Op.{Op}
 use Rattle.jc_model.specs.declared.event.Op.TheVariants as op
@@ -36,7 +37,12 @@ use Rattle.jc_model.specs.declared.event.ProcessAnswer.TheVariants as process
 use Rattle.jc_model.specs.declared.event.Effect.{Effect}
 use Rattle.jc_model.specs.declared.event.Effect.TheVariants as effect
 use Rattle.jc_model.specs.Cache.{Bytes}
-use Rattle.jc_c.specs.declared.codes.TheConstants.{JC_OP_CLEAR_KEY, JC_OP_CONTAINS_KEY, JC_ANSWER_FAILED, JC_ANSWER_FOUND, JC_OP_GET, JC_OP_GET_AND_PUT, JC_OP_GET_AND_REMOVE, JC_OP_GET_AND_REPLACE, JC_OP_INVOKE, JC_EFFECT_KEEP, JC_OP_LOAD, JC_ANSWER_NOTHING, JC_ANSWER_NOT_ASKED, JC_EFFECT_FAILED, JC_OP_PUT, JC_OP_PUT_IF_ABSENT, JC_OP_RELOAD, JC_OP_REMOVE, JC_OP_REMOVE_IF, JC_OP_REPLACE, JC_OP_REPLACE_IF, JC_EFFECT_SET, JC_EFFECT_REMOVE, JC_ANSWER_WRITTEN}
+use Rattle.jc_c.specs.declared.codes.TheConstants.{JC_OP_CLEAR_KEY, JC_OP_CONTAINS_KEY, JC_ANSWER_FAILED, JC_ANSWER_FOUND}
+use Rattle.jc_c.specs.declared.codes.TheConstants.{JC_OP_GET, JC_OP_GET_AND_PUT, JC_OP_GET_AND_REMOVE, JC_OP_GET_AND_REPLACE}
+use Rattle.jc_c.specs.declared.codes.TheConstants.{JC_OP_INVOKE, JC_EFFECT_KEEP, JC_OP_LOAD, JC_ANSWER_NOTHING, JC_ANSWER_NOT_ASKED}
+use Rattle.jc_c.specs.declared.codes.TheConstants.{JC_EFFECT_FAILED, JC_OP_PUT, JC_OP_PUT_IF_ABSENT, JC_OP_RELOAD, JC_OP_REMOVE}
+use Rattle.jc_c.specs.declared.codes.TheConstants.{JC_OP_REMOVE_IF, JC_OP_REPLACE, JC_OP_REPLACE_IF, JC_EFFECT_SET}
+use Rattle.jc_c.specs.declared.codes.TheConstants.{JC_EFFECT_REMOVE, JC_ANSWER_WRITTEN}
 use Rattle.jc_c.specs.declared.layouts.InlineEntry.{InlineEntry}
 use Rattle.jc_c.specs.declared.layouts.ProcessorAnswers.{ProcessorAnswers}
 use Rattle.jc_c.specs.Layouts.{inline_value, is_inline_key, is_inline_value}

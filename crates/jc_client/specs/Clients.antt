@@ -52,7 +52,8 @@ module _ {X : Type 0} (works : ClientState → X → ClientState → Type 0) whe
     pub ended : Ended (record opened { given = brought })
     pub each : WorksEach (new_clients 0 brought) returned
 
-pub record IsServeRefusal {I J : Type 0} {D : I → Type 0} {E : J → Type 0} (config : Config) (outside : List (Outside I J D E)) (refusal : Refusal) : Type 0 where
+pub record IsServeRefusal {I J : Type 0} {D : I → Type 0} {E : J → Type 0} (config : Config) (outside : List (Outside I J D E))
+    (refusal : Refusal) : Type 0 where
   pub why : (check config ≡ Err refusal)
       ⊎ ((refusal ≡ OutOfMemory)
       ⊎ ((opened : CacheOwnerState) × (left : CacheOwnerState) × OpensWith true config [] opened

@@ -41,7 +41,8 @@
 --     HelpIsShown               `--help` and `-h` ask for help, before a subcommand and after it
 --     HelpWordIsShownOrWrong    `help` asks for help, or is wrong: `clap`'s contract leaves it open
 --     VersionIsShown            `--version` and `-V` ask for the version
-use Rattle.std.specs.Prelude.{◌≡◌, ◌≢◌, ◌<◌, ◌^◌, ℕ, List, [], ◌∷◌, Bool, true, false, codes, pos, Option, None, Some, option_map, ◌*◌, ◌&&◌, ◌||◌, is_none, nat_lt, if◌then◌else◌}
+use Rattle.std.specs.Prelude.{◌≡◌, ◌≢◌, ◌<◌, ◌^◌, ℕ, List, [], ◌∷◌, Bool, true, false, codes, pos, Option, None, Some, option_map}
+use Rattle.std.specs.Prelude.{◌*◌, ◌&&◌, ◌||◌, is_none, nat_lt, if◌then◌else◌}
 use Rattle.std.specs.Str.{bytes_eq}
 use Rattle.std.specs.Str.Parse.{IsNumeral, digits_value, without_leading_plus}
 use Rattle.clap.specs.Walk.{Row, Rule, Text, one_of}
@@ -62,7 +63,8 @@ use Rattle.jc_commands.specs.declared.plan.TheConstants.{WORKERS_MAX, ROUNDS_MAX
 -- 1. The command.
 
 abbrev pub option_rule : Text → ValueParser → Bool → Rule
-option_rule name parser required = record (new_rule name) { long = Some name; value_names = 1; required = required; parser = Some parser }
+option_rule name parser required =
+    record (new_rule name) { long = Some name; value_names = 1; required = required; parser = Some parser }
 
 abbrev pub explore : App
 explore = with_rule (new_app (codes "explore")) (option_rule (codes "states") (Signed (pos 1) (pos STATES_MAX)) false)
@@ -80,17 +82,20 @@ word_rule name = option_rule name String false
 
 abbrev pub judging : App
 judging =
-    with_rule (with_rule (with_rule (new_app (codes "check")) (word_rule (codes "rules"))) (word_rule (codes "order"))) (word_rule (codes "evict"))
+    with_rule (with_rule (with_rule (new_app (codes "check")) (word_rule (codes "rules"))) (word_rule (codes "order")))
+    (word_rule (codes "evict"))
 
 abbrev pub check : App
 check =
-    with_rule (with_rule judging (word_rule (codes "witness"))) (option_rule (codes "states") (Signed (pos 1) (pos KEY_STATES_MAX)) false)
+    with_rule (with_rule judging (word_rule (codes "witness")))
+    (option_rule (codes "states") (Signed (pos 1) (pos KEY_STATES_MAX)) false)
 
 abbrev pub player : App
 player =
     let app = new_app (codes "jcache") in
     with_subcommand
-    (with_subcommand (record app { top = record app.top { has_version = true; subcommand_required = true } }) (new_app (codes "run")).top)
+    (with_subcommand (record app { top = record app.top { has_version = true; subcommand_required = true } })
+    (new_app (codes "run")).top)
     (new_app (codes "shell")).top
 
 abbrev pub player_of_threads : App
@@ -110,12 +115,14 @@ subcommand_at words = subcommand_of program words
 abbrev pub SpellsOr : (default : ℕ) → Option Text → ℕ → Type 0
 SpellsOr default None number = number ≡ default
 SpellsOr default (Some text) number =
-    IsNumeral 10 (without_leading_plus text) → digits_value 10 (without_leading_plus text) < 2 ^ 32 → number ≡ digits_value 10 (without_leading_plus text)
+    IsNumeral 10 (without_leading_plus text) → digits_value 10 (without_leading_plus text) < 2 ^ 32
+    → number ≡ digits_value 10 (without_leading_plus text)
 
 abbrev pub SpellsIf : Option Text → Option ℕ → Type 0
 SpellsIf None number = number ≡ None
 SpellsIf (Some text) number =
-    IsNumeral 10 (without_leading_plus text) → digits_value 10 (without_leading_plus text) < 2 ^ 32 → number ≡ Some (digits_value 10 (without_leading_plus text))
+    IsNumeral 10 (without_leading_plus text) → digits_value 10 (without_leading_plus text) < 2 ^ 32
+    → number ≡ Some (digits_value 10 (without_leading_plus text))
 
 abbrev pub choice_of : Text → Text → Option Text → Choice
 choice_of first second None = First
@@ -130,7 +137,8 @@ is_wrong_choice Second = false
 is_wrong_choice Wrong = true
 
 abbrev pub is_wrong : CheckPlan → Bool
-is_wrong plan = is_wrong_choice plan.rules || is_wrong_choice plan.order || is_wrong_choice plan.evict || is_wrong_choice plan.witness
+is_wrong plan =
+    is_wrong_choice plan.rules || is_wrong_choice plan.order || is_wrong_choice plan.evict || is_wrong_choice plan.witness
 
 pub record IsCheckPlan (options : List Row) (plan : CheckPlan) : Type 0 where
   pub rules : plan.rules ≡ choice_of (codes "store") (codes "table") (first_of (codes "rules") options)
@@ -163,10 +171,15 @@ IsAsked found (task.Check plan) =
 -- 3. Words that are written out.
 
 abbrev pub RunIsRight : Type 0
-RunIsRight = (name : List ℕ) → (faults_at (name ∷ codes "run" ∷ []) ≡ []) × ((t : Task) → IsAsked (subcommand_at (name ∷ codes "run" ∷ [])) t → t ≡ task.Run)
+RunIsRight =
+    (name : List ℕ)
+    → (faults_at (name ∷ codes "run" ∷ []) ≡ []) × ((t : Task) → IsAsked (subcommand_at (name ∷ codes "run" ∷ [])) t → t ≡ task.Run)
 
 abbrev pub ShellIsRight : Type 0
-ShellIsRight = (name : List ℕ) → (faults_at (name ∷ codes "shell" ∷ []) ≡ []) × ((t : Task) → IsAsked (subcommand_at (name ∷ codes "shell" ∷ [])) t → t ≡ task.Shell)
+ShellIsRight =
+    (name : List ℕ)
+    → (faults_at (name ∷ codes "shell" ∷ []) ≡ [])
+    × ((t : Task) → IsAsked (subcommand_at (name ∷ codes "shell" ∷ [])) t → t ≡ task.Shell)
 
 abbrev pub ExploresUpTo : List (List ℕ) → ℕ → Type 0
 ExploresUpTo words states = (faults_at words ≡ []) × ((t : Task) → IsAsked (subcommand_at words) t → t ≡ task.Explore states)
@@ -181,7 +194,10 @@ abbrev pub AsksToCheck : List (List ℕ) → CheckPlan → Type 0
 AsksToCheck words plan = (faults_at words ≡ []) × ((t : Task) → IsAsked (subcommand_at words) t → t ≡ task.Check plan)
 
 abbrev pub CheckIsRight : Type 0
-CheckIsRight = (name : List ℕ) → AsksToCheck (name ∷ codes "check" ∷ []) (record { rules = First; order = First; evict = First; witness = First; states = 500000 })
+CheckIsRight =
+    (name : List ℕ)
+    → AsksToCheck (name ∷ codes "check" ∷ [])
+    (record { rules = First; order = First; evict = First; witness = First; states = 500000 })
 
 abbrev pub is_too_much : Plan → Bool
 is_too_much plan = is_none plan.history && nat_lt INCREMENTS_MAX (plan.workers * plan.rounds)
@@ -191,9 +207,12 @@ AsksForThreads words plan = (faults_at words ≡ []) × ((t : Task) → IsAsked 
 
 abbrev pub ThreadsIsRight : Type 0
 ThreadsIsRight = (name : List ℕ)
-    → AsksForThreads (name ∷ codes "threads" ∷ codes "--workers" ∷ codes "4" ∷ codes "--rounds" ∷ codes "100" ∷ []) (record { workers = 4; rounds = 100; history = None })
-    × AsksForThreads (name ∷ codes "threads" ∷ codes "--rounds=10000" ∷ codes "--workers=31" ∷ []) (record { workers = 31; rounds = 10000; history = None })
-    × AsksForThreads (name ∷ codes "threads" ∷ codes "--rounds=10000" ∷ codes "--workers=31" ∷ codes "--history=16" ∷ []) (record { workers = 31; rounds = 10000; history = Some 16 })
+    → AsksForThreads (name ∷ codes "threads" ∷ codes "--workers" ∷ codes "4" ∷ codes "--rounds" ∷ codes "100" ∷ [])
+    (record { workers = 4; rounds = 100; history = None })
+    × AsksForThreads (name ∷ codes "threads" ∷ codes "--rounds=10000" ∷ codes "--workers=31" ∷ [])
+    (record { workers = 31; rounds = 10000; history = None })
+    × AsksForThreads (name ∷ codes "threads" ∷ codes "--rounds=10000" ∷ codes "--workers=31" ∷ codes "--history=16" ∷ [])
+    (record { workers = 31; rounds = 10000; history = Some 16 })
 
 abbrev pub OptionMissingIsWrong : Type 0
 OptionMissingIsWrong = (name : List ℕ)
@@ -207,8 +226,10 @@ NumberIsWrong = (name : List ℕ)
     × (faults_at (name ∷ codes "threads" ∷ codes "--workers=1" ∷ codes "--rounds=0" ∷ []) ≡ kind.ValueValidation ∷ [])
     × (faults_at (name ∷ codes "threads" ∷ codes "--workers=1" ∷ codes "--rounds=10001" ∷ []) ≡ kind.ValueValidation ∷ [])
     × (faults_at (name ∷ codes "threads" ∷ codes "--workers=all" ∷ codes "--rounds=1" ∷ []) ≡ kind.ValueValidation ∷ [])
-    × (faults_at (name ∷ codes "threads" ∷ codes "--workers=1" ∷ codes "--rounds=1" ∷ codes "--history=15" ∷ []) ≡ kind.ValueValidation ∷ [])
-    × (faults_at (name ∷ codes "threads" ∷ codes "--workers=1" ∷ codes "--rounds=1" ∷ codes "--history=65537" ∷ []) ≡ kind.ValueValidation ∷ [])
+    × (faults_at (name ∷ codes "threads" ∷ codes "--workers=1" ∷ codes "--rounds=1" ∷ codes "--history=15" ∷ [])
+    ≡ kind.ValueValidation ∷ [])
+    × (faults_at (name ∷ codes "threads" ∷ codes "--workers=1" ∷ codes "--rounds=1" ∷ codes "--history=65537" ∷ [])
+    ≡ kind.ValueValidation ∷ [])
     × (faults_at (name ∷ codes "explore" ∷ codes "--states=0" ∷ []) ≡ kind.ValueValidation ∷ [])
     × (faults_at (name ∷ codes "explore" ∷ codes "--states=1000001" ∷ []) ≡ kind.ValueValidation ∷ [])
     × (faults_at (name ∷ codes "explore" ∷ codes "--states=all" ∷ []) ≡ kind.ValueValidation ∷ [])

@@ -23,6 +23,9 @@ out_of (Written done) = write_only done.answer
 out_of (Processed done report) = process_out done report
 
 abbrev pub IsAnswered : TicketClaim → CallAnswer → Type 0
-IsAnswered ticket (Loaded done) = (asks_loader ticket.reservation.first ≡ true) × (done.ask ≡ claim_of ticket.reservation) × (done.origin ≡ Live)
-IsAnswered ticket (Written done) = (asks_writer ticket.reservation.first ≡ true) × (done.ask ≡ claim_of ticket.reservation) × (done.origin ≡ Live)
-IsAnswered ticket (Processed done report) = (asks_processor ticket.reservation.first ≡ true) × (done.ask ≡ claim_of ticket.reservation) × (done.origin ≡ Live)
+IsAnswered ticket (Loaded done) =
+    (asks_loader ticket.reservation.first ≡ true) × (done.ask ≡ claim_of ticket.reservation) × (done.origin ≡ Live)
+IsAnswered ticket (Written done) =
+    (asks_writer ticket.reservation.first ≡ true) × (done.ask ≡ claim_of ticket.reservation) × (done.origin ≡ Live)
+IsAnswered ticket (Processed done report) =
+    (asks_processor ticket.reservation.first ≡ true) × (done.ask ≡ claim_of ticket.reservation) × (done.origin ≡ Live)

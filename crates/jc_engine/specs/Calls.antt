@@ -49,7 +49,8 @@ use Rattle.jc_engine.specs.Asking.{AsksLoader, AsksWriter, KeepsTypes, RunsProce
 
 -- 0. Who may call.
 
-pub record MayCallHere {I J : Type 0} {D : I → Type 0} {E : J → Type 0} (finds : State → Type 0) (key : Bytes) (agent : Agent I J D E) : Type 0 where
+pub record MayCallHere {I J : Type 0} {D : I → Type 0} {E : J → Type 0} (finds : State → Type 0) (key : Bytes)
+    (agent : Agent I J D E) : Type 0 where
   pub reservations : agent.counts.reservations ≡ 0
   pub joins : agent.counts.joins ≡ 0
   pub begins : (a : State) → finds a → BeginsIfClear agent.caller key a
@@ -67,7 +68,9 @@ module _ {G T I J : Type 0} {D : I → Type 0} {E : J → Type 0} (finds : G →
 
 -- 1. Up to where it is done, refused, or has somebody to ask, and from there on.
 
-pub record Enters {G T : Type 0} (takes gives : G → T → State → G → T → Type 0) (finds : G → T → State → Type 0) (caller : Caller) (key : Bytes) (op : Op) (g : G) (t : T) (result : Result (Option TicketClaim) Refusal) (reply : Reply) (h : G) (u : T) : Type 0 where
+pub record Enters {G T : Type 0} (takes gives : G → T → State → G → T → Type 0) (finds : G → T → State → Type 0) (caller : Caller)
+    (key : Bytes) (op : Op) (g : G) (t : T) (result : Result (Option TicketClaim) Refusal) (reply : Reply) (h : G)
+    (u : T) : Type 0 where
   pub row : List (State × State)
   pub lent : Row takes gives finds caller.session g t row h u
   pub did : EntersBy caller key op result reply row
@@ -99,13 +102,15 @@ pub record IsCall
     (loads : LoadRelation ((i : I) × D i)) (load_state : (i : I) × D i → List ℕ)
     (writes : WriteRelation ((j : J) × E j)) (write_state : (j : J) × E j → List ℕ)
     (takes gives : G → T → State → G → T → Type 0) (finds : G → T → State → Type 0)
-    (old : Agent I J D E) (key : Bytes) (op : Op) (g : G) (t : T) (ended : Result Reply Refusal) (new : Agent I J D E) (h : G) (u : T) : Type 0 where
+    (old : Agent I J D E) (key : Bytes) (op : Op) (g : G) (t : T) (ended : Result Reply Refusal) (new : Agent I J D E) (h : G)
+    (u : T) : Type 0 where
   pub row : List (State × State)
   pub lent : Row takes gives finds old.caller.session g t row h u
   pub asked : Out
   pub did : IsCallRow old.caller key op asked ended row
   pub loader : AsksLoader (boxed loads) (boxed load_state) old.hands.outside.loader key asked.load new.hands.outside.loader
-  pub writer : AsksWriter (boxed writes) (boxed write_state) old.hands.outside.writer key (change_wanted (state_found did) key op asked.process) asked.write new.hands.outside.writer
+  pub writer : AsksWriter (boxed writes) (boxed write_state) old.hands.outside.writer key
+      (change_wanted (state_found did) key op asked.process) asked.write new.hands.outside.writer
   pub types : KeepsTypes old new
   pub held : new.hands.held ≡ 0
   pub agent : new ≡ record old { counts = record old.counts { own = own_after old.counts.own ended }; hands = new.hands }
@@ -116,14 +121,16 @@ pub record IsInvocation
     (writes : WriteRelation ((j : J) × E j)) (write_state : (j : J) × E j → List ℕ)
     (processes : ProcessRelation (DynBox P Z F)) (process_state : DynBox P Z F → List ℕ)
     (takes gives : G → T → State → G → T → Type 0) (finds : G → T → State → Type 0)
-    (old : Agent I J D E) (key : Bytes) (args : List Bytes) (processor : DynBox P Z F) (g : G) (t : T) (ended : Result Reply Refusal) (new : Agent I J D E) (processor' : DynBox P Z F) (h : G) (u : T) : Type 0 where
+    (old : Agent I J D E) (key : Bytes) (args : List Bytes) (processor : DynBox P Z F) (g : G) (t : T)
+    (ended : Result Reply Refusal) (new : Agent I J D E) (processor' : DynBox P Z F) (h : G) (u : T) : Type 0 where
   pub call : IsCall loads load_state writes write_state takes gives finds old key Invoke g t ended new h u
   pub run : RunsProcessor processes process_state processor (state_found call.did) key args call.asked processor'
   pub type : processor'.vtable ≡ processor.vtable
 
 -- 3. A call that waits for nobody.
 
-module _ {G T : Type 0} (takes gives : G → T → State → G → T → Type 0) (finds : G → T → State → Type 0) (misses : G → T → G → T → Type 0) (caller : Caller) (key : Bytes) (op : Op) where
+module _ {G T : Type 0} (takes gives : G → T → State → G → T → Type 0) (finds : G → T → State → Type 0)
+    (misses : G → T → G → T → Type 0) (caller : Caller) (key : Bytes) (op : Op) where
   abbrev pub IsBusy : G → T → G → T → Type 0
   IsBusy g t h u = HasTried takes gives finds misses caller.session (StartWaits Alone caller key op) g t h u
 

@@ -38,17 +38,20 @@ module _ {G T I J : Type 0} {D : I → Type 0} {E : J → Type 0} where
     pub free : is_free access.gate.now access.token.now
     pub speaks : speaks_for access.token.now access.agent.now.caller.session
 
-  pub record FitsGate (finds : G → T → State → Type 0) (needs : State → Type 0) (who : ℕ) (access : Access G T I J D E) : Type 0 where
+  pub record FitsGate (finds : G → T → State → Type 0) (needs : State → Type 0) (who : ℕ)
+      (access : Access G T I J D E) : Type 0 where
     pub who_is : who ≡ access.agent.now.caller.session
     pub needs_it : (a : State) → finds access.gate.now access.token.now a → needs a
 
-  pub record MakesPhase (is_free : G → T → Type 0) (speaks_for : T → ℕ → Type 0) (old : Access G T I J D E) (counts : Counts) (new : Access G T I J D E) (Made : Type 0) : Type 0 where
+  pub record MakesPhase (is_free : G → T → Type 0) (speaks_for : T → ℕ → Type 0) (old : Access G T I J D E) (counts : Counts)
+      (new : Access G T I J D E) (Made : Type 0) : Type 0 where
     pub same : KeepsAccess old new
     pub ready : IsReady is_free speaks_for new
     pub agent : new.agent.now ≡ record old.agent.now { counts = counts }
     pub phase : Made
 
-  pub record MakesCall (is_free : G → T → Type 0) (speaks_for : T → ℕ → Type 0) (old new : Access G T I J D E) (Made : Type 0) : Type 0 where
+  pub record MakesCall (is_free : G → T → Type 0) (speaks_for : T → ℕ → Type 0) (old new : Access G T I J D E)
+      (Made : Type 0) : Type 0 where
     pub same : KeepsAccess old new
     pub ready : IsReady is_free speaks_for new
     pub call : Made
@@ -56,7 +59,8 @@ module _ {G T I J : Type 0} {D : I → Type 0} {E : J → Type 0} where
 abbrev pub MakesWay : State → State → Type 0
 MakesWay found left = (is_renewable found ≡ true → Renews found left) × (is_renewable found ≡ false → Sweeps found left)
 
-pub record IsLeft {G T : Type 0} (gives : G → T → State → G → T → Type 0) (finds : G → T → State → Type 0) (is_free : G → T → Type 0) (speaks_for : T → ℕ → Type 0) (g : G) (t : T) (found : State) (h : G) (u : T) : Type 0 where
+pub record IsLeft {G T : Type 0} (gives : G → T → State → G → T → Type 0) (finds : G → T → State → Type 0)
+    (is_free : G → T → Type 0) (speaks_for : T → ℕ → Type 0) (g : G) (t : T) (found : State) (h : G) (u : T) : Type 0 where
   pub left : State
   pub after : (session : ℕ) → ComesAfter session found left
   pub way : MakesWay found left
@@ -84,7 +88,8 @@ AreTries (p ∷ []) missed = MatchBool (is_renewable p.0) (missed ≡ 1) (missed
 AreTries (p ∷ (q ∷ [])) missed = (is_renewable p.0 ≡ true) × (missed ≡ 0)
 AreTries (p ∷ (q ∷ (r ∷ ps))) missed = ⊥
 
-module _ {G T : Type 0} (takes gives : G → T → State → G → T → Type 0) (finds : G → T → State → Type 0) (misses : G → T → G → T → Type 0) (session : ℕ) where
+module _ {G T : Type 0} (takes gives : G → T → State → G → T → Type 0) (finds : G → T → State → Type 0)
+    (misses : G → T → G → T → Type 0) (session : ℕ) where
   abbrev pub Misses : ℕ → G → T → G → T → Type 0
   Misses zero g t h u = (h ≡ g) × (u ≡ t)
   Misses (suc n) g t h u = (n ≡ 0) × misses g t h u × ((a : State) → finds h u a → finds g t a)

@@ -68,7 +68,8 @@ pub record SetsNext (Next : Option Bytes → Bytes → Type 0) (state : State) (
 
 abbrev pub AllSetNext : (Option Bytes → Bytes → Type 0) → State → Bytes → Type 0
 AllSetNext Next state key =
-    (place : ℕ) (event : Event) → slice_get (whole_history state) place ≡ Some event → event_key event ≡ key → SetsNext Next state key place event
+    (place : ℕ) (event : Event) → slice_get (whole_history state) place ≡ Some event → event_key event ≡ key
+    → SetsNext Next state key place event
 
 -- 3. The laws of increments.
 
@@ -77,19 +78,26 @@ next_times next zero entry = entry
 next_times next (suc n) entry = Some (next (next_times next n entry))
 
 abbrev pub LeavesNext : Type 0
-LeavesNext = (next : Option Bytes → Bytes) (state : State) (key : Bytes) → IsReached state → AllSetNext (λ entry value. value ≡ next entry) state key
+LeavesNext =
+    (next : Option Bytes → Bytes) (state : State) (key : Bytes) → IsReached state
+    → AllSetNext (λ entry value. value ≡ next entry) state key
     → entry_at state.cache key ≡ next_times next (count_at key (whole_history state)) (opening_entry state key)
 
 abbrev pub LeavesSum : Type 0
-LeavesSum = (number : Option Bytes → ℕ) (state : State) (key : Bytes) → IsReached state → AllSetNext (λ entry value. number (Some value) ≡ number entry + 1) state key
+LeavesSum =
+    (number : Option Bytes → ℕ) (state : State) (key : Bytes) → IsReached state
+    → AllSetNext (λ entry value. number (Some value) ≡ number entry + 1) state key
     → number (entry_at state.cache key) ≡ number (opening_entry state key) + count_at key (whole_history state)
 
 -- 4. The law of events.
 
 abbrev pub IsByTable : Config → Event → Type 0
-IsByTable config (Step caller op key out None reply) = (entry : Option Bytes) × (answers_fit config op entry out ≡ true) × (reply ≡ reply_after op entry out)
+IsByTable config (Step caller op key out None reply) =
+    (entry : Option Bytes) × (answers_fit config op entry out ≡ true) × (reply ≡ reply_after op entry out)
 IsByTable config (Step caller op key out (Some shared_with) reply) = op ≡ Get
 IsByTable config (Evict key cause) = Unit {0}
 
 abbrev pub EventsByTable : Type 0
-EventsByTable = (state : State) (place : ℕ) (event : Event) → IsReached state → slice_get (whole_history state) place ≡ Some event → IsByTable state.config event
+EventsByTable =
+    (state : State) (place : ℕ) (event : Event) → IsReached state → slice_get (whole_history state) place ≡ Some event
+    → IsByTable state.config event

@@ -12,4 +12,5 @@ use Rattle.jc_stripe.specs.Generations.{whole_history}
 abbrev pub IsNext : State → Bytes → ℕ → List Event → Type 0
 IsNext state key place history =
     (place ≡ length (whole_history state))
-    ⊎ ((place ≡ length (whole_history state) + 1) × (entry_at state.cache key ≡ None) × ((victim : Bytes) × (slice_get history (length (whole_history state)) ≡ Some (Evict victim Full))))
+    ⊎ ((place ≡ length (whole_history state) + 1) × (entry_at state.cache key ≡ None)
+    × ((victim : Bytes) × (slice_get history (length (whole_history state)) ≡ Some (Evict victim Full))))

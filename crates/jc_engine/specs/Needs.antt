@@ -75,7 +75,8 @@ abbrev pub is_blocked : State → Bool
 is_blocked state = is_renewable state || (state.shut && has_place state)
 
 abbrev pub can_start : How → State → Caller → Bytes → Op → Bool
-can_start how state caller key op = is_clear state caller key && not (is_blocked state) && not (is_alone how && asks_outside state key op)
+can_start how state caller key op =
+    is_clear state caller key && not (is_blocked state) && not (is_alone how && asks_outside state key op)
 
 abbrev pub is_waited_out : Begun → Bool
 is_waited_out (begun.Refused refusal) = is_put_off refusal
@@ -102,7 +103,8 @@ pub record IsPutOff (how : How) (caller : Caller) (key : Bytes) (op : Op) (state
   pub put_off : puts_off how (begun.Refused refusal) ≡ true
 
 abbrev pub CannotHit : Caller → Bytes → State → Type 0
-CannotHit caller key state = (is_clear state caller key ≡ false) ⊎ ((may_hit state caller.call key ≡ false) ⊎ (entry_at state.cache key ≡ None))
+CannotHit caller key state =
+    (is_clear state caller key ≡ false) ⊎ ((may_hit state caller.call key ≡ false) ⊎ (entry_at state.cache key ≡ None))
 
 pub record HasMissed (caller : Caller) (key : Bytes) (before after : State) : Type 0 where
   pub same : after ≡ before

@@ -39,7 +39,8 @@ pub record OneStep (old : State) (caller : Caller) (key : Bytes) (op : Op) (out 
 
 abbrev pub EndsCall : State → Caller → Bytes → Op → Out → Result Reply Refusal → State → Type 0
 EndsCall old caller key op out (Ok reply) new = (first_refusal old caller key op ≡ None) × OneStep old caller key op out reply new
-EndsCall old caller key op out (Err refusal) new = (first_refusal old caller key op ≡ Some refusal) × (out ≡ nothing_said) × (new ≡ old)
+EndsCall old caller key op out (Err refusal) new =
+    (first_refusal old caller key op ≡ Some refusal) × (out ≡ nothing_said) × (new ≡ old)
 
 -- a stripe that isn't shut stays
 abbrev pub AreSweeps : ℕ → State → State → Type 0
@@ -50,7 +51,8 @@ pub record IsOwnedCall
     {I J : Type 0} {D : I → Type 0} {E : J → Type 0}
     (loads : LoadRelation ((i : I) × D i)) (load_state : (i : I) × D i → List ℕ)
     (writes : WriteRelation ((j : J) × E j)) (write_state : (j : J) × E j → List ℕ)
-    (old : Agent I J D E) (key : Bytes) (op : Op) (owner : Option State) (ended : Result Reply Refusal) (new : Agent I J D E) (owner' : Option State) : Type 0 where
+    (old : Agent I J D E) (key : Bytes) (op : Op) (owner : Option State) (ended : Result Reply Refusal) (new : Agent I J D E)
+    (owner' : Option State) : Type 0 where
   pub was_in : State
   pub sweeps : ℕ
   pub before : State
@@ -61,7 +63,8 @@ pub record IsOwnedCall
   pub is : owner' ≡ Some after
   pub ends : EndsCall before old.caller key op out ended after
   pub loader : AsksLoader (boxed loads) (boxed load_state) old.hands.outside.loader key out.load new.hands.outside.loader
-  pub writer : AsksWriter (boxed writes) (boxed write_state) old.hands.outside.writer key (change_wanted before key op out.process) out.write new.hands.outside.writer
+  pub writer : AsksWriter (boxed writes) (boxed write_state) old.hands.outside.writer key (change_wanted before key op out.process)
+      out.write new.hands.outside.writer
   pub types : KeepsTypes old new
   pub held : new.hands.held ≡ 0
   pub agent : new ≡ record old { counts = record old.counts { own = own_after old.counts.own ended }; hands = new.hands }
@@ -71,7 +74,8 @@ pub record IsOwnedInvocation
     (loads : LoadRelation ((i : I) × D i)) (load_state : (i : I) × D i → List ℕ)
     (writes : WriteRelation ((j : J) × E j)) (write_state : (j : J) × E j → List ℕ)
     (processes : ProcessRelation (DynBox P Z F)) (process_state : DynBox P Z F → List ℕ)
-    (old : Agent I J D E) (key : Bytes) (args : List Bytes) (processor : DynBox P Z F) (owner : Option State) (ended : Result Reply Refusal) (new : Agent I J D E) (processor' : DynBox P Z F) (owner' : Option State) : Type 0 where
+    (old : Agent I J D E) (key : Bytes) (args : List Bytes) (processor : DynBox P Z F) (owner : Option State)
+    (ended : Result Reply Refusal) (new : Agent I J D E) (processor' : DynBox P Z F) (owner' : Option State) : Type 0 where
   pub call : IsOwnedCall loads load_state writes write_state old key Invoke owner ended new owner'
   pub run : RunsProcessor processes process_state processor call.before key args call.out processor'
   pub type : processor'.vtable ≡ processor.vtable

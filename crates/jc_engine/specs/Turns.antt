@@ -47,7 +47,8 @@ abbrev pub StartWaits : How → Caller → Bytes → Op → State → State → 
 StartWaits how caller key op = HasWaited (λ a. IsTrue (can_start how a caller key op)) (IsPutOff how caller key op)
 
 abbrev pub starting : Caller → Bytes → Op → Begun → Turn
-starting caller key op begun = turn_of (λ a b. StartWaits Waits caller key op a b ⊎ ((op ≡ Get) × HasMissed caller key a b)) (Starts caller key op begun)
+starting caller key op begun =
+    turn_of (λ a b. StartWaits Waits caller key op a b ⊎ ((op ≡ Get) × HasMissed caller key a b)) (Starts caller key op begun)
 
 abbrev pub trying : Caller → Bytes → Op → Begun → Turn
 trying caller key op begun = turn_of (StartWaits Alone caller key op) (StartsBy Alone caller key op begun)
@@ -71,7 +72,8 @@ module _ (caller : Caller) (key : Bytes) (op : Op) where
 
   abbrev pub AreRejoins : ℕ → List (State × State) → Type 0
   AreRejoins zero row = row ≡ []
-  AreRejoins (suc n) row = (before : List (State × State)) × (last : List (State × State)) × (row ≡ before ++ last) × AreRejoins n before × IsRejoin last
+  AreRejoins (suc n) row =
+      (before : List (State × State)) × (last : List (State × State)) × (row ≡ before ++ last) × AreRejoins n before × IsRejoin last
 
   pub record IsBegunRow (begun : Begun) (row : List (State × State)) : Type 0 where
     pub rounds : ℕ
@@ -84,11 +86,14 @@ module _ (caller : Caller) (key : Bytes) (op : Op) where
 abbrev pub EndsBy : Begun → Out → Result Reply Refusal → List (State × State) → Type 0
 EndsBy (begun.Done done) asked ended row = (ended ≡ Ok done.reply) × (asked ≡ nothing_said) × (row ≡ [])
 EndsBy (begun.Refused refusal) asked ended row = (ended ≡ Err refusal) × (asked ≡ nothing_said) × (row ≡ [])
-EndsBy (begun.Asks ticket) asked ended row = (done : StepDone) × (ended ≡ Ok done.reply) × IsTurn (committing ticket.reservation asked done) row
+EndsBy (begun.Asks ticket) asked ended row =
+    (done : StepDone) × (ended ≡ Ok done.reply) × IsTurn (committing ticket.reservation asked done) row
 EndsBy (begun.Joined join) asked ended row =
-    (reply : Reply) × (place : ℕ) × (shared_with : ℕ) × (ended ≡ Ok reply) × (asked ≡ nothing_said) × IsTurn (picking join (polled.Answer reply place shared_with)) row
+    (reply : Reply) × (place : ℕ) × (shared_with : ℕ) × (ended ≡ Ok reply) × (asked ≡ nothing_said)
+    × IsTurn (picking join (polled.Answer reply place shared_with)) row
 
-pub record IsCallRow (caller : Caller) (key : Bytes) (op : Op) (asked : Out) (ended : Result Reply Refusal) (row : List (State × State)) : Type 0 where
+pub record IsCallRow (caller : Caller) (key : Bytes) (op : Op) (asked : Out) (ended : Result Reply Refusal)
+    (row : List (State × State)) : Type 0 where
   pub begun : Begun
   pub start : List (State × State)
   pub last : List (State × State)
@@ -105,7 +110,8 @@ pub record HasLookedFirst (caller : Caller) (key : Bytes) (row : List (State × 
 
 -- 3. The states that decide a call.
 
-abbrev pub state_of_step : (b : Begun) (asked : Out) (ended : Result Reply Refusal) (row : List (State × State)) → State → EndsBy b asked ended row → State
+abbrev pub state_of_step : (b : Begun) (asked : Out) (ended : Result Reply Refusal) (row : List (State × State)) → State
+    → EndsBy b asked ended row → State
 state_of_step (begun.Asks ticket) asked ended row first ends = ends.2.found
 state_of_step (begun.Done done) asked ended row first ends = first
 state_of_step (begun.Refused refusal) asked ended row first ends = first

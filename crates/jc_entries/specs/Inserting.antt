@@ -1,4 +1,4 @@
--- An insertion, by its answer.
+-- An insertion into the entries of a stripe, by its answer: what was evicted for it, or why nothing was inserted.
 --     has_room_for            the key has an entry already, or fewer entries are kept than may be
 --     InsertsInRoom           the entry is the first, and no other was evicted
 --     InsertsAfterEviction    the entry is the first, and the victim was evicted for it
@@ -6,7 +6,8 @@
 --     FindsNoMemory           an allocation for a new entry failed: without room the victim was evicted, and nothing else has
 --                             changed
 --     Inserts                 the case of an answer
-use Rattle.std.specs.Prelude.{◌≡◌, ◌||◌, nat_lt, Bool, true, false, Option, None, Some, IsSome, is_some, List, ◌∷◌, length, if◌then◌else◌}
+use Rattle.std.specs.Prelude.{◌≡◌, ◌||◌, nat_lt, Bool, true, false, Option, None, Some, IsSome, is_some, List, ◌∷◌, length}
+use Rattle.std.specs.Prelude.{if◌then◌else◌}
 use Rattle.std.specs.FinMap as finite
 use Rattle.jc_model.specs.declared.event.Cause.TheVariants.{Full, Memory, Invalidated}
 use Rattle.jc_model.specs.Cache.{Bytes, key_cmp}

@@ -1,4 +1,4 @@
--- The entry that was used last.
+-- The entry of a stripe that was used last.
 --     most_recent    the value of the most recently used entry, or none if there is no entry
 use Rattle.std.specs.Prelude.{Option, None, Some, List, [], ◌∷◌}
 use Rattle.jc_model.specs.Cache.{Bytes}

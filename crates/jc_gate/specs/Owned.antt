@@ -1,4 +1,4 @@
--- The stripe of a plain owner, at home or out.
+-- The stripe of a plain owner, at home or out. No contract of a public function cites this.
 --     state_in      the state of the stripe in a box, if there is one
 --     OwnerState    the state of its stripe, or none while it is out, and the state in which it was taken last
 use Rattle.std.specs.Prelude.{Option, None, Some}

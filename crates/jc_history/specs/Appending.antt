@@ -1,4 +1,4 @@
--- The effect of an encoding function on the bytes.
+-- What each function that encodes a part of an event does to the bytes of a history. No contract of a public function cites this.
 --     Appends    these bytes are appended, at most `most` of them, and the capacity doesn't shrink
 use Rattle.std.specs.Prelude.{◌≡◌, ℕ, ◌+◌, ◌≤◌, List, ◌++◌, vec_len, vec_capacity}
 use Rattle.std.specs.Global.{Vec}

@@ -1,5 +1,5 @@
--- Decoders of bytes. Each reads from the beginning, and gives the thing and the bytes after it. It also gives something if the
--- bytes are no encoding.
+-- How the events of a history are read back: decoders of bytes. Each reads from the beginning, and gives the thing and the bytes
+-- after it. It also gives something if the bytes are no encoding. No contract of a public function cites this.
 --     Decoder            a decoder of an X: it gives the X and the bytes after it
 --     ◌>>=◌              one decoder, and then the one that follows from what the first gave
 --     give               the decoder that reads nothing and gives this
@@ -24,11 +24,14 @@
 --     decode_reply       a reply, after these outside answers
 --     decode_step        a step, after its tag
 --     decode_event       an event
-use Rattle.std.specs.Prelude.{ℕ, ◌==◌, ◌&&◌, nat_le, true, false, List, [], ◌∷◌, length, take, drop, Option, None, Some, if◌then◌else◌}
+use Rattle.std.specs.Prelude.{ℕ, ◌==◌, ◌&&◌, nat_le, true, false, List, [], ◌∷◌, length, take, drop, Option, None, Some}
+use Rattle.std.specs.Prelude.{if◌then◌else◌}
 use Rattle.std.specs.Int.{w16, w32, w64, from_le_bytes}
 use Rattle.jc_types.specs.declared.caller.Caller.{Caller}
 use Rattle.jc_types.specs.declared.refusal.Refusal.{Refusal}
-use Rattle.jc_types.specs.declared.refusal.Refusal.TheVariants.{HistoryFull, Busy, TooManyInFlight, TooManyJoiners, LoaderFailed, WriterFailed, ProcessorFailed, OutOfMemory, TooManyKeys, BadConfig, NoLoader, NoWriter, TooManySessions, StillReserved, RepeatedKey}
+use Rattle.jc_types.specs.declared.refusal.Refusal.TheVariants.{HistoryFull, Busy, TooManyInFlight, TooManyJoiners, LoaderFailed}
+use Rattle.jc_types.specs.declared.refusal.Refusal.TheVariants.{WriterFailed, ProcessorFailed, OutOfMemory, TooManyKeys, BadConfig}
+use Rattle.jc_types.specs.declared.refusal.Refusal.TheVariants.{NoLoader, NoWriter, TooManySessions, StillReserved, RepeatedKey}
 use Rattle.jc_types.specs.declared.config.Field.TheVariants.{Stripes, Capacity, History}
 use Rattle.jc_types.specs.declared.limits.TheConstants.{KEY_MAX, VALUE_MAX}
 use Rattle.jc_model.specs.declared.event.Op.{Op}
@@ -145,7 +148,8 @@ unfoldable pub decode_process : Decoder ProcessAnswer
 decode_process = do
   tag ← byte
   if tag == 0 then give process.NotAsked
-      else if tag == 1 then (decode_effect >>= λ done. decode_optional decode_value >>= λ outcome. give (process.Ended done outcome))
+      else if tag == 1
+      then (decode_effect >>= λ done. decode_optional decode_value >>= λ outcome. give (process.Ended done outcome))
       else with_code process.Failed
 
 unfoldable pub decode_out : Decoder Out

@@ -1,5 +1,5 @@
--- The things whose bytes decode to them again: their numbers and texts are within the limits of their types, which holds for all
--- that a program has.
+-- The parts of events whose bytes decode to them again: their numbers and texts are within the limits of their types, which holds
+-- for all that a program has. No contract of a public function cites this.
 --     IsCode                a number fits four bytes
 --     IsKeyText             a text is as long as a key may be
 --     IsValueText           a text is as long as a value may be
@@ -19,7 +19,9 @@ use Rattle.std.specs.Prelude.{ℕ, ◌<◌, ◌≤◌, ◌^◌, List, length, Op
 use Rattle.std.specs.List.{AllByRecursion}
 use Rattle.jc_types.specs.declared.caller.Caller.{Caller}
 use Rattle.jc_types.specs.declared.refusal.Refusal.{Refusal}
-use Rattle.jc_types.specs.declared.refusal.Refusal.TheVariants.{HistoryFull, Busy, TooManyInFlight, TooManyJoiners, LoaderFailed, WriterFailed, ProcessorFailed, OutOfMemory, TooManyKeys, BadConfig, NoLoader, NoWriter, TooManySessions, StillReserved, RepeatedKey}
+use Rattle.jc_types.specs.declared.refusal.Refusal.TheVariants.{HistoryFull, Busy, TooManyInFlight, TooManyJoiners, LoaderFailed}
+use Rattle.jc_types.specs.declared.refusal.Refusal.TheVariants.{WriterFailed, ProcessorFailed, OutOfMemory, TooManyKeys, BadConfig}
+use Rattle.jc_types.specs.declared.refusal.Refusal.TheVariants.{NoLoader, NoWriter, TooManySessions, StillReserved, RepeatedKey}
 use Rattle.jc_types.specs.declared.limits.TheConstants.{KEY_MAX, VALUE_MAX}
 use Rattle.jc_model.specs.declared.event.Op.{Op}
 use Rattle.jc_model.specs.declared.event.Out.{Out}
@@ -106,7 +108,8 @@ IsEncodableReply (reply.Flag flag) = Unit {0}
 IsEncodableReply (reply.Value value) = IsEncodableOptional IsValueText value
 IsEncodableReply (reply.Fault refusal) = IsEncodableRefusal refusal
 
-pub record IsEncodableStep (caller : Caller) (op : Op) (key : List ℕ) (out : Out) (shared_with : Option ℕ) (reply : Reply) : Type 0 where
+pub record IsEncodableStep (caller : Caller) (op : Op) (key : List ℕ) (out : Out) (shared_with : Option ℕ)
+    (reply : Reply) : Type 0 where
   pub caller_is : IsEncodableCaller caller
   pub key_is : IsKeyText key
   pub op_is : IsEncodableOp op

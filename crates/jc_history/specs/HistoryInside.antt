@@ -13,7 +13,8 @@ use Rattle.jc_history.specs.Stored.{events_at, IsComplete}
 
 -- the past that the fields mean
 abbrev pub past_of : Inside → Past
-past_of h = record { limit = h.limit; events = events_at h.bytes.items h.starts.items; promised = h.promised; statistics = h.statistics }
+past_of h =
+    record { limit = h.limit; events = events_at h.bytes.items h.starts.items; promised = h.promised; statistics = h.statistics }
 
 -- the past is within its limit, each event is complete, and there is room for all that the past may hold
 pub record IsStored (h : Inside) : Type 0 where

@@ -1,4 +1,5 @@
--- Events that are stored as bytes, one after another, each with the index at which it starts.
+-- The events of a history as they are stored: as bytes, one after another, each with the index at which it starts. No contract of a
+-- public function cites this.
 --     event_at      the event that starts at an index
 --     events_at     the events that start at these indexes
 --     IsComplete    all bytes of the event at an index are there: what follows them makes no difference

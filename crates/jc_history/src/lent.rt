@@ -1,4 +1,4 @@
-//! A step whose parts are lent.
+//! A step whose parts are lent, so that a history stores it without an event being built.
 ghost use Rattle.std.specs.Prelude.{◌≡◌};
 ghost use Rattle.jc_model.specs.Statistics.{with_event};
 

@@ -1,4 +1,4 @@
--- The joiners after the withdrawal of their load.
+-- The joiners of a load (the calls that share it) after the load was withdrawn: each is told to retry.
 --     told_to_retry      a joiner that is told to retry, if it waits for the load
 --     after_dissolve     the joiners after the load is withdrawn
 use Rattle.std.specs.Prelude.{ℕ, List, map, if◌then◌else◌}

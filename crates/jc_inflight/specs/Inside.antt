@@ -1,4 +1,5 @@
--- The meaning of the field of `Joiners`, and its invariant. Callers see the list alone.
+-- The meaning of the field of `Joiners`, and its invariant. Callers see the list alone. No contract of a public function cites
+-- this.
 --     joiners_of     the list that it means
 --     HasJoiners     that list satisfies `IsJoinerList`
 use Rattle.std.specs.Prelude.{List}

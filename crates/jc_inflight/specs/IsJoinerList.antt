@@ -1,4 +1,4 @@
--- The invariant of the list of joiners.
+-- The invariant of the list of a stripe's joiners, the calls that have joined a load.
 --     IsJoinerList     there are at most JOINERS_MAX, and no two are of one caller and key
 use Rattle.std.specs.Prelude.{◌≡◌, ◌≤◌, List, length, false, AllPairs}
 use Rattle.jc_types.specs.declared.limits.TheConstants.{JOINERS_MAX}

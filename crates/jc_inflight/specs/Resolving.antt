@@ -1,4 +1,4 @@
--- The joiners after the commit of their load.
+-- The joiners of a load (the calls that share it) after the load was committed: each has its answer.
 --     with_answer      a joiner that is answered: the place of its own step, and that of the step that loaded
 --     answered_from    the joiners after each that waits for the load is answered, the first at this place, each further one at
 --                      the next
@@ -14,7 +14,8 @@ with_answer place step j = record j { state = Answered place step }
 abbrev pub answered_from : ℕ → ℕ → ℕ → List Joiner → List Joiner
 answered_from load step place [] = []
 answered_from load step place (j ∷ joiners) =
-    if waits_for load j then with_answer place step j ∷ answered_from load step (place + 1) joiners else j ∷ answered_from load step place joiners
+    if waits_for load j then with_answer place step j ∷ answered_from load step (place + 1) joiners
+    else j ∷ answered_from load step place joiners
 
 abbrev pub after_resolve : ℕ → ℕ → List Joiner → List Joiner
 after_resolve load step joiners = answered_from load step (step + 1) joiners

@@ -1,4 +1,4 @@
--- A joiner asks for its answer: what it is told, and the joiners afterwards.
+-- A joiner, a call that has joined a load, asks for its answer: what it is told, and the joiners afterwards.
 --     join_state_of      the state of the load that the caller has joined at the key, if it has joined one
 --     is_over            whether there is such a load, and it is over
 --     joiners_without    the joiners of the other callers and keys
@@ -21,4 +21,5 @@ abbrev pub joiners_without : Caller → Bytes → List Joiner → List Joiner
 joiners_without caller key joiners = filter (λ j. not (belongs_to caller key j)) joiners
 
 abbrev pub joiners_after_take : Caller → Bytes → List Joiner → List Joiner
-joiners_after_take caller key joiners = if is_over (join_state_of caller key joiners) then joiners_without caller key joiners else joiners
+joiners_after_take caller key joiners =
+    if is_over (join_state_of caller key joiners) then joiners_without caller key joiners else joiners

@@ -28,7 +28,8 @@ pub record IsInvokedAll
     (ends : List KeyEnd) (rounds : List ProcessRound) (new : Session I J D E) (processor' : DynBox P Z F) : Type 0 where
   pub carried : IsCarriedOut cache old (ops_with Invoke keys) ends (map ProcessAll rounds) new
   pub calls : CallsEach (in_boxes behavior) args cache.config.write_through
-      processor old.agent.hands.outside.loader old.agent.hands.outside.writer rounds processor' new.agent.hands.outside.loader new.agent.hands.outside.writer
+      processor old.agent.hands.outside.loader old.agent.hands.outside.writer rounds processor' new.agent.hands.outside.loader
+      new.agent.hands.outside.writer
   pub types : KeepsTypes old.agent new.agent
   pub processor_type : processor'.vtable ≡ processor.vtable
 
@@ -39,7 +40,8 @@ IsRefusedWhole old processor keys refusal new processor' =
     × (new ≡ old) × (processor' ≡ processor)
 
 -- `old` and `new` are the session before and after, `processor` and `processor'` the processor
-module _ {I J P Z S : Type 0} {D : I → Type 0} {E : J → Type 0} {F : P → Type 0} (behavior : RunBehavior ((i : I) × D i) ((j : J) × E j) (DynBox P Z F))
+module _ {I J P Z S : Type 0} {D : I → Type 0} {E : J → Type 0} {F : P → Type 0}
+    (behavior : RunBehavior ((i : I) × D i) ((j : J) × E j) (DynBox P Z F))
     (cache : CacheState) (old : Session I J D E) (keys : List Bytes) (args : List Bytes) (processor : DynBox P Z F) where
   abbrev pub InvokesAll : Result (IndexMap Bytes (Result Bytes Refusal) S) Refusal → Session I J D E → DynBox P Z F → Type 0
   InvokesAll (Ok results) new processor' =

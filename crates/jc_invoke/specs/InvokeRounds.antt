@@ -1,4 +1,4 @@
--- The rounds of a call that runs a processor on many keys.
+-- The rounds of a call that runs a processor on many keys. No contract of a public function cites this.
 --     IsInvoked       each operation of the call is an `Invoke`
 --     IsInvokeReady   the call runs a processor at each key, and this is the memory for what a round asks outside
 --     HaveAsked       the processor, the loader and the writer were called for exactly these rounds, and have the same types as
@@ -30,13 +30,16 @@ pub record IsInvokeReady (config : Config) (call : BulkCall) (room : RoundRoom) 
 
 module _ {I J P Z : Type 0} {D : I → Type 0} {E : J → Type 0} {F : P → Type 0}
     (behavior : RunBehavior ((i : I) × D i) ((j : J) × E j) (DynBox P Z F)) (args : List Bytes) (cache : CacheState) where
-  pub record HaveAsked (old : Session I J D E) (processor : DynBox P Z F) (new : Session I J D E) (processor' : DynBox P Z F) (rounds : List Round) : Type 0 where
+  pub record HaveAsked (old : Session I J D E) (processor : DynBox P Z F) (new : Session I J D E) (processor' : DynBox P Z F)
+      (rounds : List Round) : Type 0 where
     pub runs : List ProcessRound
     pub rounds_are : rounds ≡ map ProcessAll runs
     pub calls : CallsEach (in_boxes behavior) args cache.config.write_through
-        processor old.agent.hands.outside.loader old.agent.hands.outside.writer runs processor' new.agent.hands.outside.loader new.agent.hands.outside.writer
+        processor old.agent.hands.outside.loader old.agent.hands.outside.writer runs processor' new.agent.hands.outside.loader
+        new.agent.hands.outside.writer
     pub types : KeepsTypes old.agent new.agent
     pub processor_type : processor'.vtable ≡ processor.vtable
 
   abbrev pub RunsOn : CallPast → Session I J D E → BulkCall → DynBox P Z F → Session I J D E → BulkCall → DynBox P Z F → Type 0
-  RunsOn past old call processor new later processor' = RunsRounds (HaveAsked old processor new processor') cache past old call new later
+  RunsOn past old call processor new later processor' =
+      RunsRounds (HaveAsked old processor new processor') cache past old call new later

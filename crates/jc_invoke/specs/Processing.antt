@@ -1,4 +1,5 @@
--- The calls outside of one round: a processor for each key that it has reserved, and then the writer.
+-- The calls outside of one round: a processor for each key that it has reserved, and then the writer. No contract of a public
+-- function cites this.
 --     TakesKey       a round's memory has room for one more run, at this key
 --     MayNote        the round may note the change for the writer after this run of this ticket's processor
 --     HasNoted       the round has noted the change of this run
@@ -92,7 +93,8 @@ pub record IsTicketRun
 
 -- 2. All tickets.
 
-pub record MayRunEach {I J : Type 0} {D : I → Type 0} {E : J → Type 0} (session : Session I J D E) (tickets : Vec TicketClaim) (room : RoundRoom) : Type 0 where
+pub record MayRunEach {I J : Type 0} {D : I → Type 0} {E : J → Type 0} (session : Session I J D E) (tickets : Vec TicketClaim)
+    (room : RoundRoom) : Type 0 where
   pub cache : CacheState
   pub own : IsOf cache session
   pub fresh : AllByRecursion IsToBeRun tickets.items
@@ -108,7 +110,8 @@ pub record HasRunEach
     (new : Agent I J D E) (room' : RoundRoom) (processor' : DynBox P Z F) : Type 0 where
   pub runs : List RunState
   pub calls_are : reservations_of runs ≡ map reserved_by calls
-  pub each : RunsEach (in_boxes behavior) args processor old.hands.outside.loader (map key_run runs) processor' new.hands.outside.loader
+  pub each : RunsEach (in_boxes behavior) args processor old.hands.outside.loader (map key_run runs) processor'
+      new.hands.outside.loader
   pub done_are : room'.runs.items ≡ map done_of runs
   pub writes_are : room'.writes.items ≡ claims_after through false runs
   pub deletes_are : room'.deletes.items ≡ claims_after through true runs
@@ -127,7 +130,8 @@ pub record IsRoundAsked
   pub runs : List RunState
   pub calls_are : reservations_of runs ≡ map reserved_by calls
   pub runs_are : round.runs ≡ map key_run runs
-  pub answered : (config : Config) → config.write_through ≡ through → AreAnswers config (ProcessAll round) answers (map reserved_by calls)
+  pub answered : (config : Config) → config.write_through ≡ through
+      → AreAnswers config (ProcessAll round) answers (map reserved_by calls)
   pub asked : CallsRound (in_boxes behavior) args through
       processor old.hands.outside.loader old.hands.outside.writer round processor' new.hands.outside.loader new.hands.outside.writer
   pub types : KeepsTypes old new

@@ -1,4 +1,4 @@
--- The memory that a round takes before its first phase.
+-- The memory that a round takes before its first phase. No contract of a public function cites this.
 --     IsRoundRoomFor   room for this number of keys, with nothing in it yet, in a cache that writes through or doesn't
 --     LeavesBatches    the batches that a round leaves for the next one: its own, empty, without write-through
 --     IsNextRoom       the memory of the next round, of what a round has left, once its answers were taken: there is some without
@@ -33,7 +33,9 @@ abbrev pub IsNextRoom : Option Batches → RoundAnswers → Option RoundRoom →
 IsNextRoom None answers None = Unit {0}
 IsNextRoom None answers (Some room) = ⊥
 IsNextRoom (Some rest) answers None = ⊥
-IsNextRoom (Some rest) answers (Some room) = (keys : ℕ) → keys ≤ done_room answers → rest.writes ≡ no_writes false keys → rest.deletes ≡ no_writes true keys → IsRoundRoomFor keys false room
+IsNextRoom (Some rest) answers (Some room) =
+    (keys : ℕ) → keys ≤ done_room answers → rest.writes ≡ no_writes false keys → rest.deletes ≡ no_writes true keys
+    → IsRoundRoomFor keys false room
 
 pub record IsMemoryFor (targets : List (Bytes × Op)) (config : Config) (memory : Memory) : Type 0 where
   pub no_results : memory.results.entries ≡ []

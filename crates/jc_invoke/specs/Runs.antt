@@ -1,4 +1,4 @@
--- The calls outside of a call that runs a processor on many keys, round by round.
+-- What an `invoke_all`, which runs a processor on many keys, asks outside, round by round: its processors, and then its writer.
 --     change_if       a change, if it is of the kind that a batch asks for
 --     batch_changes   the changes of one kind of these runs, each with its key
 --     RunBehavior     the answers that a loader, a writer and a processor may give, and the changes of their states
@@ -42,11 +42,21 @@ pub record RunBehavior (L W P : Type 0) : Type 1 where
   pub processes : ProcessRelation P
   pub process_state : P → List ℕ
 
-abbrev pub run_behavior : {L W P : Type 0} → LoadRelation L → (L → List ℕ) → WriteAllRelation W → DeleteAllRelation W → (W → List ℕ) → ProcessRelation P → (P → List ℕ) → RunBehavior L W P
+abbrev pub run_behavior : {L W P : Type 0} → LoadRelation L → (L → List ℕ) → WriteAllRelation W → DeleteAllRelation W → (W → List ℕ)
+    → ProcessRelation P → (P → List ℕ) → RunBehavior L W P
 run_behavior loads load_state writes_all deletes_all write_state processes process_state =
-    record { loads = loads; load_state = load_state; writes_all = writes_all; deletes_all = deletes_all; write_state = write_state; processes = processes; process_state = process_state }
+    record {
+      loads = loads;
+      load_state = load_state;
+      writes_all = writes_all;
+      deletes_all = deletes_all;
+      write_state = write_state;
+      processes = processes;
+      process_state = process_state;
+    }
 
-abbrev pub in_boxes : {I J P X : Type 0} {D : I → Type 0} {E : J → Type 0} → RunBehavior ((i : I) × D i) ((j : J) × E j) P → RunBehavior (DynBox I X D) (DynBox J X E) P
+abbrev pub in_boxes : {I J P X : Type 0} {D : I → Type 0} {E : J → Type 0} → RunBehavior ((i : I) × D i) ((j : J) × E j) P
+    → RunBehavior (DynBox I X D) (DynBox J X E) P
 in_boxes behavior = record {
   loads = boxed behavior.loads;
   load_state = boxed behavior.load_state;
@@ -59,7 +69,8 @@ in_boxes behavior = record {
 
 module _ {L W P : Type 0} (behavior : RunBehavior L W P) (args : List Bytes) where
   pub record RunsOne (processor : P) (loader : Option L) (run : KeyRun) (processor' : P) (loader' : Option L) : Type 0 where
-    pub run_is : RunsOnce behavior.processes behavior.process_state processor run.key args run.may_load run.entry run.load run.process processor'
+    pub run_is : RunsOnce behavior.processes behavior.process_state processor run.key args run.may_load run.entry run.load
+        run.process processor'
     pub load_is : LoadsIfGiven behavior.loads behavior.load_state loader run.key run.load loader'
 
   abbrev pub RunsEach : P → Option L → List KeyRun → P → Option L → Type 0
@@ -69,15 +80,19 @@ module _ {L W P : Type 0} (behavior : RunBehavior L W P) (args : List Bytes) whe
 
   abbrev pub WritesKind : Bool → List (Bytes × Option Change) → Option W → (Bytes → WriteAnswer) → Option W → Type 0
   WritesKind deletes changes writer said writer' =
-      (returned : Result (Unit {0}) ℕ) × WritesBatch behavior.writes_all behavior.deletes_all behavior.write_state deletes changes writer returned said writer'
+      (returned : Result (Unit {0}) ℕ)
+      × WritesBatch behavior.writes_all behavior.deletes_all behavior.write_state deletes changes writer returned said writer'
 
-  pub record CallsRound (through : Bool) (processor : P) (loader : Option L) (writer : Option W) (round : ProcessRound) (processor' : P) (loader' : Option L) (writer' : Option W) : Type 0 where
+  pub record CallsRound (through : Bool) (processor : P) (loader : Option L) (writer : Option W) (round : ProcessRound)
+      (processor' : P) (loader' : Option L) (writer' : Option W) : Type 0 where
     pub runs_are : RunsEach processor loader round.runs processor' loader'
     pub between : Option W
     pub writes_are : WritesKind false (batch_changes through false round.runs) writer round.written between
     pub deletes_are : WritesKind true (batch_changes through true round.runs) between round.deleted writer'
 
   abbrev pub CallsEach : Bool → P → Option L → Option W → List ProcessRound → P → Option L → Option W → Type 0
-  CallsEach through processor loader writer [] processor' loader' writer' = (processor' ≡ processor) × (loader' ≡ loader) × (writer' ≡ writer)
+  CallsEach through processor loader writer [] processor' loader' writer' =
+      (processor' ≡ processor) × (loader' ≡ loader) × (writer' ≡ writer)
   CallsEach through processor loader writer (round ∷ rounds) processor' loader' writer' =
-      (p : P) × (l : Option L) × (w : Option W) × CallsRound through processor loader writer round p l w × CallsEach through p l w rounds processor' loader' writer'
+      (p : P) × (l : Option L) × (w : Option W) × CallsRound through processor loader writer round p l w
+      × CallsEach through p l w rounds processor' loader' writer'

@@ -51,7 +51,8 @@ module _ {I J : Type 0} {D : I → Type 0} {E : J → Type 0} (behavior : BulkBe
 
   -- `old` and `new` are the client before and after
   abbrev pub ClientLoadsPiece : List (Bytes × Op) → PieceEnd → Client I J D E → Client I J D E → Type 0
-  ClientLoadsPiece targets end old new = OnSameCache old.cache new.cache (LoadsPiece old.cache.now targets end old.session new.session)
+  ClientLoadsPiece targets end old new =
+      OnSameCache old.cache new.cache (LoadsPiece old.cache.now targets end old.session new.session)
 
 -- 2. All pieces.
 
@@ -66,7 +67,8 @@ first_cause ends (suc n) = option_or (first_cause ends n) (ends n).cause
 -- `Loads` is what one of them did to load a piece
 module _ {T : Type 0} (Loads : List (Bytes × Op) → PieceEnd → T → T → Type 0) where
   pub record LoadsInPieces (keys : List Bytes) (replace : Bool) (ends : ℕ → PieceEnd) (old new : List T) : Type 0 where
-    pub loads : LoadsEachOnce (λ before piece after. Loads (load_ops replace (piece_at keys piece)) (ends piece) before after) (piece_count (length keys)) old new
+    pub loads : LoadsEachOnce (λ before piece after. Loads (load_ops replace (piece_at keys piece)) (ends piece) before after)
+        (piece_count (length keys)) old new
 
   abbrev pub EndsInPieces : List Bytes → Bool → List T → Result (Unit {0}) BulkFault → List T → Type 0
   EndsInPieces keys replace old result new =

@@ -1,4 +1,5 @@
--- The notes of a worker about its pieces, and what a call makes of the notes of all workers.
+-- The notes of a worker about its pieces, and what a call makes of the notes of all workers. No contract of a public function cites
+-- this.
 --     IsResultOf      the note of a piece whose call returned this: a call that names no key, and whose cause is that an
 --                     allocation failed, was refused whole
 --     cause_noted     the cause of a piece that failed
@@ -12,7 +13,8 @@
 --     AreWithin       the keys of these entries are among the first `n` of these keys
 --     MayAdd          the keys of this map are among the first `n` of these keys, and there is room in it for the others
 --     all_noted       each key of the first `n` pieces that ended in a fault or a refusal, with it, in the order of the keys
-use Rattle.std.specs.Prelude.{◌≡◌, ◌==◌, ◌≤◌, ◌+◌, ◌⊎◌, ◌++◌, ℕ, zero, suc, List, [], ◌∷◌, length, Bool, true, Option, None, Some, Result, Ok, Err, option_map, take, unwrap_or, if◌then◌else◌}
+use Rattle.std.specs.Prelude.{◌≡◌, ◌==◌, ◌≤◌, ◌+◌, ◌⊎◌, ◌++◌, ℕ, zero, suc, List, [], ◌∷◌, length, Bool, true, Option, None, Some}
+use Rattle.std.specs.Prelude.{Result, Ok, Err, option_map, take, unwrap_or, if◌then◌else◌}
 use Rattle.std.specs.Option.{option_or}
 use Rattle.std.specs.List.{AllByRecursion, filter_map}
 use Rattle.std.specs.Cmp.Lexicographic.{pointwise}
@@ -36,7 +38,8 @@ use Rattle.jc_loadall.specs.Pieces.{piece_at}
 abbrev pub IsResultOf : Result (Unit {0}) BulkFault → PieceResult → Type 0
 IsResultOf (Ok done) result = result ≡ Loaded
 IsResultOf (Err fault) result =
-    ((fault.failed.entries ≡ []) × (fault.cause ≡ OutOfMemory) × (result ≡ Refused)) ⊎ ((fault.failed.entries ≡ [] → fault.cause ≡ OutOfMemory → ⊥) × (result ≡ Failed fault))
+    ((fault.failed.entries ≡ []) × (fault.cause ≡ OutOfMemory) × (result ≡ Refused))
+    ⊎ ((fault.failed.entries ≡ [] → fault.cause ≡ OutOfMemory → ⊥) × (result ≡ Failed fault))
 
 abbrev pub cause_noted : PieceResult → Option Refusal
 cause_noted Loaded = None
@@ -56,8 +59,10 @@ pub record IsNoteOf (keys : List Bytes) (result : PieceResult) (end : PieceEnd) 
   pub failed : entries_noted result keys ≡ failed_entries end.ends
 
 -- `Loads` is what was done to load a piece; `old` and `new` are who did it, before and after
-abbrev pub LoadsAndNotes : {T : Type 0} → (List (Bytes × Op) → PieceEnd → T → T → Type 0) → Bool → List Bytes → T → PieceResult → T → Type 0
-LoadsAndNotes Loads replace keys old result new = (end : PieceEnd) × Loads (load_ops replace keys) end old new × IsNoteOf keys result end
+abbrev pub LoadsAndNotes : {T : Type 0} → (List (Bytes × Op) → PieceEnd → T → T → Type 0) → Bool → List Bytes → T → PieceResult
+    → T → Type 0
+LoadsAndNotes Loads replace keys old result new =
+    (end : PieceEnd) × Loads (load_ops replace keys) end old new × IsNoteOf keys result end
 
 -- 2. All pieces.
 

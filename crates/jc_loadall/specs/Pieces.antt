@@ -20,5 +20,6 @@ pub record LoadsEachOnce {T : Type 0} (Loads : T → ℕ → T → Type 0) (piec
   pub shares : List (List ℕ)
   pub share_each : length shares ≡ length old
   pub count : length new ≡ length old
-  pub each : (k : ℕ) (d : T) → k < length old → LeadsTo Loads (slice_index_or old k d) (slice_index_or shares k []) (slice_index_or new k d)
+  pub each : (k : ℕ) (d : T) → k < length old
+      → LeadsTo Loads (slice_index_or old k d) (slice_index_or shares k []) (slice_index_or new k d)
   pub once : (piece : ℕ) → times piece (concat shares) ≡ once_below piece pieces

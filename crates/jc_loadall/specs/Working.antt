@@ -1,4 +1,4 @@
--- Workers, each of which loads pieces by a tool, with a function that loads one piece.
+-- Workers, each of which loads pieces by a tool, with a function that loads one piece. No contract of a public function cites this.
 --     CanLoadBy      the function may be called with the keys of a piece and this tool
 --     LoadsBy        a call of the function with these keys: its result, and the tool before and after
 --     Keeps          each call of the function leaves a tool with which it may be called again
@@ -26,10 +26,12 @@ use Rattle.jc_loadall.specs.declared.worker.Worker.{Worker}
 use Rattle.jc_loadall.specs.Notes.{all_noted, first_noted}
 use Rattle.jc_loadall.specs.Pieces.{LoadsEachOnce, piece_at, piece_count}
 
-module _ {F S T : Type 0} (g : Shared F (Bor (IndexSet Bytes S) × (MutBor T × Unit {0})) (PieceResult × (MutBor T × Unit {0}))) (f : F) where
+module _ {F S T : Type 0} (g : Shared F (Bor (IndexSet Bytes S) × (MutBor T × Unit {0})) (PieceResult × (MutBor T × Unit {0})))
+    (f : F) where
   abbrev pub CanLoadBy : T → Type 0
   CanLoadBy tool =
-      (shown : Bor (IndexSet Bytes S)) (lent : MutBor T) → lent.now ≡ tool → length shown.now.keys ≤ PIECE_KEYS → IsDistinct (pointwise ◌==◌) shown.now.keys
+      (shown : Bor (IndexSet Bytes S)) (lent : MutBor T) → lent.now ≡ tool → length shown.now.keys ≤ PIECE_KEYS
+      → IsDistinct (pointwise ◌==◌) shown.now.keys
       → g.pre f (shown, (lent, tt))
 
   pub record LoadsBy (keys : List Bytes) (old : T) (result : PieceResult) (new : T) : Type 0 where
@@ -66,7 +68,9 @@ module _ {F S T : Type 0} (g : Shared F (Bor (IndexSet Bytes S) × (MutBor T × 
 
   -- `old` and `new` are the tools before and after
   abbrev pub AreLoadedBy : List Bytes → (ℕ → PieceResult) → List T → List T → Type 0
-  AreLoadedBy keys results old new = LoadsEachOnce (λ before piece after. LoadsBy (piece_at keys piece) before (results piece) after) (piece_count (length keys)) old new
+  AreLoadedBy keys results old new =
+      LoadsEachOnce (λ before piece after. LoadsBy (piece_at keys piece) before (results piece) after)
+      (piece_count (length keys)) old new
 
   abbrev pub EndsByTeam : List Bytes → List T → Result (Unit {0}) BulkFault → List T → Type 0
   EndsByTeam keys old result new =

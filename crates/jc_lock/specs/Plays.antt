@@ -1,5 +1,5 @@
--- The effect of each step of a lock's table on its seat. `step` is the step, `me` the seat before it and `me'` after it; a seat
--- is a view and the slots that it has taken.
+-- What each step of the lock round a stripe does to the seat that makes it. `step` is the step, `me` the seat before it and `me'`
+-- after it; a seat is a view and the slots that it has taken. No contract of a public function cites this.
 --     Opens            the first seat has the slot, which is empty, and is a seat from now on
 --     state_in_hand    the state of the stripe in the slot that the seat has taken
 --     Takes            a take that finds the word free has the slot, and the state in it is one that the seat may find; a take

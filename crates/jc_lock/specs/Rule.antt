@@ -1,4 +1,5 @@
--- The invariant of a lock between any two steps of its table.
+-- The invariant of the lock round a stripe, between any two steps of its users: one state, with which every seat agrees. No
+-- contract of a public function cites this.
 --     SeatFits      a seat agrees with the stripe's state: its front is a prefix of the whole history, the noted reservation
 --                   number is at most the next one, the noted ended generations are the first of those that have ended, and
 --                   unless it is spent it has noted the same stripe; the state has the own steps, in all generations, of its
@@ -27,7 +28,8 @@ pub record SeatFits (seat_of : ℕ → ℕ) (giver given : ℕ) (now : State) (s
   pub next : v.noted.next ≤ now.next
   pub ended : IsPrefix v.noted.ended now.ended
   pub same : v.spent ≡ false → IsOfSameStripe v.noted now
-  pub own : (session : ℕ) → v.session ≡ Some session → (seat_of session ≡ seat) × (session < given) × (all_own_steps session now ≡ v.own)
+  pub own : (session : ℕ) → v.session ≡ Some session
+      → (seat_of session ≡ seat) × (session < given) × (all_own_steps session now ≡ v.own)
   pub gives : (session : ℕ) → v.next_session ≡ Some session → (giver ≡ seat) × (session ≡ given)
 
 abbrev pub slot_while : {B : Type 0} → Bool → Option' (Option B)
@@ -46,7 +48,9 @@ module _ {B : Type 0} (value : B → State) where
   IsHeld unopened table now =
       (table.words ≡ 1 ∷ [])
       × (table.homes ≡ slot_while unopened ∷ [])
-      × ((holder : ℕ) × ((seat : ℕ) (v : View) → get_elem? table.views seat ≡ some v → v.holds ≡ true → (seat ≡ holder) × (v.noted ≡ now) × (v.spent ≡ unopened)))
+      × ((holder : ℕ)
+      × ((seat : ℕ) (v : View) → get_elem? table.views seat ≡ some v → v.holds ≡ true
+      → (seat ≡ holder) × (v.noted ≡ now) × (v.spent ≡ unopened)))
 
   pub record LockRule (table : TableState (Option B) View) : Type 0 where
     pub seat_of : ℕ → ℕ

@@ -1,4 +1,4 @@
--- The knowledge of a seat, and its change by each call.
+-- What a session's seat knows of the stripe behind a lock (the seat's view), and how each call of the lock changes that.
 --     IsPhaseBy            at most one phase of a seat's session leads from one state to another; none, if the seat is no
 --                          session's
 --     IsTurnBy             as `IsPhaseBy`, or a renewal leads from one to the other
@@ -49,10 +49,37 @@ IsTurnBy session old new = IsPhaseBy session old new ⊎ Renews old new
 -- 1. Seats from the beginning, and seats that are gone.
 
 abbrev pub empty_stripe : State
-empty_stripe = record { config = record { stripes = 1; capacity = 1; history = 16; read_through = false; write_through = false }; stripe = 0; origin = Played; lives = false; ended = []; opening = []; cache = map.empty; reservations = []; joiners = []; history = []; next = 0; marked = []; shut = false }
+empty_stripe =
+    record {
+      config = record { stripes = 1; capacity = 1; history = 16; read_through = false; write_through = false };
+      stripe = 0;
+      origin = Played;
+      lives = false;
+      ended = [];
+      opening = [];
+      cache = map.empty;
+      reservations = [];
+      joiners = [];
+      history = [];
+      next = 0;
+      marked = [];
+      shut = false;
+    }
 
 abbrev pub first_view : State → View
-first_view state = record { session = None; next_session = Some 0; spent = false; holds = false; front = whole_history state; joined_front = []; own = []; noted = state; lendings = (state, state) ∷ []; misses = 0 }
+first_view state =
+    record {
+      session = None;
+      next_session = Some 0;
+      spent = false;
+      holds = false;
+      front = whole_history state;
+      joined_front = [];
+      own = [];
+      noted = state;
+      lendings = (state, state) ∷ [];
+      misses = 0;
+    }
 
 abbrev pub unopened_view : State → View
 unopened_view state = record (first_view state) { spent = true; holds = true; lendings = [] }
@@ -61,7 +88,19 @@ abbrev pub opened_view : View → View
 opened_view v = record v { spent = false }
 
 abbrev pub spent_view : View
-spent_view = record { session = None; next_session = None; spent = true; holds = false; front = []; joined_front = []; own = []; noted = empty_stripe; lendings = []; misses = 0 }
+spent_view =
+    record {
+      session = None;
+      next_session = None;
+      spent = true;
+      holds = false;
+      front = [];
+      joined_front = [];
+      own = [];
+      noted = empty_stripe;
+      lendings = [];
+      misses = 0;
+    }
 
 -- 2. A take and a give.
 
@@ -82,7 +121,14 @@ own_steps_of None state = []
 own_steps_of (Some session) state = all_own_steps session state
 
 abbrev pub after_give : View → State → View
-after_give v state = record v { holds = false; front = whole_history state; own = own_steps_of v.session state; noted = state; lendings = v.lendings ++ (v.noted, state) ∷ [] }
+after_give v state =
+    record v {
+      holds = false;
+      front = whole_history state;
+      own = own_steps_of v.session state;
+      noted = state;
+      lendings = v.lendings ++ (v.noted, state) ∷ [];
+    }
 
 abbrev pub after_miss : View → View
 after_miss v = record v { misses = v.misses + 1 }
@@ -97,12 +143,25 @@ abbrev pub after_split : View → View
 after_split v = record v { next_session = Some (session_number v.next_session + 1) }
 
 abbrev pub session_view : View → View
-session_view v = record { session = Some (session_number v.next_session); next_session = None; spent = v.spent; holds = false; front = v.front; joined_front = []; own = []; noted = v.noted; lendings = []; misses = 0 }
+session_view v =
+    record {
+      session = Some (session_number v.next_session);
+      next_session = None;
+      spent = v.spent;
+      holds = false;
+      front = v.front;
+      joined_front = [];
+      own = [];
+      noted = v.noted;
+      lendings = [];
+      misses = 0;
+    }
 
 -- 4. Telling one seat what another has seen.
 
 abbrev pub front_note : View → View
-front_note v = record v { session = None; next_session = None; holds = false; joined_front = []; own = []; lendings = []; misses = 0 }
+front_note v =
+    record v { session = None; next_session = None; holds = false; joined_front = []; own = []; lendings = []; misses = 0 }
 
 abbrev pub with_note : View → View → View
 with_note v w = record v { joined_front = w.front; lendings = v.lendings ++ w.lendings; misses = v.misses + w.misses }

@@ -1,4 +1,4 @@
-//! The rule of a lock's table, and its steps. The types are for the proofs alone.
+//! The rule of the table of a lock round a stripe, and its steps. The types are for the proofs alone.
 use crate::view::View;
 use atomic_table::{Join, Play, Split, TableRule};
 use jc_stripe::Stripe;

@@ -1,4 +1,4 @@
-//! The knowledge of a seat.
+//! What a session's seat knows of the stripe behind its lock, as data of contracts.
 use jc_model::Event;
 use jc_stripe::Stripe;
 use std::collections::LinkedList;

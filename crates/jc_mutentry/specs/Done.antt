@@ -1,4 +1,4 @@
--- Done values of entry processors, as data.
+-- What contracts see of the done values of entry processors, each what a processor did for one ask.
 --     ProcessResult    what a processor did for an ask, the answer of its loader, and where these come from
 --     effect_change    the change that the writer is to be asked for: the net effect, or none after a loader's or processor's fault
 use Rattle.std.specs.Prelude.{Option, None, is_none, if◌then◌else◌}

@@ -58,7 +58,8 @@ pub record IsSameEntry (old new : EntryState) : Type 0 where
 -- whatever was called before: this call comes after it, with this answer
 pub record Makes (old : EntryState) (call : EntryCall) (answer : EntryAnswer) (new : EntryState) : Type 0 where
   pub same : IsSameEntry old new
-  pub after : (calls : List EntryCall) (answers : List EntryAnswer) → IsAfter old calls answers → IsAfter new (calls ++ call ∷ []) (answers ++ answer ∷ [])
+  pub after : (calls : List EntryCall) (answers : List EntryAnswer) → IsAfter old calls answers
+      → IsAfter new (calls ++ call ∷ []) (answers ++ answer ∷ [])
 
 -- 3. An entry with its key, and a loader.
 
@@ -72,7 +73,8 @@ get_answer (Err code) = Failed code
 
 -- the loader has returned the answer
 abbrev pub LoadsWhole : {L : Type 0} → LoadRelation L → (L → List ℕ) → Bytes → LoadAnswer → L → L → Type 0
-LoadsWhole loads state key answer old new = (returned : Result (Option Bytes) ℕ) × (answer ≡ load_answer returned) × loads old key returned (state new)
+LoadsWhole loads state key answer old new =
+    (returned : Result (Option Bytes) ℕ) × (answer ≡ load_answer returned) × loads old key returned (state new)
 
 abbrev pub LoadsOn : {L : Type 0} → LoadRelation L → (L → List ℕ) → Bytes → LoadAnswer → LoadAnswer → L → L → Type 0
 LoadsOn loads state key before after old new =

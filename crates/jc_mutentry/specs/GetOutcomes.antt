@@ -1,4 +1,4 @@
--- The outcome of `getValue` before a loader is asked.
+-- The outcome of `getValue`, as an entry processor calls it on its entry, before a loader is asked.
 --     IsGetOutcome    the outcome is the answer of the call, and nothing changes; or the loader is to be asked
 use Rattle.std.specs.Prelude.{◌≡◌, true}
 use Rattle.jc_model.specs.declared.processor.EntryCall.TheVariants.{GetValue}

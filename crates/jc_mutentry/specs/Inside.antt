@@ -1,11 +1,13 @@
--- The answers of an entry, from its one state.
+-- How an entry answers the calls of its processor, and changes, by the one state that it keeps. No contract of a public function
+-- cites this.
 --     is_present         whether a value is there: by the net effect, otherwise by the initial value, otherwise by the load
 --     outcome_by_load    the outcome of `getValue` while nothing has mutated the entry
 --     get_outcome        the outcome of `getValue`
 --     effect_after       the net effect after one more mutation: after a failed load none counts
 --     is_load_failed     whether the load failed
 --     get_result         the return of `getValue` once the loader has answered
-use Rattle.std.specs.Prelude.{ℕ, Bool, true, false, ◌&&◌, ◌||◌, Option, None, Some, Result, Ok, Err, is_some, is_none, if◌then◌else◌}
+use Rattle.std.specs.Prelude.{ℕ, Bool, true, false, ◌&&◌, ◌||◌, Option, None, Some, Result, Ok, Err, is_some, is_none}
+use Rattle.std.specs.Prelude.{if◌then◌else◌}
 use Rattle.jc_model.specs.Cache.{Bytes}
 use Rattle.jc_model.specs.declared.event.LoadAnswer.{LoadAnswer}
 use Rattle.jc_model.specs.declared.event.LoadAnswer.TheVariants as load

@@ -11,7 +11,8 @@ use Rattle.jc_model.specs.declared.event.LoadAnswer.{LoadAnswer}
 use Rattle.jc_model.specs.declared.event.ProcessAnswer.{ProcessAnswer}
 use Rattle.jc_model.specs.declared.processor.EntryCall.{EntryCall}
 use Rattle.jc_model.specs.declared.processor.EntryAnswer.{EntryAnswer}
-use Rattle.jc_model.specs.Processor.{all_answers, recorded_load, net_effect, process_answer, played_calls, played_return, last_value}
+use Rattle.jc_model.specs.Processor.{all_answers, recorded_load, net_effect, process_answer, played_calls, played_return}
+use Rattle.jc_model.specs.Processor.{last_value}
 use Rattle.jc_mutentry.specs.Entries.{EntryState, IsAfter}
 
 abbrev pub played_answers : Bool → Option Bytes → LoadAnswer → List EntryCall → List EntryAnswer
@@ -28,7 +29,8 @@ played_outcome may_load initial answer calls fail =
 abbrev pub LoadsAs : LoadAnswer → LoadAnswer → LoadAnswer → Type 0
 LoadsAs answer before after = (after ≡ before) ⊎ (after ≡ answer)
 
-pub record IsPlayed (entry : EntryState) (answer : LoadAnswer) (calls : List EntryCall) (answers : List EntryAnswer) (last : Option Bytes) : Type 0 where
+pub record IsPlayed (entry : EntryState) (answer : LoadAnswer) (calls : List EntryCall) (answers : List EntryAnswer)
+    (last : Option Bytes) : Type 0 where
   pub after : IsAfter entry (played_calls entry.may_load entry.initial answer calls) answers
   pub said : entry.load ≡ played_load entry.may_load entry.initial answer calls
   pub value : last ≡ unwrap_or (last_value answers) None

@@ -1,4 +1,4 @@
--- A run of an entry processor.
+-- A run of an entry processor on its entry: its calls there with their answers, and the call of its loader.
 --     IsRun              the load, the answers and the processor's answer are those of one list of calls on the entry
 --     LoadsIfGiven       a session's loader was called once if it has answered, otherwise not at all
 --     ProcessRelation    the relation of a processor's run: the processor before, the key, the arguments, the calls on the entry,
@@ -23,12 +23,14 @@ pub record IsRun (may_load : Bool) (initial : Option Bytes) (load : LoadAnswer) 
   pub did : process ≡ process_answer (net_effect may_load initial load calls) returned
 
 abbrev pub LoadsIfGiven : {L : Type 0} → LoadRelation L → (L → List ℕ) → Option L → Bytes → LoadAnswer → Option L → Type 0
-LoadsIfGiven loads state old key answer new = MatchBool (is_load_given answer) (LoadsOnce loads state old key answer new) (new ≡ old)
+LoadsIfGiven loads state old key answer new =
+    MatchBool (is_load_given answer) (LoadsOnce loads state old key answer new) (new ≡ old)
 
 abbrev pub ProcessRelation : Type 0 → Type 1
 ProcessRelation P = P → Bytes → List Bytes → List EntryCall → List EntryAnswer → Result (Option Bytes) ℕ → List ℕ → Type 0
 
-abbrev pub RunsOnce : {P : Type 0} → ProcessRelation P → (P → List ℕ) → P → Bytes → List Bytes → Bool → Option Bytes → LoadAnswer → ProcessAnswer → P → Type 0
+abbrev pub RunsOnce : {P : Type 0} → ProcessRelation P → (P → List ℕ) → P → Bytes → List Bytes → Bool → Option Bytes → LoadAnswer
+    → ProcessAnswer → P → Type 0
 RunsOnce processes state old key args may_load initial load process new =
     (calls : List EntryCall) × (answers : List EntryAnswer) × (returned : Result (Option Bytes) ℕ)
     × IsRun may_load initial load process calls answers returned × processes old key args calls answers returned (state new)

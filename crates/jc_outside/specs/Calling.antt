@@ -47,7 +47,8 @@ abbrev pub write_answer : Result (Unit {0}) ℕ → WriteAnswer
 write_answer (Ok done) = write.Done
 write_answer (Err code) = write.Failed code
 
-abbrev pub WritesOnce : {W : Type 0} → WriteRelation W → (W → List ℕ) → Option W → Bytes → Option Change → WriteAnswer → Option W → Type 0
+abbrev pub WritesOnce : {W : Type 0} → WriteRelation W → (W → List ℕ) → Option W → Bytes → Option Change → WriteAnswer
+    → Option W → Type 0
 WritesOnce writes state (Some old) key (Some change) answer (Some new) =
     (returned : Result (Unit {0}) ℕ) × (answer ≡ write_answer returned) × writes old key change returned (state new)
 WritesOnce writes state (Some old) key (Some change) answer None = ⊥

@@ -48,17 +48,21 @@ abbrev pub load_all_answer : Result (Unit {0}) ℕ → AnswersByKey → Bytes �
 load_all_answer (Ok done) answers key = found_or_nothing (answer_of answers key)
 load_all_answer (Err code) answers key = load.Failed code
 
-abbrev pub LoadsKeys : {L : Type 0} → LoadAllRelation L → (L → List ℕ) → Option L → List Bytes → Result (Unit {0}) ℕ → AnswersByKey → Option L → Type 0
+abbrev pub LoadsKeys : {L : Type 0} → LoadAllRelation L → (L → List ℕ) → Option L → List Bytes → Result (Unit {0}) ℕ
+    → AnswersByKey → Option L → Type 0
 LoadsKeys loads_all state None keys returned answers None = (returned ≡ Ok tt) × (answers ≡ no_answers keys)
 LoadsKeys loads_all state None keys returned answers (Some new) = ⊥
 LoadsKeys loads_all state (Some old) keys returned answers None = ⊥
 LoadsKeys loads_all state (Some old) keys returned answers (Some new) = loads_all old keys returned answers (state new)
 
-abbrev pub LoadsAllOnce : {L : Type 0} → LoadAllRelation L → (L → List ℕ) → Option L → List Bytes → (Bytes → LoadAnswer) → Option L → Type 0
+abbrev pub LoadsAllOnce : {L : Type 0} → LoadAllRelation L → (L → List ℕ) → Option L → List Bytes → (Bytes → LoadAnswer)
+    → Option L → Type 0
 LoadsAllOnce loads_all state old keys said new =
-    (returned : Result (Unit {0}) ℕ) × (answers : AnswersByKey) × ((key : Bytes) → said key ≡ load_all_answer returned answers key) × LoadsKeys loads_all state old keys returned answers new
+    (returned : Result (Unit {0}) ℕ) × (answers : AnswersByKey) × ((key : Bytes) → said key ≡ load_all_answer returned answers key)
+    × LoadsKeys loads_all state old keys returned answers new
 
-pub record KeepsLoadRoom {A D : Type 0} (asks : Vec A) (asks' : Vec A) (batch : BatchState Bytes) (batch' : BatchState Bytes) (done : Vec D) (done' : Vec D) : Type 0 where
+pub record KeepsLoadRoom {A D : Type 0} (asks : Vec A) (asks' : Vec A) (batch : BatchState Bytes) (batch' : BatchState Bytes)
+    (done : Vec D) (done' : Vec D) : Type 0 where
   pub no_asks : asks'.items ≡ []
   pub asks_room : vec_capacity asks' ≡ vec_capacity asks
   pub batch_is : batch' ≡ empty_batch (length batch.items + batch.room)
@@ -79,21 +83,26 @@ abbrev pub returned_fault : Result (Unit {0}) ℕ → Option ℕ
 returned_fault (Ok done) = None
 returned_fault (Err code) = Some code
 
-abbrev pub WritesEntries : {W : Type 0} → WriteAllRelation W → (W → List ℕ) → Option W → List (Bytes × Bytes) → Result (Unit {0}) ℕ → List (Bytes × Bytes) → Option W → Type 0
+abbrev pub WritesEntries : {W : Type 0} → WriteAllRelation W → (W → List ℕ) → Option W → List (Bytes × Bytes) → Result (Unit {0}) ℕ
+    → List (Bytes × Bytes) → Option W → Type 0
 WritesEntries writes_all state (Some old) entries returned left (Some new) = writes_all old entries returned left (state new)
 WritesEntries writes_all state (Some old) entries returned left None = ⊥
 WritesEntries writes_all state None entries returned left new = ⊥
 
-abbrev pub DeletesKeys : {W : Type 0} → DeleteAllRelation W → (W → List ℕ) → Option W → List Bytes → Result (Unit {0}) ℕ → List Bytes → Option W → Type 0
+abbrev pub DeletesKeys : {W : Type 0} → DeleteAllRelation W → (W → List ℕ) → Option W → List Bytes → Result (Unit {0}) ℕ
+    → List Bytes → Option W → Type 0
 DeletesKeys deletes_all state (Some old) keys returned left (Some new) = deletes_all old keys returned left (state new)
 DeletesKeys deletes_all state (Some old) keys returned left None = ⊥
 DeletesKeys deletes_all state None keys returned left new = ⊥
 
-abbrev pub WritesAllOnce : {W : Type 0} → WriteAllRelation W → DeleteAllRelation W → (W → List ℕ) → Option W → Batch → Result (Unit {0}) ℕ → (Bytes → WriteAnswer) → Option W → Type 0
+abbrev pub WritesAllOnce : {W : Type 0} → WriteAllRelation W → DeleteAllRelation W → (W → List ℕ) → Option W → Batch
+    → Result (Unit {0}) ℕ → (Bytes → WriteAnswer) → Option W → Type 0
 WritesAllOnce writes_all deletes_all state old (Writes batch) returned said new =
-    (left : List (Bytes × Bytes)) × ((key : Bytes) → said key ≡ answer_in_batch (keys_of left) (returned_fault returned) key) × WritesEntries writes_all state old batch.items returned left new
+    (left : List (Bytes × Bytes)) × ((key : Bytes) → said key ≡ answer_in_batch (keys_of left) (returned_fault returned) key)
+    × WritesEntries writes_all state old batch.items returned left new
 WritesAllOnce writes_all deletes_all state old (Deletes batch) returned said new =
-    (left : List Bytes) × ((key : Bytes) → said key ≡ answer_in_batch left (returned_fault returned) key) × DeletesKeys deletes_all state old batch.items returned left new
+    (left : List Bytes) × ((key : Bytes) → said key ≡ answer_in_batch left (returned_fault returned) key)
+    × DeletesKeys deletes_all state old batch.items returned left new
 
 abbrev pub writes_done : {A : Type 0} → (A → Bytes) → (Bytes → WriteAnswer) → List A → List (WriteResult A)
 writes_done key_of said asks = map (λ ask. record { ask = ask; origin = Live; answer = said (key_of ask) }) asks

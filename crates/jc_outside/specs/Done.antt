@@ -1,4 +1,4 @@
--- Done values, as data.
+-- What contracts see of done values, each the answer of a loader or the report of a writer to one ask.
 --     LoadResult      the answer of a loader to an ask, and where it comes from
 --     WriteResult     the report of a writer to an ask, and where it comes from
 use Rattle.jc_model.specs.declared.event.LoadAnswer.{LoadAnswer}

@@ -1,4 +1,4 @@
-//! Completion listeners.
+//! Completion listeners, each of which is told of the end of a `loadAll` (JSR 107, `CompletionListener`).
 use jc_types::Refusal;
 
 /// A listener, which is told how a `loadAll` ended (`javax.cache.integration.CompletionListener`; JSR 107, "Integration").

@@ -1,4 +1,4 @@
-//! Loaders.
+//! Loaders, which a caller brings to a cache (JSR 107, `CacheLoader`).
 use jc_batch::Answers;
 use jc_types::{Key, Value};
 

@@ -1,4 +1,4 @@
-//! Writers.
+//! Writers, which a caller brings to a cache (JSR 107, `CacheWriter`).
 use indexmap::{IndexMap, IndexSet};
 use jc_types::{Key, Value};
 

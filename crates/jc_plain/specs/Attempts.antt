@@ -1,4 +1,4 @@
--- Attempts at the members of a collection, each a call of one closure that may fail.
+-- Attempts at the members of a collection, each a call of one closure that may fail. No contract of a public function cites this.
 --     FailsAt         an attempt at this key was made, and the flag tells whether it failed
 --     FailsAtEntry    an attempt at this entry was made, and the flag tells whether it failed; the entry's value stays
 use Rattle.std.specs.Prelude.{◌≡◌, ℕ, Bool, Result, is_err}

@@ -10,4 +10,5 @@ abbrev pub LoadsEach : {L : Type 0} → (L → Bytes → Result (Option Bytes) �
 LoadsEach loads state l [] answers result after end = (result ≡ Ok tt) × (after ≡ answers) × (end ≡ state l)
 LoadsEach {L = L} loads state l (key ∷ keys) answers result after end =
     ((code : ℕ) × loads l key (Err code) end × (result ≡ Err code) × (after ≡ answers))
-    ⊎ ((mid : L) × (found : Option Bytes) × loads l key (Ok found) (state mid) × LoadsEach loads state mid keys (answers_with_found answers key found) result after end)
+    ⊎ ((mid : L) × (found : Option Bytes) × loads l key (Ok found) (state mid)
+    × LoadsEach loads state mid keys (answers_with_found answers key found) result after end)

@@ -12,13 +12,16 @@ use Rattle.jc_model.specs.declared.event.Change.TheVariants.{Write, Delete}
 
 module _ {W : Type 0} (writes : W → Bytes → Change → Result (Unit {0}) ℕ → List ℕ → Type 0) (state : W → List ℕ) where
   abbrev pub WritesOne : W → Bytes → Bytes → Bool → Bytes → W → Type 0
-  WritesOne before key value failed left after = (answer : Result (Unit {0}) ℕ) × writes before key (Write value) answer (state after) × (failed ≡ is_err answer) × (left ≡ value)
+  WritesOne before key value failed left after =
+      (answer : Result (Unit {0}) ℕ) × writes before key (Write value) answer (state after)
+      × (failed ≡ is_err answer) × (left ≡ value)
 
   abbrev pub WritesEach : W → List (Bytes × Bytes) → Result (Unit {0}) ℕ → List (Bytes × Bytes) → Type 0
   WritesEach w entries result left = RetainsPairs WritesOne w entries left × (IsOk result ↔ (left ≡ []))
 
   abbrev pub DeletesOne : W → Bytes → Bool → W → Type 0
-  DeletesOne before key failed after = (answer : Result (Unit {0}) ℕ) × writes before key Delete answer (state after) × (failed ≡ is_err answer)
+  DeletesOne before key failed after =
+      (answer : Result (Unit {0}) ℕ) × writes before key Delete answer (state after) × (failed ≡ is_err answer)
 
   abbrev pub DeletesEach : W → List Bytes → Result (Unit {0}) ℕ → List Bytes → Type 0
   DeletesEach w keys result left = IsFiltered DeletesOne w keys left × (IsOk result ↔ (left ≡ []))

@@ -1,4 +1,5 @@
--- The invariant of a counter between any two steps of its table, and the meaning of a claim.
+-- The invariant of the counter from which the workers of a pool claim their pieces, between any two of its steps, and the meaning
+-- of a claim. No contract of a public function cites this.
 --     ClaimsFit       a claimer agrees with the number that the counter has: its claims are below it, and if one of its workers
 --                     has ended, the number is past the last piece; a claimer of nobody has no claims, any other one has the
 --                     counter's plan

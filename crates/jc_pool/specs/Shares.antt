@@ -1,4 +1,4 @@
--- The pieces that each worker did.
+-- What `run_pieces` promises: which pieces each worker of a pool did, and that each piece was done once.
 --     times           how often a number is in a list
 --     once_below      1 for a number below n, otherwise 0
 --     CanDoAll        a worker can do each piece below `pieces`
@@ -36,7 +36,8 @@ module _ {W J : Type 0} (did : W → List ℕ) (job : W → J) (can_do : W → �
   pub record DoShares (old new : List W) (shares : List (List ℕ)) : Type 0 where
     pub workers : length new ≡ length old
     pub share_each : length shares ≡ length old
-    pub each : (k : ℕ) (d : W) → k < length old → DoesShare (slice_index_or old k d) (slice_index_or new k d) (slice_index_or shares k [])
+    pub each : (k : ℕ) (d : W) → k < length old
+        → DoesShare (slice_index_or old k d) (slice_index_or new k d) (slice_index_or shares k [])
 
   pub record DoesEachOnce (old new : List W) : Type 0 where
     pub shares : List (List ℕ)

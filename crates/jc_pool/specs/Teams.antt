@@ -1,4 +1,5 @@
--- Workers, each with its tool, that claim with one claimer.
+-- The workers of a pool side by side, each with its tool, before and after they do pieces that they claim with one claimer. No
+-- contract of a public function cites this.
 --     CanBegin     a claimer is of this counter and for these workers, of whom there is at least one, and has claimed nothing;
 --                  there are as many tools, and each worker can do every piece
 --     CanBeginHalves    as `CanBegin`, for the workers of two halves, the second of which is half of all, rounded down
@@ -12,14 +13,16 @@ use Rattle.jc_pool.specs.declared.view.Claims.{Claims}
 use Rattle.jc_pool.specs.Shares.{CanDoAll, DoesShare, DoShares}
 use Rattle.jc_pool.specs.Views.{fresh_claims, ended_claims}
 
-pub record CanBegin {W T : Type 0} (can_do : W × T → ℕ → Type 0) (counter : TableId × JobPlan) (claimer : TableId × Claims) (workers : List W) (tools : List T) : Type 0 where
+pub record CanBegin {W T : Type 0} (can_do : W × T → ℕ → Type 0) (counter : TableId × JobPlan) (claimer : TableId × Claims)
+    (workers : List W) (tools : List T) : Type 0 where
   pub counter_is : claimer.0 ≡ counter.0
   pub claims : claimer.1 ≡ fresh_claims counter.1 (length workers)
   pub some : 0 < length workers
   pub tool_each : length tools ≡ length workers
   pub able : All (CanDoAll can_do counter.1.pieces) (zip workers tools)
 
-pub record CanBeginHalves {W T : Type 0} (can_do : W × T → ℕ → Type 0) (counter : TableId × JobPlan) (claimer : TableId × Claims) (first : List W) (first_tools : List T) (rest : List W) (rest_tools : List T) : Type 0 where
+pub record CanBeginHalves {W T : Type 0} (can_do : W × T → ℕ → Type 0) (counter : TableId × JobPlan) (claimer : TableId × Claims)
+    (first : List W) (first_tools : List T) (rest : List W) (rest_tools : List T) : Type 0 where
   pub can : CanBegin can_do counter claimer (first ++ rest) (first_tools ++ rest_tools)
   pub some : 0 < length first
   pub others : 0 < length rest

@@ -1,4 +1,5 @@
--- The knowledge of a claimer, and its change by each call.
+-- What a claimer, with which workers of a pool claim their pieces, knows of the counter, and how each call changes that. No
+-- contract of a public function cites this.
 --     workers_of            the number of workers that a claimer is for
 --     least_above           the least number above all of a list
 --     fresh_claims          a claimer for a number of workers, none of whom has claimed a piece

@@ -1,4 +1,4 @@
-//! The counter that pieces are claimed from.
+//! The counter from which the workers of a pool claim their pieces.
 ghost use Rattle.std.specs.Prelude.{◌≡◌, ℕ, ◌+◌, ◌-◌, ◌^◌, ◌<◌, ◌≤◌, IfOk, IfSome, IfNone};
 ghost use Rattle.jc_pool.specs.Shares.{times, once_below};
 ghost use Rattle.jc_pool.specs.Views.{fresh_claims, least_above, after_claim, after_end, claims_after_split, split_off, claims_after_join, IsClaimerOf};

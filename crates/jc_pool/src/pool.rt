@@ -1,4 +1,4 @@
-//! Workers side by side.
+//! A pool: workers side by side, which do the pieces of one job (`run_pieces`).
 ghost use Rattle.std.specs.Prelude.{◌≡◌, ◌+◌, ◌^◌, ◌<◌, ◌++◌, All, length, OnOk, OnErr};
 ghost use Rattle.std.specs.List.{zip};
 ghost use denote.Param.Send.{IsSync, IsSend};

@@ -1,4 +1,4 @@
-//! The rule of a counter's table, and its steps. The types are for the proofs alone.
+//! The rule of the counter from which a pool's pieces are claimed, and its steps. The types are for the proofs alone.
 use crate::view::{Claims, JobPlan};
 use atomic_table::{Join, Play, Split, TableRule};
 

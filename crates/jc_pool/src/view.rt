@@ -1,4 +1,4 @@
-//! The knowledge of a claimer.
+//! What a claimer, with which workers of a pool claim their pieces, knows, as data of contracts.
 use std::collections::LinkedList;
 
 /// The numbers of pieces and of workers of one job.

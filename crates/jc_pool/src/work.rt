@@ -1,4 +1,4 @@
-//! Workers.
+//! The workers of a pool, which its caller brings: each does pieces of one job (`Work`).
 ghost use Rattle.std.specs.Prelude.{◌≡◌, ℕ, ◌<◌, ◌++◌, [], ◌∷◌, List};
 
 /// A worker, which does pieces of a job. The pieces are numbered from 0 on.

@@ -21,7 +21,8 @@
 --     foreign_call           what another program did
 --     at_foreign, at_set, at_call, at_note, at_place, at_key
 --                            the same with one more line, and with those at some places
-use Rattle.std.specs.Prelude.{◌==◌, ℕ, List, [], ◌∷◌, ◌++◌, drop, Bool, true, false, ◌&&◌, ◌||◌, Option, None, Some, is_some, is_none, Result, Ok, Err, if◌then◌else◌}
+use Rattle.std.specs.Prelude.{◌==◌, ℕ, List, [], ◌∷◌, ◌++◌, drop, Bool, true, false, ◌&&◌, ◌||◌, Option, None, Some, is_some}
+use Rattle.std.specs.Prelude.{is_none, Result, Ok, Err, if◌then◌else◌}
 use Rattle.std.specs.Cmp.Lexicographic.{pointwise}
 use Rattle.jc_types.specs.declared.refusal.Refusal.TheVariants.{LoaderFailed}
 use Rattle.jc_model.specs.Batches.{is_among}

@@ -1,4 +1,5 @@
--- What an answer says of a key besides its line and its calls: the order that explains it, or a part that no order explains, and why.
+-- What an answer says of a key besides its line and its calls: the order that explains it, or a part that no order explains, and
+-- why.
 --     act_text, line_at, turn_line, witness_text
 --                             what a call does in a turn; a call's line, if it is there; a turn; turns
 --     part_line, part_lines   a call, unless it is forgotten; calls
@@ -12,11 +13,13 @@
 --     ask_text                what a loader ought to have been asked, if that differs
 --     reply_words             what a call answers by the operation table
 --     reply_due, refrain_due, load_due, writer_due, due_text
---                             what a call had to answer; or what its loader had to answer; or whether its writer had to be asked; or
---                             whether its loader had to be asked: the first that differs
+--                             what a call had to answer; or what its loader had to answer; or whether its writer had to be asked;
+--                             or whether its loader had to be asked: the first that differs
 --     spot_line, reason_head, reason_text
---                             one thing that could be at a key, and what the call had to do; whose reasons they are; and all of them
-use Rattle.std.specs.Prelude.{◌==◌, ℕ, List, [], ◌++◌, length, codes, decimal, Bool, true, false, not, ◌&&◌, nat_le, nat_lt, Option, None, Some, is_none, is_some, slice_get, if◌then◌else◌}
+--                             one thing that could be at a key, and what the call had to do; whose reasons they are; and all of
+--                             them
+use Rattle.std.specs.Prelude.{◌==◌, ℕ, List, [], ◌++◌, length, codes, decimal, Bool, true, false, not, ◌&&◌, nat_le, nat_lt, Option}
+use Rattle.std.specs.Prelude.{None, Some, is_none, is_some, slice_get, if◌then◌else◌}
 use Rattle.std.specs.List.{count_by, flat_map, list_all}
 use Rattle.jc_model.specs.Cache.{Bytes}
 use Rattle.jc_model.specs.declared.event.LoadAnswer.{LoadAnswer}
@@ -128,7 +131,8 @@ does_load_differ is_known (Known stored) (load.Found value) = is_known && not (h
 does_load_differ is_known (Known stored) load.Nothing = is_known && is_some stored
 
 abbrev pub is_writer_asked : Rules → Spot → Recorded → Bool
-is_writer_asked rules s c = rules.config.write_through && is_none (early_fault c.out) && is_some (write_ask c.op s.entry c.out.process)
+is_writer_asked rules s c =
+    rules.config.write_through && is_none (early_fault c.out) && is_some (write_ask c.op s.entry c.out.process)
 
 unfoldable pub reply_words : Spot → Recorded → List ℕ
 reply_words s c = reply_text (reply_after c.op s.entry c.out)

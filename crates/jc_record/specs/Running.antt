@@ -7,7 +7,8 @@
 --     at_key                   the calls at a key, by the places of the lines that name it, and of those that name every key
 --     is_listed, listed_text   the calls of a key that isn't explained, up to a number of them
 --     ReasonTold, PartTold     a text tells why no order explains a part, and such a part of calls that no order explains
---     IsPartTold, IsDetail     a text tells such a part, if parts are told; it tells the order that explains a key, if it is asked for; or such a part, if it is told
+--     IsPartTold, IsDetail     a text tells such a part, if parts are told; it tells the order that explains a key, if it is asked
+--                              for; or such a part, if it is told
 --     is_told                  parts are told for so many keys alone
 --     case_of, AnswersCase     what calls are judged by, and a text is the answer for a key with these calls
 --     AnswersKey, AnswersKeys  a text is the answer for a key, whose calls may be in any order, and for keys
@@ -20,7 +21,8 @@
 --     TakesAll                 all the bytes of a reader were taken, and they are these, within the limit
 --     ChecksRecord, BreaksOffCheck
 --                              the input was read to its end, and its answer written, or a part of it up to a write that failed
-use Rattle.std.specs.Prelude.{◌≡◌, ◌≤◌, ◌⊎◌, ℕ, ◌+◌, List, [], ◌∷◌, ◌++◌, take, min, length, map, codes, Bool, true, false, nat_lt, Option, None, Some, Ok, Err, if◌then◌else◌}
+use Rattle.std.specs.Prelude.{◌≡◌, ◌≤◌, ◌⊎◌, ℕ, ◌+◌, List, [], ◌∷◌, ◌++◌, take, min, length, map, codes, Bool, true, false, nat_lt}
+use Rattle.std.specs.Prelude.{Option, None, Some, Ok, Err, if◌then◌else◌}
 use Rattle.std.specs.List.Sorted.{IsPermutation}
 use Rattle.std.specs.Io.KnownBytes.{Appends, Consumes, IsAtEnd}
 use Rattle.jc_model.specs.Cache.{Bytes}
@@ -114,7 +116,8 @@ IsPartTold false rules calls opening out = out ≡ []
 -- is the order asked for; is a part told
 abbrev pub IsDetail : Bool → Bool → Rules → List Recorded → Spot → Option Verdict → List ℕ → Type 0
 IsDetail ordered parted rules calls opening None out = out ≡ []
-IsDetail ordered parted rules calls opening (Some (verdict.Explained turns)) out = out ≡ (if ordered then witness_text calls turns.items else [])
+IsDetail ordered parted rules calls opening (Some (verdict.Explained turns)) out =
+    out ≡ (if ordered then witness_text calls turns.items else [])
 IsDetail ordered parted rules calls opening (Some (verdict.Refuted states)) out = IsPartTold parted rules calls opening out
 IsDetail ordered parted rules calls opening (Some (verdict.Stopped states)) out = out ≡ []
 
@@ -125,7 +128,8 @@ abbrev pub case_of : Asked → Bool × Bool → AtKey → Case
 case_of asked flags at =
     record { rules = rules_of asked flags; opening = opening_spot at.store; budget = asked.states; odd = at.odd }
 
-pub record AnswersCase (case : Case) (wanted : Wanted) (key : Bytes) (calls : List Recorded) (out : List ℕ) (end : KeyEnd) : Type 0 where
+pub record AnswersCase (case : Case) (wanted : Wanted) (key : Bytes) (calls : List Recorded) (out : List ℕ)
+    (end : KeyEnd) : Type 0 where
   pub verdict : Option Verdict
   pub judged : IsJudged case.rules case.opening case.budget calls case.odd verdict
   pub end_is : end ≡ end_of_judged case.budget verdict
@@ -133,12 +137,14 @@ pub record AnswersCase (case : Case) (wanted : Wanted) (key : Bytes) (calls : Li
   pub detail : IsDetail wanted.order wanted.part case.rules calls case.opening verdict more
   pub text : out ≡ key_line key end calls ++ (listed_text end calls ++ more)
 
-pub record AnswersKey (asked : Asked) (r : RecordValue) (key : Bytes) (places every : List ℕ) (parted : Bool) (out : List ℕ) (end : KeyEnd) : Type 0 where
+pub record AnswersKey (asked : Asked) (r : RecordValue) (key : Bytes) (places every : List ℕ) (parted : Bool) (out : List ℕ)
+    (end : KeyEnd) : Type 0 where
   pub found : List Recorded
   pub recorded : map call_value found ≡ (at_key key r places every).calls
   pub calls : List Recorded
   pub sorted : IsPermutation found calls
-  pub answered : AnswersCase (case_of asked r.config (at_key key r places every)) (record { order = asked.is_ordered; part = parted }) key calls out end
+  pub answered : AnswersCase (case_of asked r.config (at_key key r places every))
+      (record { order = asked.is_ordered; part = parted }) key calls out end
 
 -- of the keys from a number on; from how many keys ended how, to that after all of them
 abbrev pub AnswersKeys : Asked → RecordValue → IndexValue → ℕ → List Bytes → Tally → List ℕ → Tally → Type 0
@@ -169,11 +175,13 @@ hint_text fault.BadLine = codes "see docs/CHECK.md for the lines of a record; th
 hint_text fault.BadNumber = codes "a number has up to 9 digits, and a time up to 19 after its @\n"
 hint_text fault.BadCaller = codes "a line begins with its time, if it has one, and its thread: t and a number up to 1023\n"
 hint_text fault.BadKey = codes "a key is 1 to 32 letters, digits, underscores and dots\n"
-hint_text fault.BadValue = codes "a value is up to 256 letters, digits, underscores and dots; ~ is the empty one, and - is none where none may be\n"
+hint_text fault.BadValue =
+    codes "a value is up to 256 letters, digits, underscores and dots; ~ is the empty one, and - is none where none may be\n"
 hint_text fault.RepeatedKey = codes "the line names a key twice\n"
 hint_text fault.NotOpen = codes "`open`, with `read` and `write` if they are on, comes before the first event\n"
 hint_text fault.OpenTwice = codes "one record has one `open`\n"
-hint_text fault.NotRising = codes "its time is before that of the line above: sort the lines by their times, and keep equal ones as they are\n"
+hint_text fault.NotRising =
+    codes "its time is before that of the line above: sort the lines by their times, and keep equal ones as they are\n"
 hint_text fault.NoSuchCall = codes "no call with this number has begun and not ended: its `call` comes first, and its `is` last\n"
 hint_text fault.NotNow = codes "a call with this number has begun and not ended\n"
 hint_text other = []

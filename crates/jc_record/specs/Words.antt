@@ -21,7 +21,8 @@
 --     end_named, is_end           how it ended
 --     RunValue, new_run, run_onto, whole_run, run_of
 --                                 its run, from the words of a line
-use Rattle.std.specs.Prelude.{ℕ, ◌+◌, List, [], ◌∷◌, ◌++◌, length, drop, codes, Bool, true, false, ◌||◌, Option, None, Some, Result, Ok, Err, if◌then◌else◌}
+use Rattle.std.specs.Prelude.{ℕ, ◌+◌, List, [], ◌∷◌, ◌++◌, length, drop, codes, Bool, true, false, ◌||◌, Option, None, Some, Result}
+use Rattle.std.specs.Prelude.{Ok, Err, if◌then◌else◌}
 use Rattle.std.specs.Str.{bytes_eq}
 use Rattle.jc_types.specs.declared.refusal.Refusal.TheVariants.{LoaderFailed, WriterFailed, ProcessorFailed}
 use Rattle.jc_model.specs.Cache.{Bytes}
@@ -50,7 +51,8 @@ use Rattle.jc_text.specs.declared.read.line.BulkLine.TheVariants as bulk
 use Rattle.jc_text.specs.declared.read.line.Line.{Line}
 use Rattle.jc_text.specs.declared.read.line.Line.TheVariants as line
 use Rattle.jc_text.specs.Lines.{begin_of}
-use Rattle.jc_text.specs.Words.{◌>>=◌, Pairs, distinct_keys_of, key_text, number_of, pairs_of, said, value_of, value_or_none_of, words_onto}
+use Rattle.jc_text.specs.Words.{◌>>=◌, Pairs, distinct_keys_of, key_text, number_of, pairs_of, said, value_of, value_or_none_of}
+use Rattle.jc_text.specs.Words.{words_onto}
 use Rattle.jc_record.specs.declared.told.AnswerForm.{AnswerForm}
 use Rattle.jc_record.specs.declared.told.AnswerForm.TheVariants as form
 use Rattle.jc_record.specs.declared.told.Told.{Told}
@@ -159,10 +161,14 @@ flag_said word = if bytes_eq word (codes "true") then Ok true else if bytes_eq w
 
 abbrev pub sight_named : List ℕ → List ℕ → Result EntrySight Fault
 sight_named name says =
-    if bytes_eq name (codes "get") then (value_or_none_of says >>= λ value. Ok (record { call = entry_call.GetValue; answer = entry.Value value })) else
-    if bytes_eq name (codes "getfails") then (number_of says >>= λ code. Ok (record { call = entry_call.GetValue; answer = entry.Failed code })) else
-    if bytes_eq name (codes "exists") then (flag_said says >>= λ flag. Ok (record { call = entry_call.Exists; answer = entry.Present flag })) else
-    if bytes_eq name (codes "set") then (value_of says >>= λ value. Ok (record { call = entry_call.SetValue value; answer = entry.Done })) else
+    if bytes_eq name (codes "get")
+    then (value_or_none_of says >>= λ value. Ok (record { call = entry_call.GetValue; answer = entry.Value value })) else
+    if bytes_eq name (codes "getfails")
+    then (number_of says >>= λ code. Ok (record { call = entry_call.GetValue; answer = entry.Failed code })) else
+    if bytes_eq name (codes "exists")
+    then (flag_said says >>= λ flag. Ok (record { call = entry_call.Exists; answer = entry.Present flag })) else
+    if bytes_eq name (codes "set")
+    then (value_of says >>= λ value. Ok (record { call = entry_call.SetValue value; answer = entry.Done })) else
     Err BadLine
 
 abbrev pub sight_of : List ℕ → Result EntrySight Fault

@@ -1,4 +1,5 @@
--- The meaning of the fields of `Reservations`, and their invariant. Callers see the table alone.
+-- The meaning of the fields of `Reservations`, and their invariant. Callers see the table alone. No contract of a public function
+-- cites this.
 --     table_of     the table that the fields mean
 --     HasTable     the keys are those of the reservations, and the table satisfies `IsReservationTable`
 use Rattle.std.specs.Prelude.{◌≡◌, ℕ, map}

@@ -1,4 +1,4 @@
--- The invariant of every table.
+-- The invariant of the table of a stripe's reservations.
 --     IsReservationTable    at most RESERVATIONS_MAX keys are reserved, none of them twice, by numbers that rise and are all
 --                           below the next one
 use Rattle.std.specs.Prelude.{◌≡◌, ◌<◌, ◌≤◌, ℕ, length, false, All, AllPairs}

@@ -1,4 +1,5 @@
--- Looking a key up, reserving it and releasing it. The key of a reservation is what its type states.
+-- Looking a key up in the table of a stripe's reservations, reserving it and releasing it. The key of a reservation is what its
+-- type states.
 --     has_key        whether a reservation is of this key
 --     is_held        whether the key is reserved
 --     reservation_at the reservation of the key, or none

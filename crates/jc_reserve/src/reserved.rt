@@ -1,4 +1,4 @@
-//! One reservation.
+//! One reservation, as the table of a stripe's reservations keeps it.
 use jc_types::Key;
 
 /// A reservation as the table keeps it: of a key, with a number. Its owner may add further fields.

@@ -17,7 +17,8 @@
 --     AreAnswers        these are the answers for each of these reservations, as a round gave them for its key
 --     CommitsNext       a last phase at the key of a reservation, by the first of the answers: it makes the step of a phase at
 --                       that key alone, with the round's answer for the key, and leaves the other answers
-use Rattle.std.specs.Prelude.{◌≡◌, ◌∷◌, ℕ, vec_capacity, List, map, reverse, Bool, true, false, not, Option, None, Some, if◌then◌else◌}
+use Rattle.std.specs.Prelude.{◌≡◌, ◌∷◌, ℕ, vec_capacity, List, map, reverse, Bool, true, false, not, Option, None, Some}
+use Rattle.std.specs.Prelude.{if◌then◌else◌}
 use Rattle.std.specs.List.{AllByRecursion, IsAmong, filter_map}
 use Rattle.jc_types.specs.declared.config.Config.{Config}
 use Rattle.jc_model.specs.Batches.{is_among}
@@ -36,7 +37,8 @@ use Rattle.jc_mutentry.specs.Done.{ProcessResult}
 use Rattle.jc_stripe.specs.Effects.{HasReport, report_answer}
 use Rattle.jc_stripe.specs.declared.ticket.First.{First}
 use Rattle.jc_stripe.specs.declared.ticket.Reservation.{Reservation}
-use Rattle.jc_stripe.specs.Tickets.{Claim, asks_loader, asks_processor, asks_writer, claim_of, entry_seen, is_loadable, report_claim}
+use Rattle.jc_stripe.specs.Tickets.{Claim, asks_loader, asks_processor, asks_writer, claim_of, entry_seen, is_loadable}
+use Rattle.jc_stripe.specs.Tickets.{report_claim}
 use Rattle.jc_session.specs.declared.counts.Counted.TheVariants.{Committed}
 use Rattle.jc_session.specs.declared.session.Session.{Session}
 use Rattle.jc_cache.specs.Caches.{CacheState}
@@ -44,7 +46,8 @@ use Rattle.jc_rounds.specs.declared.answers.RoundAnswers.{RoundAnswers}
 use Rattle.jc_rounds.specs.declared.answers.RoundAnswers.TheVariants as answers
 use Rattle.jc_rounds.specs.KeyPhases.{IsKeyPhase}
 use Rattle.jc_rounds.specs.Keys.{IsCommitted}
-use Rattle.jc_rounds.specs.Rounds.{IsAnswer, KeyRun, LoadAll, ProcessAll, ProcessRound, Round, WriteAll, answer_by, change_of, keys_asked}
+use Rattle.jc_rounds.specs.Rounds.{IsAnswer, KeyRun, LoadAll, ProcessAll, ProcessRound, Round, WriteAll, answer_by, change_of}
+use Rattle.jc_rounds.specs.Rounds.{keys_asked}
 use Rattle.jc_rounds.specs.Seats.{view_of}
 
 abbrev pub asked_key : Claim → Bytes
@@ -79,7 +82,8 @@ is_change_of deletes (Some Delete) = deletes
 
 abbrev pub claim_after : Bool → Bool → RunState → Option Claim
 claim_after through deletes run =
-    if is_change_of deletes (change_of through (key_run run)) then Some (report_claim run.reservation (change_of through (key_run run))) else None
+    if is_change_of deletes (change_of through (key_run run))
+    then Some (report_claim run.reservation (change_of through (key_run run))) else None
 
 abbrev pub claims_after : Bool → Bool → List RunState → List Claim
 claims_after through deletes runs = filter_map (claim_after through deletes) runs
@@ -92,7 +96,8 @@ reports through deletes said runs = writes_done asked_key said (claims_after thr
 abbrev pub IsToBeAnswered : (First → Bool) → Round → Reservation → Type 0
 IsToBeAnswered asks round r = (asks r.first ≡ true) × (is_among (keys_asked round) r.key ≡ true)
 
-pub record AreProcessed (through : Bool) (round : ProcessRound) (done : List (ProcessResult Claim)) (written deleted : List (WriteResult Claim)) (calls : List Reservation) : Type 0 where
+pub record AreProcessed (through : Bool) (round : ProcessRound) (done : List (ProcessResult Claim))
+    (written deleted : List (WriteResult Claim)) (calls : List Reservation) : Type 0 where
   pub runs : List RunState
   pub calls_are : calls ≡ reservations_of runs
   pub done_are : done ≡ map done_of runs
@@ -101,14 +106,17 @@ pub record AreProcessed (through : Bool) (round : ProcessRound) (done : List (Pr
   pub each : AllByRecursion (λ (run : RunState). IsAmong round.runs (key_run run)) runs
 
 -- the reports stand in the other order
-pub record IsReportedOn (through : Bool) (round : ProcessRound) (run : RunState) (runs : List RunState) (done : ProcessResult Claim) (written deleted : List (WriteResult Claim)) : Type 0 where
+pub record IsReportedOn (through : Bool) (round : ProcessRound) (run : RunState) (runs : List RunState) (done : ProcessResult Claim)
+    (written deleted : List (WriteResult Claim)) : Type 0 where
   pub done_is : done ≡ done_of run
   pub written_are : reverse written ≡ reports through false round.written (run ∷ runs)
   pub deleted_are : reverse deleted ≡ reports through true round.deleted (run ∷ runs)
 
-pub record TakesReport (through : Bool) (round : ProcessRound) (run : RunState) (runs : List RunState) (report : Option (WriteResult Claim)) (written deleted : List (WriteResult Claim)) : Type 0 where
+pub record TakesReport (through : Bool) (round : ProcessRound) (run : RunState) (runs : List RunState)
+    (report : Option (WriteResult Claim)) (written deleted : List (WriteResult Claim)) : Type 0 where
   pub due : HasReport Live run.reservation (change_of through (key_run run)) report
-  pub answer : report_answer report ≡ answer_by (change_of through (key_run run)) (round.written run.reservation.key) (round.deleted run.reservation.key)
+  pub answer : report_answer report
+      ≡ answer_by (change_of through (key_run run)) (round.written run.reservation.key) (round.deleted run.reservation.key)
   pub written_are : reverse written ≡ reports through false round.written runs
   pub deleted_are : reverse deleted ≡ reports through true round.deleted runs
 
@@ -119,11 +127,14 @@ done_room (answers.Processes done written deleted) = vec_capacity done
 
 abbrev pub AreAnswers : Config → Round → RoundAnswers → List Reservation → Type 0
 AreAnswers config (LoadAll r) (answers.Loads done) calls =
-    (reverse done.items ≡ loads_done asked_key r.said (map claim_of calls)) × AllByRecursion (IsToBeAnswered asks_loader (LoadAll r)) calls
+    (reverse done.items ≡ loads_done asked_key r.said (map claim_of calls))
+    × AllByRecursion (IsToBeAnswered asks_loader (LoadAll r)) calls
 AreAnswers config (WriteAll r) (answers.Writes done) calls =
-    (reverse done.items ≡ writes_done asked_key r.said (map claim_of calls)) × AllByRecursion (IsToBeAnswered asks_writer (WriteAll r)) calls
+    (reverse done.items ≡ writes_done asked_key r.said (map claim_of calls))
+    × AllByRecursion (IsToBeAnswered asks_writer (WriteAll r)) calls
 AreAnswers config (ProcessAll r) (answers.Processes done written deleted) calls =
-    AreProcessed config.write_through r (reverse done.items) (reverse written.items) (reverse deleted.items) calls × AllByRecursion (IsToBeAnswered asks_processor (ProcessAll r)) calls
+    AreProcessed config.write_through r (reverse done.items) (reverse written.items) (reverse deleted.items) calls
+    × AllByRecursion (IsToBeAnswered asks_processor (ProcessAll r)) calls
 AreAnswers config (LoadAll r) (answers.Writes done) calls = ⊥
 AreAnswers config (LoadAll r) (answers.Processes done written deleted) calls = ⊥
 AreAnswers config (WriteAll r) (answers.Loads done) calls = ⊥

@@ -26,11 +26,14 @@ reserved_keys calls = map (λ (r : Reservation). r.key) calls
 
 abbrev pub AsksFor : Config → List (Bytes × Op) → Round → Type 0
 AsksFor config targets (LoadAll r) =
-    All (λ (key : Bytes). (op : Op) × (entry : Option Bytes) × IsAmong targets (key, op) × (asks_loader (first_asked config op entry) ≡ true)) r.keys
+    All (λ (key : Bytes). (op : Op) × (entry : Option Bytes) × IsAmong targets (key, op)
+    × (asks_loader (first_asked config op entry) ≡ true)) r.keys
 AsksFor config targets (WriteAll r) =
-    All (λ (c : Bytes × Option Change). (op : Op) × (entry : Option Bytes) × IsAmong targets (c.0, op) × (c.1 ≡ change_asked (first_asked config op entry))) (changes_of r.batch)
+    All (λ (c : Bytes × Option Change). (op : Op) × (entry : Option Bytes) × IsAmong targets (c.0, op)
+    × (c.1 ≡ change_asked (first_asked config op entry))) (changes_of r.batch)
 AsksFor config targets (ProcessAll r) =
-    All (λ (run : KeyRun). (op : Op) × (entry : Option Bytes) × IsAmong targets (run.key, op) × (asks_processor (first_asked config op entry) ≡ true) × IsShown (first_asked config op entry) run) r.runs
+    All (λ (run : KeyRun). (op : Op) × (entry : Option Bytes) × IsAmong targets (run.key, op)
+    × (asks_processor (first_asked config op entry) ≡ true) × IsShown (first_asked config op entry) run) r.runs
 
 abbrev pub IsInOrder : List (Bytes × Op) → Round → Type 0
 IsInOrder targets round = keys_asked round ≡ filter (is_among (keys_asked round)) (keys_of targets)
@@ -41,7 +44,8 @@ pub record AsksEachOnce (config : Config) (targets : List (Bytes × Op)) (rounds
   pub once : IsDistinct (pointwise ◌==◌) (asked_in rounds)
   pub ordered : All (IsInOrder targets) rounds
 
-pub record HasAskedSoFar (config : Config) (targets : List (Bytes × Op)) (rounds : List Round) (progress : List KeyProgress) : Type 0 where
+pub record HasAskedSoFar (config : Config) (targets : List (Bytes × Op)) (rounds : List Round)
+    (progress : List KeyProgress) : Type 0 where
   pub asked : AsksEachOnce config targets rounds
   pub over : (place : ℕ) (key : Bytes) (op : Op) → slice_get targets place ≡ Some (key, op) → is_among (asked_in rounds) key ≡ true
       → (p : KeyProgress) × (slice_get progress place ≡ Some p) × (is_held_back p ≡ false)

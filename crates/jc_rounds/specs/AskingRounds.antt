@@ -25,7 +25,8 @@ pub record KeepsTickets (tickets tickets' : Vec TicketClaim) : Type 0 where
   pub room : vec_capacity tickets' ≡ vec_capacity tickets
 
 -- `old` and `before` are the session and the call before the round
-pub record HasReserved {I J : Type 0} {D : I → Type 0} {E : J → Type 0} (cache : CacheState) (past : CallPast) (session : Session I J D E) (call : BulkCall) : Type 0 where
+pub record HasReserved {I J : Type 0} {D : I → Type 0} {E : J → Type 0} (cache : CacheState) (past : CallPast)
+    (session : Session I J D E) (call : BulkCall) : Type 0 where
   pub old : Session I J D E
   pub before : BulkCall
   pub run : HasRun cache past old before
@@ -34,7 +35,8 @@ pub record HasReserved {I J : Type 0} {D : I → Type 0} {E : J → Type 0} (cac
   pub some : call.tickets.items ≡ [] → ⊥
 
 -- `asking` and `reserving` are the session and the call once the round has reserved its keys; `fault` is what the writer returned
-pub record IsRoundTold {I J : Type 0} {D : I → Type 0} {E : J → Type 0} (cache : CacheState) (past : CallPast) (round : Round) (session : Session I J D E) (call : BulkCall) (answers : RoundAnswers) (fault : Option Refusal) : Type 0 where
+pub record IsRoundTold {I J : Type 0} {D : I → Type 0} {E : J → Type 0} (cache : CacheState) (past : CallPast) (round : Round)
+    (session : Session I J D E) (call : BulkCall) (answers : RoundAnswers) (fault : Option Refusal) : Type 0 where
   pub asking : Session I J D E
   pub reserving : BulkCall
   pub reserved : HasReserved cache past asking reserving
@@ -47,7 +49,8 @@ pub record IsRoundTold {I J : Type 0} {D : I → Type 0} {E : J → Type 0} (cac
   pub fault_is : fault ≡ round_fault round
   pub answered : AreAnswers cache.config round answers (map reserved_by reserving.tickets.items)
 
-pub record RunsRounds {I J : Type 0} {D : I → Type 0} {E : J → Type 0} (Asked : List Round → Type 0) (cache : CacheState) (past : CallPast) (old : Session I J D E) (call : BulkCall) (new : Session I J D E) (later : BulkCall) : Type 0 where
+pub record RunsRounds {I J : Type 0} {D : I → Type 0} {E : J → Type 0} (Asked : List Round → Type 0) (cache : CacheState)
+    (past : CallPast) (old : Session I J D E) (call : BulkCall) (new : Session I J D E) (later : BulkCall) : Type 0 where
   pub rounds : List Round
   pub asked : Asked rounds
   pub run : HasRun cache (with_rounds past rounds) new later

@@ -44,5 +44,6 @@ module _ (config : Config) (caller : Caller) (targets : List (Bytes × Op)) wher
   IsFirst old before [] cause = Unit {0}
   IsFirst old before (e ∷ es) cause =
       ((fault : Refusal) → HasMet (before ++ e.calls) e.seats fault
-      → (first : Refusal) × (cause ≡ Some first) × (HasRefused old (before ++ e.calls) e.seats first ⊎ HasMet (before ++ e.calls) e.seats first))
+      → (first : Refusal) × (cause ≡ Some first)
+      × (HasRefused old (before ++ e.calls) e.seats first ⊎ HasMet (before ++ e.calls) e.seats first))
       × IsFirst old (before ++ e.calls) es cause

@@ -1,4 +1,4 @@
--- One phase of a call with many keys, at one of them.
+-- One phase of a call with many keys, at one of them. No contract of a public function cites this.
 --     MayStep      the session is of this cache, and has made no step of its current call at this key
 --     IsKeyPhase   a phase of the session's current call at this key: the session may have seen more of each stripe, its counts
 --                  change like this, and no other key's steps have changed; and this holds of the key

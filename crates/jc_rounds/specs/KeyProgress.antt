@@ -19,7 +19,8 @@
 --     IsNoted                 a cause that was noted before stays; otherwise the cause is the first of these, if there are any
 --     refused_if_waiting      a key that waits is refused, because the allocation of a later round failed; any other key is
 --                             unchanged
-use Rattle.std.specs.Prelude.{◌≡◌, ◌++◌, ℕ, zero, suc, List, [], ◌∷◌, length, Bool, true, false, not, ◌||◌, Option, None, Some, IfSome, Result, Ok, Err, slice_get}
+use Rattle.std.specs.Prelude.{◌≡◌, ◌++◌, ℕ, zero, suc, List, [], ◌∷◌, length, Bool, true, false, not, ◌||◌, Option, None, Some}
+use Rattle.std.specs.Prelude.{IfSome, Result, Ok, Err, slice_get}
 use Rattle.std.specs.List.{IsAmong, filter_map}
 use Rattle.jc_types.specs.declared.refusal.Refusal.{Refusal}
 use Rattle.jc_types.specs.declared.refusal.Refusal.TheVariants.{OutOfMemory}
@@ -67,7 +68,8 @@ refused_if_waiting (Ended ended) = Ended ended
 
 pub record StayEnded (progress later : List KeyProgress) : Type 0 where
   pub many : length later ≡ length progress
-  pub ended : (place : ℕ) (e : Result Reply Refusal) → slice_get progress place ≡ Some (Ended e) → slice_get later place ≡ Some (Ended e)
+  pub ended : (place : ℕ) (e : Result Reply Refusal) → slice_get progress place ≡ Some (Ended e)
+      → slice_get later place ≡ Some (Ended e)
 
 abbrev pub at_end : {V : Type 0} → (Result Reply Refusal → Option V) → KeyProgress → Option V
 at_end said Waiting = None

@@ -25,7 +25,8 @@
 --     IsPickedUp    a pick-up that wasn't too early
 --     HasPicked     the state of the key after a pick-up
 use Rattle.std.specs.List.{IsAmong}
-use Rattle.std.specs.Prelude.{◌≡◌, ◌≤◌, ◌⊎◌, ℕ, List, [], ◌∷◌, length, Bool, true, false, Option, None, Some, Result, Ok, Err, slice_get, nat_lt}
+use Rattle.std.specs.Prelude.{◌≡◌, ◌≤◌, ◌⊎◌, ℕ, List, [], ◌∷◌, length, Bool, true, false, Option, None, Some, Result, Ok, Err}
+use Rattle.std.specs.Prelude.{slice_get, nat_lt}
 use mathlib.Core.List.{IsPrefix}
 use Rattle.jc_types.specs.declared.caller.Caller.{Caller}
 use Rattle.jc_types.specs.declared.config.Config.{Config}
@@ -74,11 +75,14 @@ pub record MadeOn (after : View) (key : Bytes) (place : ℕ) (Entry : Option Byt
 
 abbrev pub IsStepTold : Config → List Round → View → Bytes → Op → ℕ → Option ℕ → Out → Type 0
 IsStepTold config rounds after key op place None out =
-    ((is_among (asked_in rounds) key ≡ false) × (out ≡ nothing_said) × MadeOn after key place (λ entry. first_asked config op entry ≡ Nobody))
-    ⊎ ((round : Round) × IsAmong rounds round × (is_among (keys_asked round) key ≡ true) × MadeOn after key place (λ entry. IsAnswer config round key (first_asked config op entry) out))
+    ((is_among (asked_in rounds) key ≡ false) × (out ≡ nothing_said)
+    × MadeOn after key place (λ entry. first_asked config op entry ≡ Nobody))
+    ⊎ ((round : Round) × IsAmong rounds round × (is_among (keys_asked round) key ≡ true)
+    × MadeOn after key place (λ entry. IsAnswer config round key (first_asked config op entry) out))
 IsStepTold config rounds after key op place (Some load) out = (is_among (asked_in rounds) key ≡ false) × (op ≡ Get)
 
-pub record HasOneStep (config : Config) (caller : Caller) (rounds : List Round) (before after : View) (key : Bytes) (op : Op) (reply : Reply) : Type 0 where
+pub record HasOneStep (config : Config) (caller : Caller) (rounds : List Round) (before after : View) (key : Bytes) (op : Op)
+    (reply : Reply) : Type 0 where
   pub out : Out
   pub shared_with : Option ℕ
   pub place : ℕ
@@ -109,7 +113,8 @@ abbrev pub EndsKey : Config → Caller → List Round → View → View → Byte
 EndsKey config caller rounds before after key op (Ok reply) = HasOneStep config caller rounds before after key op reply
 EndsKey config caller rounds before after key op (Err refusal) =
     (steps_of caller key after.own ≡ []) × (is_among (asked_in rounds) key ≡ false)
-    × ((refusal ≡ OutOfMemory) × (rounds ≡ [] → ⊥) × TakesMemory config op ⊎ ((refusal ≡ HistoryFull) × WasRefused caller before after key op refusal))
+    × ((refusal ≡ OutOfMemory) × (rounds ≡ [] → ⊥) × TakesMemory config op
+    ⊎ ((refusal ≡ HistoryFull) × WasRefused caller before after key op refusal))
 
 -- 2. On the way.
 
@@ -150,7 +155,9 @@ pub record HasJoined (caller : Caller) (before after : View) (key : Bytes) (op :
   pub why : load_joined seen key op ≡ Some load
 
 abbrev pub IsHeldBack : Caller → View → View → Bytes → Op → Type 0
-IsHeldBack caller before after key op = ((refusal : Refusal) × (is_put_off refusal ≡ true) × WasRefused caller before after key op refusal) ⊎ HasJoined caller before after key op
+IsHeldBack caller before after key op =
+    ((refusal : Refusal) × (is_put_off refusal ≡ true) × WasRefused caller before after key op refusal)
+    ⊎ HasJoined caller before after key op
 
 -- 3. Phases. `before` is the view from before the phase.
 
@@ -160,11 +167,14 @@ HasBegun caller config before after key op (begun.Refused refusal) =
     (steps_of caller key after.own ≡ []) × ((is_put_off refusal ≡ true) ⊎ (refusal ≡ HistoryFull))
     × (first_refusal after.noted caller key op ≡ Some refusal) × WasRefused caller before after key op refusal
 HasBegun caller config before after key op (begun.Asks ticket) =
-    (steps_of caller key after.own ≡ []) × (ticket.asked ≡ false) × (ticket.writer_asked ≡ false) × IsTicketFor caller config key op ticket.reservation
-HasBegun caller config before after key op (begun.Joined join) = (steps_of caller key after.own ≡ []) × IsJoinFor caller before key op join × HasJoined caller before after key op
+    (steps_of caller key after.own ≡ []) × (ticket.asked ≡ false) × (ticket.writer_asked ≡ false)
+    × IsTicketFor caller config key op ticket.reservation
+HasBegun caller config before after key op (begun.Joined join) =
+    (steps_of caller key after.own ≡ []) × IsJoinFor caller before key op join × HasJoined caller before after key op
 
 -- the step of a commit, with what was answered outside
-pub record IsCommitted (config : Config) (caller : Caller) (r : Reservation) (out : Out) (before after : View) (reply : Reply) : Type 0 where
+pub record IsCommitted (config : Config) (caller : Caller) (r : Reservation) (out : Out) (before after : View)
+    (reply : Reply) : Type 0 where
   pub place : ℕ
   pub one : steps_of caller r.key after.own ≡ Step caller r.op r.key out None reply ∷ []
   pub all : HasAllSeen after
@@ -174,7 +184,8 @@ pub record IsCommitted (config : Config) (caller : Caller) (r : Reservation) (ou
 
 -- `first` is the view from before the call
 abbrev pub HasPicked : Config → Caller → View → View → Bytes → Op → Polled → Type 0
-HasPicked config caller first after key op (polled.Answer reply place shared_with) = HasOneStep config caller [] first after key op reply
+HasPicked config caller first after key op (polled.Answer reply place shared_with) =
+    HasOneStep config caller [] first after key op reply
 HasPicked config caller first after key op polled.Again = steps_of caller key after.own ≡ []
 HasPicked config caller first after key op (polled.NotYet join) = ⊥
 

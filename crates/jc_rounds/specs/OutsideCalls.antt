@@ -15,7 +15,8 @@
 --     WritesBatch       the writer was called once for exactly these changes, if there are any, and otherwise it wasn't called
 --     WriteCallAsked    the writer was called like this, and gave these answers for the keys; the last ask's done value comes
 --                       first
-use Rattle.std.specs.Prelude.{◌≡◌, ◌≤◌, ◌+◌, ◌-◌, ◌++◌, ℕ, List, [], ◌∷◌, map, reverse, Bool, true, false, Option, Result, Ok, vec_len, vec_capacity}
+use Rattle.std.specs.Prelude.{◌≡◌, ◌≤◌, ◌+◌, ◌-◌, ◌++◌, ℕ, List, [], ◌∷◌, map, reverse, Bool, true, false, Option, Result, Ok}
+use Rattle.std.specs.Prelude.{vec_len, vec_capacity}
 use Rattle.std.specs.Global.{Vec}
 use Rattle.jc_model.specs.Cache.{Bytes}
 use Rattle.jc_model.specs.declared.event.Change.{Change}
@@ -25,7 +26,8 @@ use Rattle.jc_batch.specs.Changes.{changes_of}
 use Rattle.jc_batch.specs.declared.batch.Batch.{Batch}
 use Rattle.jc_batch.specs.declared.batch.Batch.TheVariants.{Writes, Deletes}
 use Rattle.jc_outside.specs.Calling.{KeepsType}
-use Rattle.jc_outside.specs.CallingAll.{LoadAllRelation, DeleteAllRelation, LoadsAllOnce, WriteAllRelation, WritesAllOnce, asked_changes, loads_done, writes_done}
+use Rattle.jc_outside.specs.CallingAll.{LoadAllRelation, DeleteAllRelation, LoadsAllOnce, WriteAllRelation, WritesAllOnce}
+use Rattle.jc_outside.specs.CallingAll.{asked_changes, loads_done, writes_done}
 use Rattle.jc_outside.specs.Done.{LoadResult, WriteResult}
 use Rattle.jc_session.specs.Boxed.{boxed}
 use Rattle.jc_stripe.specs.Tickets.{Claim, change_asked}
@@ -72,10 +74,12 @@ pub record AreSpent (spent : SpentLoads) : Type 0 where
   pub asks_room : spent.batch.room ≤ vec_capacity spent.asks
 
 pub record LoadCallAsked
-    {I J : Type 0} {D : I → Type 0} {E : J → Type 0} (loads_all : LoadAllRelation ((i : I) × D i)) (load_state : (i : I) × D i → List ℕ)
+    {I J : Type 0} {D : I → Type 0} {E : J → Type 0} (loads_all : LoadAllRelation ((i : I) × D i))
+    (load_state : (i : I) × D i → List ℕ)
     (old : Session I J D E) (items : List Claim) (done : List (LoadResult Claim)) (new : Session I J D E) : Type 0 where
   pub said : Bytes → LoadAnswer
-  pub loads : LoadsAllOnce (boxed loads_all) (boxed load_state) old.agent.hands.outside.loader (asked_keys items) said new.agent.hands.outside.loader
+  pub loads : LoadsAllOnce (boxed loads_all) (boxed load_state) old.agent.hands.outside.loader (asked_keys items) said
+      new.agent.hands.outside.loader
   pub done_are : reverse done ≡ loads_done asked_key said items
   pub loader_type : KeepsType old.agent.hands.outside.loader new.agent.hands.outside.loader
   pub writer : new.agent.hands.outside.writer ≡ old.agent.hands.outside.writer
@@ -100,16 +104,21 @@ pub record IsWriteCall (asks : Vec Claim) (batch : Batch) (done : Vec (WriteResu
   pub none : done.items ≡ []
 
 module _ {W : Type 0} (writes_all : WriteAllRelation W) (deletes_all : DeleteAllRelation W) (write_state : W → List ℕ) where
-  abbrev pub WritesBatch : Bool → List (Bytes × Option Change) → Option W → Result (Unit {0}) ℕ → (Bytes → WriteAnswer) → Option W → Type 0
+  abbrev pub WritesBatch : Bool → List (Bytes × Option Change) → Option W → Result (Unit {0}) ℕ → (Bytes → WriteAnswer)
+      → Option W → Type 0
   WritesBatch deletes [] writer returned said writer' = (writer' ≡ writer) × (returned ≡ Ok tt)
   WritesBatch deletes (change ∷ changes) writer returned said writer' =
-      (batch : Batch) × (is_delete batch ≡ deletes) × (changes_of batch ≡ change ∷ changes) × WritesAllOnce writes_all deletes_all write_state writer batch returned said writer'
+      (batch : Batch) × (is_delete batch ≡ deletes) × (changes_of batch ≡ change ∷ changes)
+      × WritesAllOnce writes_all deletes_all write_state writer batch returned said writer'
 
 pub record WriteCallAsked
-    {I J : Type 0} {D : I → Type 0} {E : J → Type 0} (writes_all : WriteAllRelation ((j : J) × E j)) (deletes_all : DeleteAllRelation ((j : J) × E j)) (write_state : (j : J) × E j → List ℕ)
-    (old : Session I J D E) (deletes : Bool) (items : List Claim) (returned : Result (Unit {0}) ℕ) (done : List (WriteResult Claim)) (new : Session I J D E) : Type 0 where
+    {I J : Type 0} {D : I → Type 0} {E : J → Type 0} (writes_all : WriteAllRelation ((j : J) × E j))
+    (deletes_all : DeleteAllRelation ((j : J) × E j)) (write_state : (j : J) × E j → List ℕ)
+    (old : Session I J D E) (deletes : Bool) (items : List Claim) (returned : Result (Unit {0}) ℕ) (done : List (WriteResult Claim))
+    (new : Session I J D E) : Type 0 where
   pub said : Bytes → WriteAnswer
-  pub writes : WritesBatch (boxed writes_all) (boxed deletes_all) (boxed write_state) deletes (wanted items) old.agent.hands.outside.writer returned said new.agent.hands.outside.writer
+  pub writes : WritesBatch (boxed writes_all) (boxed deletes_all) (boxed write_state) deletes (wanted items)
+      old.agent.hands.outside.writer returned said new.agent.hands.outside.writer
   pub done_are : reverse done ≡ writes_done asked_key said items
   pub writer_type : KeepsType old.agent.hands.outside.writer new.agent.hands.outside.writer
   pub loader : new.agent.hands.outside.loader ≡ old.agent.hands.outside.loader

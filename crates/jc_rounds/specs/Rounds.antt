@@ -98,7 +98,8 @@ abbrev pub IsAnswer : Config → Round → Bytes → First → Out → Type 0
 IsAnswer config (LoadAll r) key first out = (asks_loader first ≡ true) × (out ≡ load_only (r.said key))
 IsAnswer config (WriteAll r) key first out = (asks_writer first ≡ true) × (out ≡ write_only (r.said key))
 IsAnswer config (ProcessAll r) key first out =
-    (asks_processor first ≡ true) × ((run : KeyRun) × IsAmong r.runs run × (run.key ≡ key) × IsShown first run × (out ≡ run_out config.write_through r run))
+    (asks_processor first ≡ true)
+    × ((run : KeyRun) × IsAmong r.runs run × (run.key ≡ key) × IsShown first run × (out ≡ run_out config.write_through r run))
 
 abbrev pub round_returned : Round → Result (Unit {0}) ℕ
 round_returned (LoadAll r) = Ok tt

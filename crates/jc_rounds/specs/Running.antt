@@ -51,27 +51,32 @@ module _ (caller : Caller) (stripes : ℕ) (targets : List (Bytes × Op)) where
   abbrev pub HeldInEach : List (TableId × View) → List RoundEnd → List KeyProgress → Type 0
   HeldInEach old [] progress = Unit {0}
   HeldInEach old (e ∷ es) progress =
-      AreHeldBack (IsFull caller stripes targets old e.seats (length (asked_in e.calls))) (length targets) caller stripes targets old e.seats progress
+      AreHeldBack (IsFull caller stripes targets old e.seats (length (asked_in e.calls))) (length targets) caller stripes targets
+      old e.seats progress
       × HaveNoStep caller stripes targets e.seats progress × HeldInEach e.seats es progress
 
   -- `calls` is what it has asked outside
   pub record IsRound (old new : List (TableId × View)) (progress later : List KeyProgress) (calls : List Round) : Type 0 where
     pub few : length calls ≤ 1
     pub goes : KeysAdvance old new progress later
-    pub held : AreHeldBack (IsFull caller stripes targets old new (length (asked_in calls))) (length targets) caller stripes targets old new later
-    pub waited : (place : ℕ) (key : Bytes) (op : Op) → slice_get targets place ≡ Some (key, op) → is_among (asked_in calls) key ≡ true → slice_get progress place ≡ Some Waiting
+    pub held : AreHeldBack (IsFull caller stripes targets old new (length (asked_in calls))) (length targets) caller stripes
+        targets old new later
+    pub waited : (place : ℕ) (key : Bytes) (op : Op) → slice_get targets place ≡ Some (key, op)
+        → is_among (asked_in calls) key ≡ true → slice_get progress place ≡ Some Waiting
 
 abbrev pub with_rounds : CallPast → List Round → CallPast
 with_rounds past calls = record past { rounds = past.rounds ++ calls }
 
-pub record HasRun {I J : Type 0} {D : I → Type 0} {E : J → Type 0} (cache : CacheState) (past : CallPast) (session : Session I J D E) (call : BulkCall) : Type 0 where
+pub record HasRun {I J : Type 0} {D : I → Type 0} {E : J → Type 0} (cache : CacheState) (past : CallPast)
+    (session : Session I J D E) (call : BulkCall) : Type 0 where
   pub between : IsBetween cache past session call
   pub started : HasStartedAll past.caller cache.config.stripes (ops_of call.targets.now) past.first session.seats.items past.rounds
   pub held : HeldInEach past.caller cache.config.stripes (ops_of call.targets.now) past.first started.ends call.progress.items
   pub first : IsFirst cache.config past.caller (ops_of call.targets.now) past.first [] started.ends call.cause
 
 abbrev pub EachTakesMemory : Config → List (Bytes × Op) → Type 0
-EachTakesMemory config targets = (place : ℕ) (key : Bytes) (op : Op) → slice_get targets place ≡ Some (key, op) → TakesMemory config op
+EachTakesMemory config targets =
+    (place : ℕ) (key : Bytes) (op : Op) → slice_get targets place ≡ Some (key, op) → TakesMemory config op
 
 -- 2. The call.
 
@@ -79,7 +84,8 @@ abbrev pub near_places : ℕ
 near_places = STEP_PLACES * RESERVATIONS_MAX + JOINERS_MAX + STEP_PLACES
 
 abbrev pub IsNearFull : Caller → State → Type 0
-IsNearFull caller state = (state.config.history < length state.history + near_places) ⊎ (last_number ≤ caller.call) ⊎ (last_number ≤ state.next)
+IsNearFull caller state =
+    (state.config.history < length state.history + near_places) ⊎ (last_number ≤ caller.call) ⊎ (last_number ≤ state.next)
 
 pub record WasNearFull (caller : Caller) (before after : View) : Type 0 where
   pub seen : State
@@ -91,14 +97,25 @@ pub record WasNearFull (caller : Caller) (before after : View) : Type 0 where
   pub full : IsNearFull caller seen
 
 -- `old` and `new` are the session before and after
-pub record IsCarriedOut {I J : Type 0} {D : I → Type 0} {E : J → Type 0} (cache : CacheState) (old : Session I J D E) (targets : List (Bytes × Op)) (ends : List KeyEnd) (rounds : List Round) (new : Session I J D E) : Type 0 where
+pub record IsCarriedOut {I J : Type 0} {D : I → Type 0} {E : J → Type 0} (cache : CacheState) (old : Session I J D E)
+    (targets : List (Bytes × Op)) (ends : List KeyEnd) (rounds : List Round) (new : Session I J D E) : Type 0 where
   pub targets_are : key_ops ends ≡ targets
   pub grown : (i : ℕ) → HasGrown (view_at old.seats.items i) (view_at new.seats.items i)
-  pub phases : (i : ℕ) → OnlyPhases (next_call old).agent.caller (λ key. is_target_of cache.config.stripes targets key i ≡ true) (view_at old.seats.items i) (view_at new.seats.items i)
-  pub each : All (λ (e : KeyEnd). EndsKey cache.config (next_call old).agent.caller rounds (view_of cache.config.stripes old.seats.items e.key) (view_of cache.config.stripes new.seats.items e.key) e.key e.op e.ended) ends
-  pub refused : All (λ (e : KeyEnd). e.ended ≡ Err HistoryFull → WasNearFull (next_call old).agent.caller (view_of cache.config.stripes old.seats.items e.key) (view_of cache.config.stripes new.seats.items e.key)) ends
-  pub others : (key : Bytes) (i : ℕ) → is_target_of cache.config.stripes targets key i ≡ false → steps_of (next_call old).agent.caller key (view_at new.seats.items i).own ≡ []
-  pub former : (i : ℕ) → former_steps (next_call old).agent.caller (view_at new.seats.items i).own ≡ former_steps (next_call old).agent.caller (view_at old.seats.items i).own
+  pub phases : (i : ℕ)
+      → OnlyPhases (next_call old).agent.caller (λ key. is_target_of cache.config.stripes targets key i ≡ true)
+      (view_at old.seats.items i) (view_at new.seats.items i)
+  pub each : All
+      (λ (e : KeyEnd). EndsKey cache.config (next_call old).agent.caller rounds (view_of cache.config.stripes old.seats.items e.key)
+      (view_of cache.config.stripes new.seats.items e.key) e.key e.op e.ended) ends
+  pub refused : All
+      (λ (e : KeyEnd). e.ended ≡ Err HistoryFull
+      → WasNearFull (next_call old).agent.caller (view_of cache.config.stripes old.seats.items e.key)
+      (view_of cache.config.stripes new.seats.items e.key)) ends
+  pub others : (key : Bytes) (i : ℕ) → is_target_of cache.config.stripes targets key i ≡ false
+      → steps_of (next_call old).agent.caller key (view_at new.seats.items i).own ≡ []
+  pub former : (i : ℕ)
+      → former_steps (next_call old).agent.caller (view_at new.seats.items i).own
+      ≡ former_steps (next_call old).agent.caller (view_at old.seats.items i).own
   pub asked : AsksEachOnce cache.config targets rounds
   pub started : HasStartedAll (next_call old).agent.caller cache.config.stripes targets old.seats.items new.seats.items rounds
   pub once : AsksAtMostOnce (next_call old).agent.caller cache.config.stripes targets old.seats.items new.seats.items rounds

@@ -56,7 +56,8 @@ is_at stripes key other i = pointwise ◌==◌ key other && (stripe_of key strip
 -- `stripes` is how many stripes there are
 pub record MovesAtKey (caller : Caller) (stripes : ℕ) (key : Bytes) (old new : List (TableId × View)) : Type 0 where
   pub grown : (i : ℕ) → HasGrown (view_at old i) (view_at new i)
-  pub others : (other : Bytes) (i : ℕ) → is_at stripes key other i ≡ false → steps_of caller other (view_at new i).own ≡ steps_of caller other (view_at old i).own
+  pub others : (other : Bytes) (i : ℕ) → is_at stripes key other i ≡ false
+      → steps_of caller other (view_at new i).own ≡ steps_of caller other (view_at old i).own
   pub former : (i : ℕ) → former_steps caller (view_at new i).own ≡ former_steps caller (view_at old i).own
   pub numbers : (i : ℕ) → are_before caller (view_at old i).own ≡ true → are_before caller (view_at new i).own ≡ true
   pub phases : (i : ℕ) → OnlyPhases caller (λ other. is_at stripes key other i ≡ true) (view_at old i) (view_at new i)

@@ -15,7 +15,8 @@
 --     HaveNoStep                 no key that is held back has a step of the call
 --     AreSettledFrom, AreUnder   no key from a place on is reserved or has joined a load; no key before a place is in such a
 --                                state
-use Rattle.std.specs.Prelude.{◌≡◌, ◌⊎◌, ◌==◌, ◌&&◌, ◌≤◌, ◌<◌, ◌++◌, ℕ, List, [], ◌∷◌, length, Bool, true, false, Some, Ok, Err, slice_get, MatchBool, if◌then◌else◌}
+use Rattle.std.specs.Prelude.{◌≡◌, ◌⊎◌, ◌==◌, ◌&&◌, ◌≤◌, ◌<◌, ◌++◌, ℕ, List, [], ◌∷◌, length, Bool, true, false, Some, Ok, Err}
+use Rattle.std.specs.Prelude.{slice_get, MatchBool, if◌then◌else◌}
 use Rattle.std.specs.Map.{keys_of}
 use Rattle.atomic_table.specs.Seated.{TableId}
 use Rattle.jc_types.specs.Stripes.{stripe_of}
@@ -48,21 +49,25 @@ abbrev pub is_target_of : ℕ → List (Bytes × Op) → Bytes → ℕ → Bool
 is_target_of stripes targets key i = is_among (keys_of targets) key && (stripe_of key stripes == i)
 
 -- `old` are the session's seats before the call, `stripes` is how many stripes there are
-pub record IsSoFar (config : Config) (caller : Caller) (stripes : ℕ) (targets : List (Bytes × Op)) (rounds : List Round) (old new : List (TableId × View)) (progress : List KeyProgress) : Type 0 where
+pub record IsSoFar (config : Config) (caller : Caller) (stripes : ℕ) (targets : List (Bytes × Op)) (rounds : List Round)
+    (old new : List (TableId × View)) (progress : List KeyProgress) : Type 0 where
   pub grown : (i : ℕ) → HasGrown (view_at old i) (view_at new i)
   pub phases : (i : ℕ) → OnlyPhases caller (λ key. is_target_of stripes targets key i ≡ true) (view_at old i) (view_at new i)
   pub numbers : AreBefore caller new
   pub former : (i : ℕ) → former_steps caller (view_at new i).own ≡ former_steps caller (view_at old i).own
   pub many : length progress ≡ length targets
-  pub each : (place : ℕ) (key : Bytes) (op : Op) (p : KeyProgress) → slice_get targets place ≡ Some (key, op) → slice_get progress place ≡ Some p
+  pub each : (place : ℕ) (key : Bytes) (op : Op) (p : KeyProgress) → slice_get targets place ≡ Some (key, op)
+      → slice_get progress place ≡ Some p
       → IsAt config caller rounds (view_of stripes old key) (view_of stripes new key) key op p
   pub others : (key : Bytes) (i : ℕ) → is_target_of stripes targets key i ≡ false → steps_of caller key (view_at new i).own ≡ []
 
-abbrev pub AreIn : {X : Type 0} → (KeyProgress → Bool) → (Bytes → Op → X → Type 0) → List (Bytes × Op) → List KeyProgress → List X → Type 0
+abbrev pub AreIn : {X : Type 0} → (KeyProgress → Bool) → (Bytes → Op → X → Type 0) → List (Bytes × Op) → List KeyProgress
+    → List X → Type 0
 AreIn has fits [] progress xs = xs ≡ []
 AreIn has fits (t ∷ ts) [] xs = xs ≡ []
 AreIn has fits (t ∷ ts) (p ∷ ps) [] = (has p ≡ false) × AreIn has fits ts ps []
-AreIn has fits (t ∷ ts) (p ∷ ps) (x ∷ xs) = MatchBool (has p) (fits t.0 t.1 x × AreIn has fits ts ps xs) (AreIn has fits ts ps (x ∷ xs))
+AreIn has fits (t ∷ ts) (p ∷ ps) (x ∷ xs) =
+    MatchBool (has p) (fits t.0 t.1 x × AreIn has fits ts ps xs) (AreIn has fits ts ps (x ∷ xs))
 
 pub record IsUnderway
     {I J : Type 0} {D : I → Type 0} {E : J → Type 0}
@@ -74,13 +79,15 @@ pub record IsUnderway
   pub joins_out : session.agent.counts.joins ≡ length joins
   pub so_far : IsSoFar cache.config caller cache.config.stripes targets rounds old session.seats.items progress
   pub calls_are : AreIn holds_reservation (IsTicketFor caller cache.config) targets progress calls
-  pub joins_are : AreIn waits_for_joined_load (λ key op join. IsJoinFor caller (view_of cache.config.stripes old key) key op join) targets progress joins
+  pub joins_are : AreIn waits_for_joined_load (λ key op join. IsJoinFor caller (view_of cache.config.stripes old key) key op join)
+      targets progress joins
 
 -- 2. Parts of a round.
 
 abbrev pub IsKept : Begun → KeyProgress → List TicketClaim → List TicketClaim → List JoinClaim → List JoinClaim → Type 0
 IsKept (begun.Done done) p tickets tickets' joins joins' = (p ≡ Ended (Ok done.reply)) × (tickets' ≡ tickets) × (joins' ≡ joins)
-IsKept (begun.Refused refusal) p tickets tickets' joins joins' = (p ≡ (if is_put_off refusal then Waiting else Ended (Err refusal))) × (tickets' ≡ tickets) × (joins' ≡ joins)
+IsKept (begun.Refused refusal) p tickets tickets' joins joins' =
+    (p ≡ (if is_put_off refusal then Waiting else Ended (Err refusal))) × (tickets' ≡ tickets) × (joins' ≡ joins)
 IsKept (begun.Asks ticket) p tickets tickets' joins joins' = (p ≡ Reserved) × (tickets' ≡ tickets ++ ticket ∷ []) × (joins' ≡ joins)
 IsKept (begun.Joined join) p tickets tickets' joins joins' = (p ≡ Joined) × (tickets' ≡ tickets) × (joins' ≡ joins ++ join ∷ [])
 
@@ -90,7 +97,8 @@ IsPicked polled.Again p = p ≡ Waiting
 IsPicked (polled.NotYet join) p = ⊥
 
 abbrev pub AreSettledFrom : ℕ → List KeyProgress → Type 0
-AreSettledFrom from progress = (place : ℕ) (p : KeyProgress) → from ≤ place → slice_get progress place ≡ Some p → is_settled p ≡ true
+AreSettledFrom from progress =
+    (place : ℕ) (p : KeyProgress) → from ≤ place → slice_get progress place ≡ Some p → is_settled p ≡ true
 
 abbrev pub AreUnder : (KeyProgress → Bool) → ℕ → List KeyProgress → Type 0
 AreUnder has end progress = (place : ℕ) (p : KeyProgress) → place < end → slice_get progress place ≡ Some p → has p ≡ false
@@ -101,13 +109,20 @@ pub record KeysAdvance (old new : List (TableId × View)) (progress later : List
   pub held : (place : ℕ) (p : KeyProgress) → slice_get later place ≡ Some p → is_held_back p ≡ true
       → (q : KeyProgress) × (slice_get progress place ≡ Some q) × (is_held_back q ≡ true)
 
-abbrev pub IsHeldAt : Type 0 → ℕ → Caller → ℕ → List (Bytes × Op) → List (TableId × View) → List (TableId × View) → List KeyProgress → Type 0
-IsHeldAt full place caller stripes targets old new progress = (key : Bytes) (op : Op) (p : KeyProgress) → slice_get targets place ≡ Some (key, op) → slice_get progress place ≡ Some p → is_held_back p ≡ true
+abbrev pub IsHeldAt : Type 0 → ℕ → Caller → ℕ → List (Bytes × Op) → List (TableId × View) → List (TableId × View)
+    → List KeyProgress → Type 0
+IsHeldAt full place caller stripes targets old new progress =
+    (key : Bytes) (op : Op) (p : KeyProgress) → slice_get targets place ≡ Some (key, op) → slice_get progress place ≡ Some p
+    → is_held_back p ≡ true
     → full ⊎ IsHeldBack caller (view_of stripes old key) (view_of stripes new key) key op
 
-abbrev pub AreHeldBack : Type 0 → ℕ → Caller → ℕ → List (Bytes × Op) → List (TableId × View) → List (TableId × View) → List KeyProgress → Type 0
-AreHeldBack full end caller stripes targets old new progress = (place : ℕ) → place < end → IsHeldAt full place caller stripes targets old new progress
+abbrev pub AreHeldBack : Type 0 → ℕ → Caller → ℕ → List (Bytes × Op) → List (TableId × View) → List (TableId × View)
+    → List KeyProgress → Type 0
+AreHeldBack full end caller stripes targets old new progress =
+    (place : ℕ) → place < end → IsHeldAt full place caller stripes targets old new progress
 
 abbrev pub HaveNoStep : Caller → ℕ → List (Bytes × Op) → List (TableId × View) → List KeyProgress → Type 0
-HaveNoStep caller stripes targets seats progress = (place : ℕ) (key : Bytes) (op : Op) (p : KeyProgress) → slice_get targets place ≡ Some (key, op) → slice_get progress place ≡ Some p → is_held_back p ≡ true
+HaveNoStep caller stripes targets seats progress =
+    (place : ℕ) (key : Bytes) (op : Op) (p : KeyProgress) → slice_get targets place ≡ Some (key, op)
+    → slice_get progress place ≡ Some p → is_held_back p ≡ true
     → steps_of caller key (view_of stripes seats key).own ≡ []

@@ -39,18 +39,22 @@ use Rattle.jc_rounds.specs.Seats.{HasGrown, view_at, view_of}
 abbrev pub IsRoomFor : ℕ → ℕ → ℕ → ℕ → Type 0
 IsRoomFor most keys stripes room = (keys ≤ room) ⊎ (most * stripes < room)
 
-pub record AreManyJoined (caller : Caller) (stripes : ℕ) (targets : List (Bytes × Op)) (old new : List (TableId × View)) : Type 0 where
+pub record AreManyJoined (caller : Caller) (stripes : ℕ) (targets : List (Bytes × Op))
+    (old new : List (TableId × View)) : Type 0 where
   pub joined : List Bytes
   pub distinct : IsDistinct (pointwise ◌==◌) joined
   pub many : JOINERS_MAX * stripes < length joined
-  pub each : AllByRecursion (λ (key : Bytes). IsAmong targets (key, Get) × HasJoined caller (view_of stripes old key) (view_of stripes new key) key Get) joined
+  pub each : AllByRecursion
+      (λ (key : Bytes). IsAmong targets (key, Get) × HasJoined caller (view_of stripes old key) (view_of stripes new key) key Get)
+      joined
 
 -- `old` and `new` are the seats before and after the round, `asked` is for how many keys it has asked
 abbrev pub IsFull : Caller → ℕ → List (Bytes × Op) → List (TableId × View) → List (TableId × View) → ℕ → Type 0
 IsFull caller stripes targets old new asked = (RESERVATIONS_MAX * stripes < asked) ⊎ AreManyJoined caller stripes targets old new
 
 abbrev pub HaveJoined : Caller → ℕ → List (Bytes × Op) → List (TableId × View) → List (TableId × View) → List KeyProgress → Type 0
-HaveJoined caller stripes targets old new progress = (place : ℕ) (key : Bytes) (op : Op) → slice_get targets place ≡ Some (key, op) → slice_get progress place ≡ Some Joined
+HaveJoined caller stripes targets old new progress =
+    (place : ℕ) (key : Bytes) (op : Op) → slice_get targets place ≡ Some (key, op) → slice_get progress place ≡ Some Joined
     → (op ≡ Get) × HasJoined caller (view_of stripes old key) (view_of stripes new key) key op
 
 pub record RoundEnd : Type 0 where
@@ -66,15 +70,19 @@ seats_after old (e ∷ es) = seats_after e.seats es
 
 module _ (caller : Caller) (stripes : ℕ) (targets : List (Bytes × Op)) where
   abbrev pub IsPutOff : ℕ → List (TableId × View) → List (TableId × View) → Bytes → Op → Type 0
-  IsPutOff asked old new key op = IsFull caller stripes targets old new asked ⊎ IsHeldBack caller (view_of stripes old key) (view_of stripes new key) key op
+  IsPutOff asked old new key op =
+      IsFull caller stripes targets old new asked ⊎ IsHeldBack caller (view_of stripes old key) (view_of stripes new key) key op
 
   -- `old` is what the session had seen before the round
   pub record StartsAll (old : List (TableId × View)) (e : RoundEnd) (later : List Round) : Type 0 where
     pub few : length e.calls ≤ 1
     pub grown : (i : ℕ) → HasGrown (view_at old i) (view_at e.seats i)
-    pub ended : (key : Bytes) (op : Op) → IsAmong targets (key, op) → is_among (asked_in e.calls) key ≡ true → (step : Event) × (steps_of caller key (view_of stripes e.seats key).own ≡ step ∷ [])
-    pub no_step : (key : Bytes) (op : Op) → IsAmong targets (key, op) → is_among (asked_in later) key ≡ true → steps_of caller key (view_of stripes e.seats key).own ≡ []
-    pub put_off : (key : Bytes) (op : Op) → IsAmong targets (key, op) → is_among (asked_in later) key ≡ true → IsPutOff (length (asked_in e.calls)) old e.seats key op
+    pub ended : (key : Bytes) (op : Op) → IsAmong targets (key, op) → is_among (asked_in e.calls) key ≡ true
+        → (step : Event) × (steps_of caller key (view_of stripes e.seats key).own ≡ step ∷ [])
+    pub no_step : (key : Bytes) (op : Op) → IsAmong targets (key, op) → is_among (asked_in later) key ≡ true
+        → steps_of caller key (view_of stripes e.seats key).own ≡ []
+    pub put_off : (key : Bytes) (op : Op) → IsAmong targets (key, op) → is_among (asked_in later) key ≡ true
+        → IsPutOff (length (asked_in e.calls)) old e.seats key op
 
   abbrev pub EachStartsAll : List (TableId × View) → List RoundEnd → Type 0
   EachStartsAll old [] = Unit {0}
@@ -87,7 +95,9 @@ module _ (caller : Caller) (stripes : ℕ) (targets : List (Bytes × Op)) where
     pub each : EachStartsAll old ends
 
   abbrev pub IsLeftAlone : List (TableId × View) → List (TableId × View) → Type 0
-  IsLeftAlone old new = (key : Bytes) (op : Op) → IsAmong targets (key, op) → IsHeldBack caller (view_of stripes old key) (view_of stripes new key) key op → ⊥
+  IsLeftAlone old new =
+      (key : Bytes) (op : Op) → IsAmong targets (key, op)
+      → IsHeldBack caller (view_of stripes old key) (view_of stripes new key) key op → ⊥
 
   abbrev pub AsksAtMostOnce : List (TableId × View) → List (TableId × View) → List Round → Type 0
   AsksAtMostOnce old new rounds = length targets ≤ RESERVATIONS_MAX * stripes → IsLeftAlone old new → length rounds ≤ 1

@@ -24,7 +24,8 @@
 --     HasRoom            there is room for one more ticket and for one more join
 --     KeepsRoom          only the tickets and the joins have changed, and there is as much room for them
 --     IsOver             no key waits
-use Rattle.std.specs.Prelude.{◌≡◌, ◌==◌, ◌⊎◌, ◌≤◌, ◌<◌, ℕ, List, [], ◌∷◌, ◌++◌, length, map, true, false, None, nat_lt, vec_capacity}
+use Rattle.std.specs.Prelude.{◌≡◌, ◌==◌, ◌⊎◌, ◌≤◌, ◌<◌, ℕ, List, [], ◌∷◌, ◌++◌, length, map, true, false, None, nat_lt}
+use Rattle.std.specs.Prelude.{vec_capacity}
 use Rattle.std.specs.List.{AllByRecursion, IsAmong, IsDistinct}
 use Rattle.std.specs.Map.{keys_of}
 use Rattle.std.specs.Cmp.Lexicographic.{pointwise}
@@ -44,7 +45,8 @@ use Rattle.jc_rounds.specs.declared.bulk_call.Rooms.{Rooms}
 use Rattle.jc_rounds.specs.declared.targets.Targets.{Targets}
 use Rattle.jc_rounds.specs.Answers.{AreAnswers}
 use Rattle.jc_rounds.specs.Asking.{HasAskedSoFar}
-use Rattle.jc_rounds.specs.KeyProgress.{IsCauseIn, IsMet, KeepsCause, StillWaits, all_waiting, failures, holds_reservation, waits_for_joined_load}
+use Rattle.jc_rounds.specs.KeyProgress.{IsCauseIn, IsMet, KeepsCause, StillWaits, all_waiting, failures, holds_reservation}
+use Rattle.jc_rounds.specs.KeyProgress.{waits_for_joined_load}
 use Rattle.jc_rounds.specs.Rounds.{Round, asked_in, faults_in}
 use Rattle.jc_rounds.specs.SoFar.{AreHeldBack, AreSettledFrom, AreUnder, IsUnderway, KeysAdvance}
 use Rattle.jc_rounds.specs.Seats.{HasGrown, view_at}
@@ -63,7 +65,8 @@ abbrev pub reserved_by : TicketClaim → Reservation
 reserved_by ticket = ticket.reservation
 
 abbrev pub IsFresh : List Round → TicketClaim → Type 0
-IsFresh rounds ticket = (ticket.asked ≡ false) × (ticket.writer_asked ≡ false) × (is_among (asked_in rounds) ticket.reservation.key ≡ false)
+IsFresh rounds ticket =
+    (ticket.asked ≡ false) × (ticket.writer_asked ≡ false) × (is_among (asked_in rounds) ticket.reservation.key ≡ false)
 
 abbrev pub AreFresh : List Round → List TicketClaim → Type 0
 AreFresh rounds tickets = AllByRecursion (IsFresh rounds) tickets
@@ -89,7 +92,8 @@ pub record IsNew (targets : Targets) (stripes : ℕ) (call : BulkCall) : Type 0 
 module _ {I J : Type 0} {D : I → Type 0} {E : J → Type 0} (cache : CacheState) (past : CallPast) where
   pub record IsOn (session : Session I J D E) (call : BulkCall) (tickets : List TicketClaim) (joins : List JoinClaim) : Type 0 where
     pub distinct : IsDistinct (pointwise ◌==◌) (keys_of (ops_of call.targets.now))
-    pub under : IsUnderway cache past.caller (ops_of call.targets.now) past.rounds past.first session call.progress.items (map reserved_by tickets) joins
+    pub under : IsUnderway cache past.caller (ops_of call.targets.now) past.rounds past.first session call.progress.items
+        (map reserved_by tickets) joins
     pub asked : HasAskedSoFar cache.config (ops_of call.targets.now) past.rounds call.progress.items
     pub met : IsMet call.cause call.progress.items (faults_in past.rounds)
     pub tickets_room : call.most ≤ vec_capacity call.tickets
@@ -114,7 +118,10 @@ module _ {I J : Type 0} {D : I → Type 0} {E : J → Type 0} (cache : CacheStat
     pub on : IsOn new call call.tickets.items call.joins.items
     pub fresh : AreFresh past.rounds call.tickets.items
     pub few : length call.tickets.items ≤ call.most
-    pub held : AreHeldBack (IsFull past.caller cache.config.stripes (ops_of call.targets.now) old.seats.items new.seats.items (length call.tickets.items)) (length (ops_of call.targets.now)) past.caller cache.config.stripes (ops_of call.targets.now) old.seats.items new.seats.items call.progress.items
+    pub held : AreHeldBack
+        (IsFull past.caller cache.config.stripes (ops_of call.targets.now) old.seats.items new.seats.items
+        (length call.tickets.items)) (length (ops_of call.targets.now)) past.caller cache.config.stripes (ops_of call.targets.now)
+        old.seats.items new.seats.items call.progress.items
 
   -- 2. Last phases.
 
@@ -123,7 +130,8 @@ module _ {I J : Type 0} {D : I → Type 0} {E : J → Type 0} (cache : CacheStat
     pub among : IsAmong past.rounds round
     pub answered : AreAnswers cache.config round answers (map reserved_by call.tickets.items)
 
-  pub record IsCommitting (round : Round) (session : Session I J D E) (call : BulkCall) (left : List TicketClaim) (answers : RoundAnswers) (place : ℕ) : Type 0 where
+  pub record IsCommitting (round : Round) (session : Session I J D E) (call : BulkCall) (left : List TicketClaim)
+      (answers : RoundAnswers) (place : ℕ) : Type 0 where
     pub on : IsOn session call left call.joins.items
     pub among : IsAmong past.rounds round
     pub answered : AreAnswers cache.config round answers (map reserved_by left)
@@ -140,14 +148,16 @@ module _ {I J : Type 0} {D : I → Type 0} {E : J → Type 0} (cache : CacheStat
     pub no_tickets : call.tickets.items ≡ []
     pub picked : AreUnder waits_for_joined_load place call.progress.items
 
-pub record Advances {I J : Type 0} {D : I → Type 0} {E : J → Type 0} (old new : Session I J D E) (call later : BulkCall) : Type 0 where
+pub record Advances {I J : Type 0} {D : I → Type 0} {E : J → Type 0} (old new : Session I J D E)
+    (call later : BulkCall) : Type 0 where
   pub goes : KeysAdvance old.seats.items new.seats.items call.progress.items later.progress.items
   pub agent : new.agent ≡ record old.agent { counts = new.agent.counts }
   pub targets : later.targets ≡ call.targets
   pub most : later.most ≡ call.most
   pub cause : KeepsCause call.cause later.cause
 
-pub record AdvancesUnnoted {I J : Type 0} {D : I → Type 0} {E : J → Type 0} (old new : Session I J D E) (call later : BulkCall) : Type 0 where
+pub record AdvancesUnnoted {I J : Type 0} {D : I → Type 0} {E : J → Type 0} (old new : Session I J D E)
+    (call later : BulkCall) : Type 0 where
   pub advances : Advances old new call later
   pub cause : later.cause ≡ call.cause
 
@@ -155,9 +165,12 @@ abbrev pub HasNoRoom : BulkCall → Type 0
 HasNoRoom call = (call.most ≤ length call.tickets.items) ⊎ (vec_capacity call.joins ≤ length call.joins.items)
 
 -- `start` is what the session had seen before the round
-abbrev pub KeepsJoined : {I J : Type 0} {D : I → Type 0} {E : J → Type 0} → Caller → CacheState → Session I J D E → Session I J D E → BulkCall → BulkCall → Type 0
-KeepsJoined caller cache old new call later = (start : List (TableId × View)) → ((i : ℕ) → HasGrown (view_at start i) (view_at old.seats.items i))
-    → HaveJoined caller cache.config.stripes (ops_of call.targets.now) start old.seats.items call.progress.items → HaveJoined caller cache.config.stripes (ops_of later.targets.now) start new.seats.items later.progress.items
+abbrev pub KeepsJoined : {I J : Type 0} {D : I → Type 0} {E : J → Type 0} → Caller → CacheState → Session I J D E → Session I J D E
+    → BulkCall → BulkCall → Type 0
+KeepsJoined caller cache old new call later =
+    (start : List (TableId × View)) → ((i : ℕ) → HasGrown (view_at start i) (view_at old.seats.items i))
+    → HaveJoined caller cache.config.stripes (ops_of call.targets.now) start old.seats.items call.progress.items
+    → HaveJoined caller cache.config.stripes (ops_of later.targets.now) start new.seats.items later.progress.items
 
 pub record HasRoom (call : BulkCall) : Type 0 where
   pub tickets : length call.tickets.items < call.most

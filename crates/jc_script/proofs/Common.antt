@@ -37,7 +37,8 @@ pub use Rattle.jc_types.specs.declared.limits.TheConstants.{CAPACITY_MAX, HISTOR
 pub use Rattle.jc_types.specs.declared.refusal.Refusal.TheVariants.{BadConfig, TooManyKeys, WriterFailed}
 pub use Rattle.jc_world.specs.Calls.{CallState, SweepState, Task, at_each, has_number, has_too_many_keys, new_call, op_at, open_keys, over_of, put_each_of}
 pub use Rattle.jc_world.specs.Determinism.{RunsAreDetermined, cause_has_memory, eviction_has_memory, has_memory, have_memory}
-pub use Rattle.jc_world.specs.Events.{AllFit, EndsAs, Happens, eviction_place, Picks, Run, StartsAs, Step, after_report, after_reports, all_fit, is_fit, keys_reported, not_over, reported_at, reported_now, shown_begun, with_call, with_met_by}
+pub use Rattle.jc_world.specs.Events.{EndsAs, Happens, eviction_place, Picks, StartsAs, after_report, after_reports, keys_reported, not_over, reported_at, reported_now, shown_begun, with_call, with_met_by}
+pub use Rattle.jc_world.specs.Runs.{AllFit, Run, Step, all_fit, is_fit}
 pub use Rattle.jc_world.specs.Fits.{fits, is_being_written, is_free, is_new, is_playable, is_single, may_change, may_leave, may_look, may_report, may_start}
 pub use Rattle.jc_world.specs.Together.{BeginFits, FitTogether, key_at, looks, looks_of, opening_events}
 pub use Rattle.jc_world.specs.World.{WorldState, has_progress, home, is_all_answered, is_busy, is_joined, is_untouched, join_cmp, of_call, open_call, part_of, start, waits_for_load, waits_for_process, waits_for_report, with_stored}

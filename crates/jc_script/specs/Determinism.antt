@@ -7,7 +7,8 @@
 --     shown_in           what the events of the pieces of a script have shown, one piece after another, up to a line with a fault
 --     shown_of           the same of a whole script
 --     TranscriptsAreDetermined
---                        two transcripts of one script have the same bytes and the same end, if in both memory was there at each event
+--                        two transcripts of one script have the same bytes and the same end, if in both memory was there at each
+--                        event
 --     TellsOfMemory      a text has `evict K memory at S.P`: an allocation for a new entry failed
 --     MemoryIsPrinted    a transcript has it, if memory wasn't there at some event
 --     PrintedMemoryDetermines
@@ -27,7 +28,8 @@ use Rattle.jc_world.specs.World.{WorldState, open_call}
 use Rattle.jc_text.specs.declared.fault.Fault.{Fault}
 use Rattle.jc_text.specs.declared.read.line.ScriptAct.{ScriptAct}
 use Rattle.jc_text.specs.declared.read.line.Line.{Line}
-use Rattle.jc_text.specs.declared.read.line.Line.TheVariants.{Open, Set, Begin, BeginBulk, OfCall, Foreign, Invalidate, Reopen, Audit, Untold}
+use Rattle.jc_text.specs.declared.read.line.Line.TheVariants.{Open, Set, Begin, BeginBulk, OfCall, Foreign, Invalidate, Reopen}
+use Rattle.jc_text.specs.declared.read.line.Line.TheVariants.{Audit, Untold}
 use Rattle.jc_text.specs.Lines.{read_line}
 use Rattle.jc_text.specs.Printing.{evict_line}
 use Rattle.jc_text.specs.Pieces.{pieces_of}

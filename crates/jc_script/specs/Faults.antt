@@ -15,9 +15,11 @@ use Rattle.jc_world.specs.Calls.{CallState}
 use Rattle.jc_world.specs.World.{WorldState, open_call, is_busy}
 use Rattle.jc_world.specs.Fits.{fits, is_new}
 use Rattle.jc_text.specs.declared.fault.Fault.{Fault}
-use Rattle.jc_text.specs.declared.fault.Fault.TheVariants.{NotOpen, OpenTwice, BadConfig, SetTooLate, NotRising, CallerBusy, NoSuchCall, NotNow}
+use Rattle.jc_text.specs.declared.fault.Fault.TheVariants.{NotOpen, OpenTwice, BadConfig, SetTooLate, NotRising, CallerBusy}
+use Rattle.jc_text.specs.declared.fault.Fault.TheVariants.{NoSuchCall, NotNow}
 use Rattle.jc_text.specs.declared.read.line.Line.{Line}
-use Rattle.jc_text.specs.declared.read.line.Line.TheVariants.{Open, Set, Begin, BeginBulk, OfCall, Foreign, Invalidate, Reopen, Audit, Untold}
+use Rattle.jc_text.specs.declared.read.line.Line.TheVariants.{Open, Set, Begin, BeginBulk, OfCall, Foreign, Invalidate, Reopen}
+use Rattle.jc_text.specs.declared.read.line.Line.TheVariants.{Audit, Untold}
 use Rattle.jc_text.specs.declared.read.line.ScriptAct.{ScriptAct}
 use Rattle.jc_script.specs.LineEvents.{is_time_for, allows_but, has_but}
 

@@ -2,7 +2,8 @@
 --     single          the command of a call that makes one operation
 --     bulk_call       what a line says of a command on many keys; it says a command on one in another way
 --     is_process      a processor runs by an act
---     keys_of_act     the open keys of a call that an act may be about: of one by which a processor runs the first that waits for it
+--     keys_of_act     the open keys of a call that an act may be about: of one by which a processor runs the first that waits for
+--                     it
 --     is_started      a call has reserved a key
 --     is_listed       a key is among those after `but`, if `but` is there
 --     is_left_failing     a writer that fails leaves a key: one that is listed, and every key if there is no list
@@ -17,16 +18,19 @@
 --     end_of_act      the event of the whole call that comes after them: the writer's return, or the call's leaving
 --     events_of_act   the events that an act stands for
 --     is_about_one    there is an event at a key
---     is_time         whether it is the time for an act, by the call's keys and the events at those that it is about. The writer returns
---                     if it is asked for some key now. Any other act but a call's leaving is about some key. Each key that ends is
---                     answered, and each that retries is neither reserved nor joined. A call that picks up has reserved no key. A
---                     call that leaves has joined no load, and nothing was answered outside for the keys that it has reserved
+--     is_time         whether it is the time for an act, by the call's keys and the events at those that it is about. The writer
+--                     returns if it is asked for some key now. Any other act but a call's leaving is about some key. Each key that
+--                     ends is answered, and each that retries is neither reserved nor joined. A call that picks up has reserved no
+--                     key. A call that leaves has joined no load, and nothing was answered outside for the keys that it has
+--                     reserved
 --     is_time_for     the same, of an act of a call under way
 --     has_but         an act names keys that the writer leaves
 --     allows_but      a call whose writer may leave some of its keys and not others: one of many keys
 --     load_code      the code with which an act says that the loader fails
---     is_callable     what a line begins is a call of one of the 32 sessions, and its operation is a call by itself, if it has but one
-use Rattle.std.specs.Prelude.{◌&&◌, ℕ, List, [], ◌∷◌, ◌++◌, filter, map, Bool, true, false, not, Option, None, Some, find, is_some, option_to_list, if◌then◌else◌}
+--     is_callable     what a line begins is a call of one of the 32 sessions, and its operation is a call by itself, if it has but
+--                     one
+use Rattle.std.specs.Prelude.{◌&&◌, ℕ, List, [], ◌∷◌, ◌++◌, filter, map, Bool, true, false, not, Option, None, Some, find, is_some}
+use Rattle.std.specs.Prelude.{option_to_list, if◌then◌else◌}
 use Rattle.std.specs.List.{list_all, list_any}
 use Rattle.jc_types.specs.Limits.{is_session}
 use Rattle.jc_model.specs.Cache.{Bytes}
@@ -41,11 +45,13 @@ use Rattle.jc_world.specs.World.{WorldState, has_progress, is_joined, part_of, w
 use Rattle.jc_world.specs.Fits.{fits, is_being_written, is_single, passes_in}
 use Rattle.jc_text.specs.declared.read.line.Operation.{Operation}
 use Rattle.jc_text.specs.declared.read.line.Line.{Line}
-use Rattle.jc_text.specs.declared.read.line.Line.TheVariants.{Open, Set, Begin, BeginBulk, OfCall, Foreign, Invalidate, Reopen, Audit, Untold}
+use Rattle.jc_text.specs.declared.read.line.Line.TheVariants.{Open, Set, Begin, BeginBulk, OfCall, Foreign, Invalidate, Reopen}
+use Rattle.jc_text.specs.declared.read.line.Line.TheVariants.{Audit, Untold}
 use Rattle.jc_text.specs.declared.read.line.BulkLine.{BulkLine}
 use Rattle.jc_text.specs.declared.read.line.BulkLine.TheVariants as bulk
 use Rattle.jc_text.specs.declared.read.line.ScriptAct.{ScriptAct}
-use Rattle.jc_text.specs.declared.read.line.ScriptAct.TheVariants.{Read, ReadFail, Say, Apply, ApplyFail, ApplyLie, End, Drop, More, Take, Process}
+use Rattle.jc_text.specs.declared.read.line.ScriptAct.TheVariants.{Read, ReadFail, Say, Apply, ApplyFail, ApplyLie, End, Drop, More}
+use Rattle.jc_text.specs.declared.read.line.ScriptAct.TheVariants.{Take, Process}
 use Rattle.jc_text.specs.Words.{said}
 
 abbrev pub single : Operation → Command

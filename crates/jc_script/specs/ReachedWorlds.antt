@@ -1,8 +1,8 @@
 -- The worlds of a transcript are among those that runs of events reach, so the laws over runs speak of each of them.
---     IsReachedBy          a world is open, and these events, which showed this, have led to it from a start with nothing cached; or
---                          it isn't open yet, and there are none
---     IsBeside             what a line prints that is no event's: nothing, that a world is open, an audit of the world that it leaves,
---                          its untold keys, or that a load failed
+--     IsReachedBy          a world is open, and these events, which showed this, have led to it from a start with nothing cached;
+--                          or it isn't open yet, and there are none
+--     IsBeside             what a line prints that is no event's: nothing, that a world is open, an audit of the world that it
+--                          leaves, its untold keys, or that a load failed
 --     LeadsOn              more events, each of which fits, lead on to this world; they and what they show are appended. What is
 --                          printed is what is printed of them, and what is beside them
 --     LinesStayReached     a line without a fault leads on so from each world that is reached
@@ -16,7 +16,7 @@ use Rattle.jc_types.specs.declared.config.Config.{Config}
 use Rattle.jc_model.specs.Cache.{Bytes}
 use Rattle.jc_world.specs.declared.event.Shown.{Shown}
 use Rattle.jc_world.specs.declared.event.WorldEvent.{WorldEvent}
-use Rattle.jc_world.specs.Events.{all_fit}
+use Rattle.jc_world.specs.Runs.{all_fit}
 use Rattle.jc_world.specs.Headline.{Reaches, start_with}
 use Rattle.jc_world.specs.World.{WorldState, start}
 use Rattle.jc_text.specs.declared.fault.Fault.{Fault}
@@ -76,7 +76,8 @@ EndsAtLine w n (line ∷ next ∷ more) out end =
     (fault : Fault) × (fault_of w line ≡ Some fault) × (out ≡ fault_line n fault) × (end ≡ LineFault n)
 
 -- from a world that these events have reached, and the line with this number
-pub record LeadsToEnd (events : List WorldEvent) (seen : List Shown) (old : OpenedWorld) (n : ℕ) (pieces : List (List ℕ)) (out : List ℕ) (end : RunEnd) : Type 0 where
+pub record LeadsToEnd (events : List WorldEvent) (seen : List Shown) (old : OpenedWorld) (n : ℕ) (pieces : List (List ℕ))
+    (out : List ℕ) (end : RunEnd) : Type 0 where
   pub lines : List (List ℕ)
   pub others : List (List ℕ)
   pub printed : List ℕ

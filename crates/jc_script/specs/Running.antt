@@ -1,6 +1,6 @@
 -- Runs: from what a reader gives to what a writer takes.
---     Explains           what is said of a script's end: nothing of a clean one, and else the complaint about the line of that number
---                        with the fault that the transcript ends with
+--     Explains           what is said of a script's end: nothing of a clean one, and else the complaint about the line of that
+--                        number with the fault that the transcript ends with
 --     RunsScript         the input was read to its end, its transcript written, and what is said of its end told
 --     BreaksOffScript    the same, up to a write that failed
 use Rattle.std.specs.Prelude.{◌≡◌, ◌≤◌, ℕ, ◌+◌, List, ◌∷◌, ◌++◌, take, length, Option}

@@ -27,14 +27,15 @@ use Rattle.jc_world.specs.declared.event.WorldEvent.{WorldEvent}
 use Rattle.jc_world.specs.declared.event.WorldEvent.TheVariants as event
 use Rattle.jc_world.specs.World.{WorldState, start, open_call, with_stored, is_untold}
 use Rattle.jc_world.specs.PlayedWorld.{PlayedWorld}
-use Rattle.jc_world.specs.Events.{Run, all_fit}
+use Rattle.jc_world.specs.Runs.{Run, all_fit}
 use Rattle.jc_world.specs.Together.{opening_events}
 use Rattle.jc_world.specs.Audit.{IsAudit, untold_keys}
 use Rattle.jc_world.specs.Coherent.{all_hold}
 use Rattle.jc_text.specs.declared.fault.Fault.{Fault}
 use Rattle.jc_text.specs.declared.fault.Fault.TheVariants.{CutLine}
 use Rattle.jc_text.specs.declared.read.line.Line.{Line}
-use Rattle.jc_text.specs.declared.read.line.Line.TheVariants.{Open, Set, Begin, BeginBulk, OfCall, Foreign, Invalidate, Reopen, Audit, Untold}
+use Rattle.jc_text.specs.declared.read.line.Line.TheVariants.{Open, Set, Begin, BeginBulk, OfCall, Foreign, Invalidate, Reopen}
+use Rattle.jc_text.specs.declared.read.line.Line.TheVariants.{Audit, Untold}
 use Rattle.jc_text.specs.declared.read.line.BulkLine.{BulkLine}
 use Rattle.jc_text.specs.declared.read.line.ScriptAct.{ScriptAct}
 use Rattle.jc_text.specs.Lines.{read_line}
@@ -62,7 +63,8 @@ pub record PlaysEvents (w : WorldState) (events : List WorldEvent) (text : List 
   pub text_is : text ≡ texts events seen
 
 -- after what its events show a line says its fault
-pub record PlaysCall (w : WorldState) (number : ℕ) (events : List WorldEvent) (fault : Option ℕ) (text : List ℕ) (new : OpenedWorld) : Type 0 where
+pub record PlaysCall (w : WorldState) (number : ℕ) (events : List WorldEvent) (fault : Option ℕ) (text : List ℕ)
+    (new : OpenedWorld) : Type 0 where
   pub shown : List ℕ
   pub after : WorldState
   pub plays : PlaysEvents w events shown after
@@ -157,7 +159,8 @@ abbrev pub Transcript : OpenedWorld → ℕ → List (List ℕ) → List ℕ →
 Transcript old n [] out end = ⊥
 Transcript old n (last ∷ []) out end = EndsScript n last out end
 Transcript old n (line ∷ next ∷ more) out end =
-    ((text : List ℕ) × (rest : List ℕ) × (new : OpenedWorld) × Prints old line text new × Transcript new (n + 1) (next ∷ more) rest end × (out ≡ text ++ rest))
+    ((text : List ℕ) × (rest : List ℕ) × (new : OpenedWorld) × Prints old line text new
+    × Transcript new (n + 1) (next ∷ more) rest end × (out ≡ text ++ rest))
     ⊎ ((fault : Fault) × (fault_of old line ≡ Some fault) × (out ≡ fault_line n fault) × (end ≡ LineFault n))
 
 abbrev pub IsTranscript : List ℕ → List ℕ → RunEnd → Type 0

@@ -2,7 +2,7 @@
 ghost use Rattle.std.specs.Prelude.{◌≡◌, ◌++◌, ◌∷◌, List, ℕ, [], Some, None, true, OnOk, IfOk, MatchOption};
 ghost use Rattle.jc_types.specs.Limits.{check};
 ghost use Rattle.jc_world.specs.World.{start};
-ghost use Rattle.jc_world.specs.Events.{AllFit};
+ghost use Rattle.jc_world.specs.Runs.{AllFit};
 ghost use Rattle.jc_text.specs.declared.read.line.Line.TheVariants as lines;
 ghost use Rattle.jc_script.specs.LineEvents.{is_callable};
 ghost use Rattle.jc_script.specs.Faults.{config_fault};

@@ -1,4 +1,4 @@
--- The agent after it has taken a stripe, and after it has given it back.
+-- A session's agent after it has taken a stripe from a gate, and after it has given the stripe back.
 --     Taken       the agent holds one stripe, which the token has taken in this state; it is one that a take may find, and is
 --                 reached
 --     NotTaken    the stripe was out: the agent is unchanged, and a later take may find what this one might have found
@@ -12,10 +12,11 @@ use Rattle.jc_session.specs.Counting.{counts_after}
 use Rattle.jc_session.specs.declared.agent.Agent.{Agent}
 use Rattle.jc_session.specs.declared.counts.Counted.{Counted}
 
--- `has`, `take`, `give`, `misses`, `finds`, `is_free` and `speaks_for` are a gate's; `g` and `t` are the gate and the token before, `h`
--- and `u` after
+-- `has`, `take`, `give`, `misses`, `finds`, `is_free` and `speaks_for` are a gate's; `g` and `t` are the gate and the token before,
+-- `h` and `u` after
 module _ {I J G T : Type 0} {D : I → Type 0} {E : J → Type 0} where
-  pub record Taken (has : G → T → State → Type 0) (take : G → T → State → G → T → Type 0) (finds : G → T → State → Type 0) (speaks_for : T → ℕ → Type 0)
+  pub record Taken (has : G → T → State → Type 0) (take : G → T → State → G → T → Type 0) (finds : G → T → State → Type 0)
+      (speaks_for : T → ℕ → Type 0)
       (old : Agent I J D E) (g : G) (t : T) (a : State) (new : Agent I J D E) (h : G) (u : T) : Type 0 where
     pub agent : new ≡ record old { hands = record old.hands { held = 1 } }
     pub speaks : (n : ℕ) → speaks_for t n → speaks_for u n
@@ -23,7 +24,8 @@ module _ {I J G T : Type 0} {D : I → Type 0} {E : J → Type 0} where
     pub takes : take g t a h u
     pub found : finds g t a × IsReached a
 
-  pub record NotTaken (misses : G → T → G → T → Type 0) (finds : G → T → State → Type 0) (is_free : G → T → Type 0) (speaks_for : T → ℕ → Type 0)
+  pub record NotTaken (misses : G → T → G → T → Type 0) (finds : G → T → State → Type 0) (is_free : G → T → Type 0)
+      (speaks_for : T → ℕ → Type 0)
       (old : Agent I J D E) (g : G) (t : T) (new : Agent I J D E) (h : G) (u : T) : Type 0 where
     pub none : new ≡ old
     pub missed : misses g t h u
@@ -31,7 +33,8 @@ module _ {I J G T : Type 0} {D : I → Type 0} {E : J → Type 0} where
     pub speaks : (n : ℕ) → speaks_for t n → speaks_for u n
     pub still : (a : State) → finds h u a → finds g t a
 
-  pub record Given (give : G → T → State → G → T → Type 0) (finds : G → T → State → Type 0) (is_free : G → T → Type 0) (speaks_for : T → ℕ → Type 0)
+  pub record Given (give : G → T → State → G → T → Type 0) (finds : G → T → State → Type 0) (is_free : G → T → Type 0)
+      (speaks_for : T → ℕ → Type 0)
       (counted : Counted) (old : Agent I J D E) (g : G) (t : T) (a : State) (new : Agent I J D E) (h : G) (u : T) : Type 0 where
     pub agent : new ≡ record old { counts = counts_after old.counts counted; hands = record old.hands { held = 0 } }
     pub speaks : (n : ℕ) → speaks_for t n → speaks_for u n

@@ -77,7 +77,8 @@ StopsAtOnce prompt lines rest answers text calls c out =
 
 -- before and after: the bytes that the reader has left; old and new: those that the writer has; earlier and later: the calls of the
 -- saver
-pub record RunsDialogue (prompt : List ℕ) (before after old new : Option (List ℕ)) (earlier later : Option (List SaveCall)) : Type 0 where
+pub record RunsDialogue (prompt : List ℕ) (before after old new : Option (List ℕ))
+    (earlier later : Option (List SaveCall)) : Type 0 where
   pub lines : List (List ℕ)
   pub rest : List ℕ
   pub answers : List ℕ
@@ -96,7 +97,8 @@ abbrev pub LateCalls : ShellFault → List SaveCall → Type 0
 LateCalls OutOfMemory late = AreRefused late
 LateCalls fault late = late ≡ []
 
-pub record Stopped (prompt : List ℕ) (fault : ShellFault) (before after old new : Option (List ℕ)) (earlier later : Option (List SaveCall)) : Type 0 where
+pub record Stopped (prompt : List ℕ) (fault : ShellFault) (before after old new : Option (List ℕ))
+    (earlier later : Option (List SaveCall)) : Type 0 where
   pub lines : List (List ℕ)
   pub rest : List ℕ
   pub answers : List ℕ

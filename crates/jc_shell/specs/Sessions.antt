@@ -12,9 +12,10 @@
 --     IsSaved                the saver was called with a script and a name, and the answer says that it was saved, or shows the
 --                            reason for which this call was refused
 --     IsFront                the accepted lines are those of a script but its last one
---     HasFaultNow            a prefix of a script has a transcript that ends with a fault: in another one memory was there, or wasn't
---     IsUndone               the last accepted line is taken back, and those before it were played anew; or there is none; or one of
---                            those before has a fault this time, and nothing changes
+--     HasFaultNow            a prefix of a script has a transcript that ends with a fault: in another one memory was there, or
+--                            wasn't
+--     IsUndone               the last accepted line is taken back, and those before it were played anew; or there is none; or one
+--                            of those before has a fault this time, and nothing changes
 --     AnswersWord            the answer to a line, by what it asks for
 --     AnswersLine            the answer to a line, by the line alone
 --     AreAnswered            lines one after another, each with its answer, and the prompt after that
@@ -29,7 +30,8 @@ use Rattle.jc_script.specs.Transcript.{IsTranscript}
 use Rattle.jc_shell.specs.declared.words.Word.{Word}
 use Rattle.jc_shell.specs.declared.words.Word.TheVariants.{Help, HelpOn, Quit, Save, Undo, Line}
 use Rattle.jc_shell.specs.Saving.{SaveCall}
-use Rattle.jc_shell.specs.ShellWords.{help_text, line_help, name_in, no_undo_text, not_saved_text, not_undone_text, saved_text, undone_text, word_of}
+use Rattle.jc_shell.specs.ShellWords.{help_text, line_help, name_in, no_undo_text, not_saved_text, not_undone_text, saved_text}
+use Rattle.jc_shell.specs.ShellWords.{undone_text, word_of}
 
 -- 1. The accepted lines.
 
@@ -64,13 +66,15 @@ abbrev pub IsLineRejected : (a : Accepted) (line answer : List ℕ) (b : Accepte
 IsLineRejected a line answer b =
     (b ≡ a)
     × ((fault : Fault)
-    × IsTranscript (script_of (a.lines ++ line ∷ [])) (a.shown ++ fault_line (next_line_number a) fault) (LineFault (next_line_number a))
+    × IsTranscript (script_of (a.lines ++ line ∷ [])) (a.shown ++ fault_line (next_line_number a) fault)
+    (LineFault (next_line_number a))
     × (answer ≡ complaint (next_line_number a) line fault))
 
 abbrev pub IsSaved : (script name answer : List ℕ) → List SaveCall → Type 0
 IsSaved script name answer calls =
     ((answer ≡ saved_text name) × (calls ≡ record { name = name; script = script; refusal = None } ∷ []))
-    ⊎ ((why : List ℕ) × (answer ≡ not_saved_text name why) × (calls ≡ record { name = name; script = script; refusal = Some why } ∷ []))
+    ⊎ ((why : List ℕ) × (answer ≡ not_saved_text name why)
+    × (calls ≡ record { name = name; script = script; refusal = Some why } ∷ []))
 
 abbrev pub IsFront : Accepted → (script : List ℕ) → Type 0
 IsFront b script = (last : List ℕ) × (has_feed last ≡ false) × (script ≡ script_of b.lines ++ (last ++ 10 ∷ []))

@@ -24,7 +24,8 @@ in_transaction old = record old { in_transaction = true }
 
 abbrev pub RanEach : {S : Type 0} → Ghosts S → List ℕ → List Row → Held S → Held S → Type 0
 RanEach {S = S} g sql [] old new = new ≡ old
-RanEach {S = S} g sql (row ∷ rows) old new = (mid : Held S) × (count : ℕ) × Executes sql row (state g old) (state g mid) (Ok count) × RanEach g sql rows mid new
+RanEach {S = S} g sql (row ∷ rows) old new =
+    (mid : Held S) × (count : ℕ) × Executes sql row (state g old) (state g mid) (Ok count) × RanEach g sql rows mid new
 
 pub record RanAll {S : Type 0} (g : Ghosts S) (sql : List ℕ) (rows : List Row) (old : Held S) (db : Database) : Type 0 where
   pub last : Held S
@@ -47,13 +48,17 @@ pub record FailsAtEnd {S : Type 0} (g : Ghosts S) (sql : List ℕ) (rows : List 
   pub fails : FailsToCommit (state g last) (state g new) e
 
 abbrev pub FailsInBatch : {S : Type 0} → Ghosts S → List ℕ → List Row → Held S → Held S → Error → Type 0
-FailsInBatch g sql rows old new e = ((e ≡ SqliteFailure TransactionState) × (old.in_transaction ≡ true)) ⊎ (FailsAtRow g sql rows old e ⊎ FailsAtEnd g sql rows old new e)
+FailsInBatch g sql rows old new e =
+    ((e ≡ SqliteFailure TransactionState) × (old.in_transaction ≡ true))
+    ⊎ (FailsAtRow g sql rows old e ⊎ FailsAtEnd g sql rows old new e)
 
-pub record RunsAsOne {S : Type 0} (g : Ghosts S) (sql : List ℕ) (rows : List Row) (old new : Held S) (result : Result (Unit {0}) Error) : Type 0 where
+pub record RunsAsOne {S : Type 0} (g : Ghosts S) (sql : List ℕ) (rows : List Row) (old new : Held S)
+    (result : Result (Unit {0}) Error) : Type 0 where
   -- after a success the last commit has all of it
   pub all : HasCleanDisk (state g new) → OnOk result (RanAll g sql rows old (state g new).committed)
   -- after a failure, if the connection is still open, neither the table nor its last commit has changed
-  pub none : HasCleanDisk (state g new) → IsTrue (state g new).is_open → OnErr result (((state g new).now ≡ (state g old).now) × ((state g new).committed ≡ (state g old).committed))
+  pub none : HasCleanDisk (state g new) → IsTrue (state g new).is_open
+      → OnErr result (((state g new).now ≡ (state g old).now) × ((state g new).committed ≡ (state g old).committed))
   pub cause : HasCleanDisk (state g new) → IfErr result (FailsInBatch g sql rows old new)
   -- the batch's own transaction has ended, and one that was open before still is
   pub mode : new.in_transaction ≡ old.in_transaction

@@ -1,4 +1,4 @@
--- The collection that a write leaves, and the failure that is kept.
+-- The collection that a write leaves, and the failure that is kept. No contract of a public function cites this.
 --     LeavesAllOrNone    after a success nothing is left in a collection that was to be written or deleted, and after a failure
 --                        all of it is; a failure's code isn't 0
 --     says_closed        the error is that an earlier failure has shut the connection
@@ -13,7 +13,8 @@
 --     IsAtOneOf          the same of a load of many keys; a failure has one of them
 --     OnCleanDisk        this holds of a connection to a file, as long as the disk has returned what was written to it
 --     LoadsFromFile      the same of a load of many keys
-use Rattle.std.specs.Prelude.{◌≡◌, ◌<◌, ℕ, Bool, true, false, if◌then◌else◌, List, [], ◌∷◌, Contains, Result, Ok, Err, IfErr, Option, None, Some, IsSomeAnd}
+use Rattle.std.specs.Prelude.{◌≡◌, ◌<◌, ℕ, Bool, true, false, if◌then◌else◌, List, [], ◌∷◌, Contains, Result, Ok, Err, IfErr}
+use Rattle.std.specs.Prelude.{Option, None, Some, IsSomeAnd}
 use Rattle.sqlite_disk.specs.declared.Disk as disk
 use Rattle.sqlite_store.specs.declared.store.FileStore.{FileStore}
 use Rattle.sqlite.specs.State.{State, HasCleanDisk}

@@ -22,7 +22,8 @@
 --     LoadsAll              each key was loaded in this way, in their order; an error is that of the first load that failed,
 --                           after which nothing was loaded
 --     CommitsLoading        what the load of one of these keys commits
-use Rattle.std.specs.Prelude.{◌≡◌, ◌≤◌, ◌⊎◌, ℕ, pos, Bool, false, IsTrue, List, [], ◌∷◌, length, Contains, Result, Ok, Err, Option, None, Some, codes}
+use Rattle.std.specs.Prelude.{◌≡◌, ◌≤◌, ◌⊎◌, ℕ, pos, Bool, false, IsTrue, List, [], ◌∷◌, length, Contains, Result, Ok, Err, Option}
+use Rattle.std.specs.Prelude.{None, Some, codes}
 use Rattle.jc_outside.specs.Answers.{AnswersByKey, answers_with_found}
 use Rattle.jc_types.specs.declared.limits.TheConstants.{VALUE_MAX}
 use Rattle.sqlite.specs.declared.types.Value.{Value}
@@ -77,7 +78,8 @@ abbrev pub IsOwn : List Row → Type 0
 IsOwn rows = (row : Row) × (text : List ℕ) × (rows ≡ row ∷ []) × (column row 0 ≡ Text text) × IsOwnText text
 
 abbrev pub TellsOwn : State → State → Result Bool Error → Type 0
-TellsOwn old new (Ok own) = (rows : List Row) × Shown schema_sql [] old new rows × (IsTrue own → IsOwn rows) × (own ≡ false → ¬ IsOwn rows)
+TellsOwn old new (Ok own) =
+    (rows : List Row) × Shown schema_sql [] old new rows × (IsTrue own → IsOwn rows) × (own ≡ false → ¬ IsOwn rows)
 TellsOwn old new (Err e) = FailsToQuery schema_sql [] old new e
 
 abbrev pub IsCount : Row → Result ℕ Error → Type 0
@@ -86,7 +88,8 @@ IsCount row (Err e) = IsReadError 0 (column row 0) e
 
 abbrev pub Counts : State → State → Result ℕ Error → Type 0
 Counts old new (Ok count) = (row : Row) × QueriesRow count_sql [] old new (Ok row) × IsCount row (Ok count)
-Counts old new (Err e) = QueriesRow count_sql [] old new (Err e) ⊎ ((row : Row) × QueriesRow count_sql [] old new (Ok row) × IsCount row (Err e))
+Counts old new (Err e) =
+    QueriesRow count_sql [] old new (Err e) ⊎ ((row : Row) × QueriesRow count_sql [] old new (Ok row) × IsCount row (Err e))
 
 abbrev pub IsValueColumn : Value → Type 0
 IsValueColumn it = (bytes : List ℕ) × (it ≡ Blob bytes) × (length bytes ≤ VALUE_MAX)
@@ -108,17 +111,24 @@ IsInFirst (row ∷ rows) (Err e) = ReadsValue row (Err e)
 
 abbrev pub Loads : List ℕ → State → State → Result (Option (List ℕ)) Error → Type 0
 Loads key old new (Ok found) = (rows : List Row) × Shown load_sql (key_row key) old new rows × IsInFirst rows (Ok found)
-Loads key old new (Err e) = FailsToQuery load_sql (key_row key) old new e ⊎ ((rows : List Row) × Shown load_sql (key_row key) old new rows × IsInFirst rows (Err e))
+Loads key old new (Err e) =
+    FailsToQuery load_sql (key_row key) old new e
+    ⊎ ((rows : List Row) × Shown load_sql (key_row key) old new rows × IsInFirst rows (Err e))
 
 abbrev pub LoadsInto : List ℕ → State → State → AnswersByKey → AnswersByKey → Result (Unit {0}) Failure → Type 0
-LoadsInto key old new before after (Ok done) = (found : Option (List ℕ)) × Loads key old new (Ok found) × (after ≡ answers_with_found before key found)
-LoadsInto key old new before after (Err failure) = (failure.key ≡ Some key) × Loads key old new (Err failure.error) × (after ≡ before)
+LoadsInto key old new before after (Ok done) =
+    (found : Option (List ℕ)) × Loads key old new (Ok found) × (after ≡ answers_with_found before key found)
+LoadsInto key old new before after (Err failure) =
+    (failure.key ≡ Some key) × Loads key old new (Err failure.error) × (after ≡ before)
 
-abbrev pub LoadsAll : {S : Type 0} → Ghosts S → List (List ℕ) → Held S → Held S → AnswersByKey → AnswersByKey → Result (Unit {0}) Failure → Type 0
+abbrev pub LoadsAll : {S : Type 0} → Ghosts S → List (List ℕ) → Held S → Held S → AnswersByKey → AnswersByKey
+    → Result (Unit {0}) Failure → Type 0
 LoadsAll {S = S} g [] old new before after result = (result ≡ Ok tt) × (new ≡ old) × (after ≡ before)
 LoadsAll {S = S} g (key ∷ keys) old new before after result =
     ((failure : Failure) × (result ≡ Err failure) × LoadsInto key (state g old) (state g new) before after (Err failure))
-    ⊎ ((mid : Held S) × (between : AnswersByKey) × LoadsInto key (state g old) (state g mid) before between (Ok tt) × LoadsAll g keys mid new between after result)
+    ⊎ ((mid : Held S) × (between : AnswersByKey) × LoadsInto key (state g old) (state g mid) before between (Ok tt)
+    × LoadsAll g keys mid new between after result)
 
 abbrev pub CommitsLoading : {S : Type 0} → Ghosts S → List (List ℕ) → Trees → Type 0
-CommitsLoading {S = S} g keys db = (key : List ℕ) × (before : Held S) × Contains keys key × CommitsShowing load_sql (key_row key) (state g before) db
+CommitsLoading {S = S} g keys db =
+    (key : List ℕ) × (before : Held S) × Contains keys key × CommitsShowing load_sql (key_row key) (state g before) db

@@ -42,7 +42,8 @@ ReportsChange Delete answer = answer ≡ Ok tt
 
 abbrev pub WritesAllToAStore : List (Bytes × Bytes) → Result (Unit {0}) ℕ → List (Bytes × Bytes) → Type 0
 WritesAllToAStore entries (Ok done) left = left ≡ []
-WritesAllToAStore entries (Err code) left = (code ≡ NO_MEMORY) × (0 < length left) × ((written : List (Bytes × Bytes)) × (entries ≡ written ++ left))
+WritesAllToAStore entries (Err code) left =
+    (code ≡ NO_MEMORY) × (0 < length left) × ((written : List (Bytes × Bytes)) × (entries ≡ written ++ left))
 
 abbrev pub DeletesAll : Result (Unit {0}) ℕ → List Bytes → Type 0
 DeletesAll answer left = (answer ≡ Ok tt) × (left ≡ [])

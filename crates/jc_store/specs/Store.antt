@@ -20,4 +20,5 @@ without_keys store [] = store
 without_keys store (key ∷ keys) = without_keys (with_entry store key None) keys
 
 abbrev pub WritesAll : Cache → List (Bytes × Bytes) → List (Bytes × Bytes) → Cache → Type 0
-WritesAll store entries left new = (written : List (Bytes × Bytes)) × (entries ≡ written ++ left) × (new ≡ with_entries store written)
+WritesAll store entries left new =
+    (written : List (Bytes × Bytes)) × (entries ≡ written ++ left) × (new ≡ with_entries store written)

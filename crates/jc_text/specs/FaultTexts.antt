@@ -3,7 +3,9 @@
 use Rattle.std.specs.Prelude.{ℕ, List, codes}
 use Rattle.jc_types.specs.declared.config.Field.TheVariants.{Stripes, Capacity, History}
 use Rattle.jc_text.specs.declared.fault.Fault.{Fault}
-use Rattle.jc_text.specs.declared.fault.Fault.TheVariants.{CutLine, LineTooLong, BadByte, BadLine, BadNumber, BadCaller, BadKey, BadValue, RepeatedKey, NotOpen, OpenTwice, BadConfig, SetTooLate, NotRising, CallerBusy, NoSuchCall, NotNow}
+use Rattle.jc_text.specs.declared.fault.Fault.TheVariants.{CutLine, LineTooLong, BadByte, BadLine, BadNumber, BadCaller, BadKey}
+use Rattle.jc_text.specs.declared.fault.Fault.TheVariants.{BadValue, RepeatedKey, NotOpen, OpenTwice, BadConfig, SetTooLate}
+use Rattle.jc_text.specs.declared.fault.Fault.TheVariants.{NotRising, CallerBusy, NoSuchCall, NotNow}
 
 abbrev pub text_of : Fault → List ℕ
 text_of CutLine = codes "cut line"

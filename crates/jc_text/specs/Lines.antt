@@ -7,7 +7,8 @@
 --     flags_of                      what of read-through and write-through is on
 --     is_load_mode                  a word says which keys a `loadall` loads: those that are missing, or all
 --     has_load_shape                such a word, and at least one more
---     bulk_takes, takes_words       these words may follow the name of a call of many keys, and an operation's name, by their number
+--     bulk_takes, takes_words       these words may follow the name of a call of many keys, and an operation's name, by their
+--                                   number
 --     op_name                       the name of an operation, if it has one
 --     bare_op, valued_op            the operation of a name with no value, and of a name with one
 --     value_alone                   one value, and no word after it
@@ -35,7 +36,8 @@
 --     is_comment                    a line that asks for nothing: an empty one, and one that begins with #
 --     some_line                     a line that asks for something, or its fault
 --     read_line                     what the bytes of a line ask for: nothing, for a comment
-use Rattle.std.specs.Prelude.{◌≡◌, ◌==◌, ℕ, List, [], ◌∷◌, length, Bool, true, false, ◌&&◌, ◌||◌, not, nat_lt, nat_le, Option, Some, None, Result, Ok, Err, if◌then◌else◌, codes}
+use Rattle.std.specs.Prelude.{◌≡◌, ◌==◌, ℕ, List, [], ◌∷◌, length, Bool, true, false, ◌&&◌, ◌||◌, not, nat_lt, nat_le, Option, Some}
+use Rattle.std.specs.Prelude.{None, Result, Ok, Err, if◌then◌else◌, codes}
 use Rattle.std.specs.Str.{bytes_eq}
 use Rattle.std.specs.List.{list_all}
 use Rattle.jc_model.specs.Cache.{Bytes}
@@ -49,11 +51,13 @@ use Rattle.jc_text.specs.declared.fault.Fault.TheVariants.{LineTooLong, BadByte,
 use Rattle.jc_text.specs.declared.fault.ReadError.{ReadError}
 use Rattle.jc_text.specs.declared.fault.ReadError.TheVariants as errors
 use Rattle.jc_text.specs.declared.read.line.Line.{Line}
-use Rattle.jc_text.specs.declared.read.line.Line.TheVariants.{Open, Set, Begin, BeginBulk, OfCall, Foreign, Invalidate, Reopen, Audit, Untold}
+use Rattle.jc_text.specs.declared.read.line.Line.TheVariants.{Open, Set, Begin, BeginBulk, OfCall, Foreign, Invalidate, Reopen}
+use Rattle.jc_text.specs.declared.read.line.Line.TheVariants.{Audit, Untold}
 use Rattle.jc_text.specs.declared.read.line.BulkLine.{BulkLine}
 use Rattle.jc_text.specs.declared.read.line.BulkLine.TheVariants as bulk
 use Rattle.jc_text.specs.declared.read.line.ScriptAct.{ScriptAct}
-use Rattle.jc_text.specs.declared.read.line.ScriptAct.TheVariants.{Read, ReadFail, Say, Apply, ApplyFail, ApplyLie, End, Drop, More, Take, Process}
+use Rattle.jc_text.specs.declared.read.line.ScriptAct.TheVariants.{Read, ReadFail, Say, Apply, ApplyFail, ApplyLie, End, Drop, More}
+use Rattle.jc_text.specs.declared.read.line.ScriptAct.TheVariants.{Take, Process}
 use Rattle.jc_text.specs.declared.read.commands.Bare.{Bare}
 use Rattle.jc_text.specs.declared.read.commands.Bare.TheVariants as bare
 use Rattle.jc_text.specs.declared.read.commands.Valued.{Valued}
@@ -66,7 +70,8 @@ use Rattle.jc_text.specs.declared.read.grammar.Lone.{Lone}
 use Rattle.jc_text.specs.declared.read.grammar.Lone.TheVariants as lone
 use Rattle.jc_text.specs.declared.read.grammar.Coded.{Coded}
 use Rattle.jc_text.specs.declared.read.grammar.Coded.TheVariants as coded
-use Rattle.jc_text.specs.Words.{◌>>=◌, words_of, number_of, caller_of, key_of, value_of, value_or_none_of, pairs_of, distinct_pairs_of, distinct_keys_of}
+use Rattle.jc_text.specs.Words.{◌>>=◌, words_of, number_of, caller_of, key_of, value_of, value_or_none_of, pairs_of}
+use Rattle.jc_text.specs.Words.{distinct_pairs_of, distinct_keys_of}
 use Rattle.jc_text.specs.ProcessWords.{without_load, has_process_shape, source_of, calls_of}
 
 abbrev pub Gives : {X : Type 0} → Result X ReadError → Result X Fault → Type 0

@@ -1,4 +1,5 @@
--- Readers and writers that note their failures.
+-- Readers and writers of bytes that keep a note of whether a call of them has failed (`Noted`). No contract of a public function
+-- cites this.
 --     Noting            a reader or a writer, and whether a call of it has failed
 --     is_failed_write   whether this answer to a write of these bytes is a failure: an error, or none of some bytes taken
 use Rattle.std.specs.Prelude.{ℕ, List, [], ◌∷◌, Bool, true, false, ◌==◌, Result, Ok, Err}

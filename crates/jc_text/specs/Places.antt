@@ -3,11 +3,13 @@
 --     is_unknown       a word isn't one of the fixed words of its place, or no word may be there
 --     is_wrong         a word doesn't say what its place asks for: a number, a session, a key, ..
 --     is_bad           what is looked for: an empty word or an unknown one, or else a wrong one
---     bad_from, bad_among      the first such word from the left, or the place behind the last word: from a word on, and of all words
+--     bad_from, bad_among      the first such word from the left, or the place behind the last word: from a word on, and of all
+--                              words
 --     form_in          the operation that a `begin` names
 --     after_name, operation_kinds      what has to follow the name of an operation
 --     is_lone          a line has no word but its first and a call's number
---     bad_after, bad_in_begin, bad_in_line, bad_word      the first such word of a `begin`, of a line with this first word, and of a line
+--     bad_after, bad_in_begin, bad_in_line, bad_word      the first such word of a `begin`, of a line with this first word, and of
+--                                                         a line
 --     list_start       where the keys of a call of many keys begin, or those after `but`
 --     or_goes_on       a place, if there is a fault, or else what follows
 --     repeat_from, repeated_word      the first word whose key isn't new, or is none: from a word on, and of a line
@@ -23,7 +25,8 @@
 --     whole_text       what is wrong with a whole line
 --     fault_text       the column and what is wrong, if it isn't the whole line
 --     complaint        the line of standard error
-use Rattle.std.specs.Prelude.{◌==◌, ◌&&◌, ◌||◌, ◌+◌, ◌-◌, ℕ, List, [], ◌∷◌, ◌++◌, drop, length, codes, decimal, Bool, true, false, not, is_ok, Option, None, Some, Result, Ok, Err, if◌then◌else◌}
+use Rattle.std.specs.Prelude.{◌==◌, ◌&&◌, ◌||◌, ◌+◌, ◌-◌, ℕ, List, [], ◌∷◌, ◌++◌, drop, length, codes, decimal, Bool, true, false}
+use Rattle.std.specs.Prelude.{not, is_ok, Option, None, Some, Result, Ok, Err, if◌then◌else◌}
 use Rattle.std.specs.Str.{bytes_eq}
 use Rattle.std.specs.List.{position}
 use Rattle.jc_model.specs.Cache.{Bytes}
@@ -32,7 +35,9 @@ use Rattle.jc_text.specs.declared.read.commands.BulkName.TheVariants as name
 use Rattle.jc_text.specs.declared.read.commands.Form.{Form}
 use Rattle.jc_text.specs.declared.read.commands.Form.TheVariants as form
 use Rattle.jc_text.specs.declared.fault.Fault.{Fault}
-use Rattle.jc_text.specs.declared.fault.Fault.TheVariants.{CutLine, LineTooLong, BadByte, BadLine, BadNumber, BadCaller, BadKey, BadValue, RepeatedKey, NotOpen, BadConfig, SetTooLate, NotRising, CallerBusy, NoSuchCall, NotNow}
+use Rattle.jc_text.specs.declared.fault.Fault.TheVariants.{CutLine, LineTooLong, BadByte, BadLine, BadNumber, BadCaller, BadKey}
+use Rattle.jc_text.specs.declared.fault.Fault.TheVariants.{BadValue, RepeatedKey, NotOpen, BadConfig, SetTooLate, NotRising}
+use Rattle.jc_text.specs.declared.fault.Fault.TheVariants.{CallerBusy, NoSuchCall, NotNow}
 use Rattle.jc_text.specs.declared.read.place.Kind.{Kind}
 use Rattle.jc_text.specs.declared.read.place.Kind.TheVariants as kind
 use Rattle.jc_text.specs.declared.read.place.Following.{Following}
@@ -109,7 +114,8 @@ bad_in_begin search words = bad_after search (operation_kinds (form_in words)) w
 
 abbrev pub is_lone : List ℕ → Bool
 is_lone first =
-    bytes_eq first (codes "read") || bytes_eq first (codes "end") || bytes_eq first (codes "drop") || bytes_eq first (codes "more") || bytes_eq first (codes "take")
+    bytes_eq first (codes "read") || bytes_eq first (codes "end") || bytes_eq first (codes "drop") || bytes_eq first (codes "more")
+    || bytes_eq first (codes "take")
 
 abbrev pub bad_in_line : WordSearch → List ℕ → List (List ℕ) → ℕ
 bad_in_line search first words =
@@ -117,12 +123,15 @@ bad_in_line search first words =
     if bytes_eq first (codes "open") || bytes_eq first (codes "reopen") then
     bad_among search (kind.First ∷ kind.Number ∷ kind.Number ∷ kind.Number ∷ kind.Flag ∷ kind.Flag ∷ []) kind.Nothing words else
     if bytes_eq first (codes "set") then bad_among search (kind.First ∷ kind.Key ∷ kind.Value ∷ []) kind.Nothing words else
-    if bytes_eq first (codes "foreign") then bad_among search (kind.First ∷ kind.Key ∷ kind.ValueOrNone ∷ []) kind.Nothing words else
+    if bytes_eq first (codes "foreign")
+    then bad_among search (kind.First ∷ kind.Key ∷ kind.ValueOrNone ∷ []) kind.Nothing words else
     if bytes_eq first (codes "invalidate") then bad_among search (kind.First ∷ kind.Key ∷ []) kind.Nothing words else
-    if bytes_eq first (codes "audit") || bytes_eq first (codes "untold") then bad_among search (kind.First ∷ []) kind.Nothing words else
+    if bytes_eq first (codes "audit") || bytes_eq first (codes "untold")
+    then bad_among search (kind.First ∷ []) kind.Nothing words else
     if bytes_eq first (codes "say") then bad_among search (kind.First ∷ kind.Number ∷ []) kind.Pair words else
     if bytes_eq first (codes "apply") then bad_among search (kind.First ∷ kind.Number ∷ kind.But ∷ []) kind.Key words else
-    if bytes_eq first (codes "applyfail") then bad_among search (kind.First ∷ kind.Number ∷ kind.Number ∷ kind.But ∷ []) kind.Key words else
+    if bytes_eq first (codes "applyfail")
+    then bad_among search (kind.First ∷ kind.Number ∷ kind.Number ∷ kind.But ∷ []) kind.Key words else
     if bytes_eq first (codes "readfail") || bytes_eq first (codes "applylie") then
     bad_among search (kind.First ∷ kind.Number ∷ kind.Number ∷ []) kind.Nothing words else
     if bytes_eq first (codes "process") then bad_among search (kind.First ∷ kind.Number ∷ []) kind.Entry words else
@@ -230,7 +239,8 @@ hint_of other words = []
 -- of a fault that is about a word
 unfoldable pub word_text : Fault → ℕ → List ℕ → List ℕ
 word_text fault at line =
-    codes ", column " ++ decimal (start_of at line + 1) ++ codes ": " ++ what_text fault at (words_of line) ++ quoted (drop at (words_of line))
+    codes ", column " ++ decimal (start_of at line + 1) ++ codes ": " ++ what_text fault at (words_of line)
+    ++ quoted (drop at (words_of line))
     ++ hint_of fault (words_of line)
 
 -- of the bytes from the first on that may not be in a line

@@ -37,8 +37,8 @@
 --     begun_text                             what is printed of the beginning of a call: nothing, unless it is refused whole
 --     left_text                              a call that is given up
 --     foreign_line                           a write or a delete of somebody else
---     invalidate_line, invalidated_text      that a key is invalidated, with what follows the key; an invalidation, with the eviction of
---                                            the entry, or that the key is marked
+--     invalidate_line, invalidated_text      that a key is invalidated, with what follows the key; an invalidation, with the
+--                                            eviction of the entry, or that the key is marked
 --     key_text, keys_line                    a key after a space; a word, and after it keys
 --     reopened_text                          that the cache was opened again, with the keys that were dropped
 --     told                                   what is printed of an event, from its outcome
@@ -50,10 +50,13 @@
 --     legal_name, history_line               whether the history is legal; the same after the number of its events
 --     audit_text                             what is printed of an audit
 --     fault_line                             the line that ends a transcript
-use Rattle.std.specs.Prelude.{◌==◌, ℕ, ◌-◌, List, [], ◌∷◌, ◌++◌, length, codes, decimal, Bool, true, false, Option, None, Some, if◌then◌else◌}
+use Rattle.std.specs.Prelude.{◌==◌, ℕ, ◌-◌, List, [], ◌∷◌, ◌++◌, length, codes, decimal, Bool, true, false, Option, None, Some}
+use Rattle.std.specs.Prelude.{if◌then◌else◌}
 use Rattle.std.specs.List.{flat_map}
 use Rattle.jc_types.specs.declared.refusal.Refusal.{Refusal}
-use Rattle.jc_types.specs.declared.refusal.Refusal.TheVariants.{HistoryFull, Busy, TooManyInFlight, TooManyJoiners, LoaderFailed, WriterFailed, ProcessorFailed, OutOfMemory, TooManyKeys, BadConfig, NoLoader, NoWriter, TooManySessions, StillReserved, RepeatedKey}
+use Rattle.jc_types.specs.declared.refusal.Refusal.TheVariants.{HistoryFull, Busy, TooManyInFlight, TooManyJoiners, LoaderFailed}
+use Rattle.jc_types.specs.declared.refusal.Refusal.TheVariants.{WriterFailed, ProcessorFailed, OutOfMemory, TooManyKeys, BadConfig}
+use Rattle.jc_types.specs.declared.refusal.Refusal.TheVariants.{NoLoader, NoWriter, TooManySessions, StillReserved, RepeatedKey}
 use Rattle.jc_types.specs.Refusals.{refusal_name}
 use Rattle.jc_model.specs.Cache.{Bytes}
 use Rattle.jc_model.specs.declared.event.Cause.{Cause}
@@ -184,7 +187,8 @@ stepped_text call key seen =
 
 -- the answer of a load that the call had joined, with the place of the step that loaded
 unfoldable pub picked_line : ℕ → Bytes → JoinAnswer → List ℕ
-picked_line call key seen = outcome_text call key seen.reply seen.stripe seen.place ++ codes " shared " ++ decimal seen.shared ++ codes "\n"
+picked_line call key seen =
+    outcome_text call key seen.reply seen.stripe seen.place ++ codes " shared " ++ decimal seen.shared ++ codes "\n"
 
 abbrev pub loads_line : ℕ → Bytes → List ℕ
 loads_line call key = subject call key ++ codes " load\n"
@@ -294,7 +298,8 @@ due_text call key (Some change) = asks_text call key change
 
 unfoldable pub processed_text : ℕ → Bytes → List ℕ → ShownRun → List ℕ
 processed_text call key verb seen =
-    answers_text call (answer_text call key verb seen.load) seen.answers ++ fails_text call seen.fault ++ due_text call key seen.change
+    answers_text call (answer_text call key verb seen.load) seen.answers ++ fails_text call seen.fault
+    ++ due_text call key seen.change
 
 abbrev pub shown_text : ℕ → Bytes → Outcome → List ℕ
 shown_text call key outcome.Begun = []

@@ -12,7 +12,8 @@
 --     is_entry_word, reads_entry_word      a word is one of all these; its code or its value can be read
 --     calls_of                  the calls of these words, and the code
 --     source_words, call_text, fail_words     how these are spelled
-use Rattle.std.specs.Prelude.{ℕ, List, [], ◌∷◌, ◌++◌, take, drop, length, codes, decimal, Option, Some, None, Bool, true, false, not, ◌&&◌, ◌||◌, is_ok, Result, Ok, if◌then◌else◌}
+use Rattle.std.specs.Prelude.{ℕ, List, [], ◌∷◌, ◌++◌, take, drop, length, codes, decimal, Option, Some, None, Bool, true, false}
+use Rattle.std.specs.Prelude.{not, ◌&&◌, ◌||◌, is_ok, Result, Ok, if◌then◌else◌}
 use Rattle.std.specs.Str.{bytes_eq}
 use Rattle.jc_model.specs.Cache.{Bytes}
 use Rattle.jc_model.specs.declared.processor.EntryCall.{EntryCall}
@@ -35,7 +36,9 @@ abbrev pub is_load_word : List ℕ → Bool
 is_load_word word = begins_with (codes "loadfail=") word || begins_with (codes "loadsay=") word
 
 abbrev pub is_call_word : List ℕ → Bool
-is_call_word word = bytes_eq word (codes "get") || bytes_eq word (codes "exists") || bytes_eq word (codes "remove") || begins_with (codes "set=") word
+is_call_word word =
+    bytes_eq word (codes "get") || bytes_eq word (codes "exists") || bytes_eq word (codes "remove")
+    || begins_with (codes "set=") word
 
 abbrev pub is_fail : List ℕ → Bool
 is_fail word = begins_with (codes "fail=") word

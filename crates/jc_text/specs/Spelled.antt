@@ -15,7 +15,8 @@
 --     shape_words                the shape of a world: its numbers, and what is on
 --     line_words                 the words of what a line asks for
 --     spelling                   the line itself: its words, separated by single spaces
---     IsSource, IsEntryCall, IsOptionalCode     how a processor's loader answers; a call of a processor, and its value; a code, or none
+--     IsSource, IsEntryCall, IsOptionalCode     how a processor's loader answers; a call of a processor, and its value; a code, or
+--                                               none
 --     AreValues                  the values of an operation
 --     IsOperation, IsAct         an operation that has a name, and its values; an act, and its code or its pairs
 --     AreKeyWords                    at least this number of keys, and none twice
@@ -27,7 +28,8 @@
 --     IsSpellable                that, and the line isn't too long
 --     LinesReadBack              what a script can say is read from its spelling
 --     LinesAreSpelled            what is read from a line is something that a script can say, and the line is its spelling
-use Rattle.std.specs.Prelude.{◌≡◌, ◌==◌, ◌⊎◌, ◌≤◌, ℕ, List, [], ◌∷◌, ◌++◌, map, length, codes, Bool, true, false, Option, None, Some, Ok, decimal}
+use Rattle.std.specs.Prelude.{◌≡◌, ◌==◌, ◌⊎◌, ◌≤◌, ℕ, List, [], ◌∷◌, ◌++◌, map, length, codes, Bool, true, false, Option, None}
+use Rattle.std.specs.Prelude.{Some, Ok, decimal}
 use Rattle.std.specs.List.{All, IsDistinct, join_with_byte}
 use Rattle.std.specs.Cmp.Lexicographic.{pointwise}
 use Rattle.jc_types.specs.declared.config.Config.{Config}
@@ -37,11 +39,13 @@ use Rattle.jc_model.specs.Cache.{Bytes}
 use Rattle.jc_model.specs.declared.event.Op.{Op}
 use Rattle.jc_model.specs.Table.{op_values}
 use Rattle.jc_text.specs.declared.read.line.Line.{Line}
-use Rattle.jc_text.specs.declared.read.line.Line.TheVariants.{Open, Set, Begin, BeginBulk, OfCall, Foreign, Invalidate, Reopen, Audit, Untold}
+use Rattle.jc_text.specs.declared.read.line.Line.TheVariants.{Open, Set, Begin, BeginBulk, OfCall, Foreign, Invalidate, Reopen}
+use Rattle.jc_text.specs.declared.read.line.Line.TheVariants.{Audit, Untold}
 use Rattle.jc_text.specs.declared.read.line.BulkLine.{BulkLine}
 use Rattle.jc_text.specs.declared.read.line.BulkLine.TheVariants as bulk
 use Rattle.jc_text.specs.declared.read.line.ScriptAct.{ScriptAct}
-use Rattle.jc_text.specs.declared.read.line.ScriptAct.TheVariants.{Read, ReadFail, Say, Apply, ApplyFail, ApplyLie, End, Drop, More, Take, Process}
+use Rattle.jc_text.specs.declared.read.line.ScriptAct.TheVariants.{Read, ReadFail, Say, Apply, ApplyFail, ApplyLie, End, Drop, More}
+use Rattle.jc_text.specs.declared.read.line.ScriptAct.TheVariants.{Take, Process}
 use Rattle.jc_model.specs.declared.processor.EntryCall.{EntryCall}
 use Rattle.jc_model.specs.declared.processor.EntryCall.TheVariants as entry
 use Rattle.jc_world.specs.declared.process.LoadSource.{LoadSource}
@@ -132,7 +136,8 @@ act_words call End = codes "end" ∷ decimal call ∷ []
 act_words call Drop = codes "drop" ∷ decimal call ∷ []
 act_words call More = codes "more" ∷ decimal call ∷ []
 act_words call Take = codes "take" ∷ decimal call ∷ []
-act_words call (Process source calls fail) = codes "process" ∷ decimal call ∷ (source_words source ++ (map call_text calls ++ fail_words fail))
+act_words call (Process source calls fail) =
+    codes "process" ∷ decimal call ∷ (source_words source ++ (map call_text calls ++ fail_words fail))
 
 abbrev pub shape_words : Config → List Bytes
 shape_words config =
@@ -141,7 +146,8 @@ shape_words config =
 abbrev pub line_words : Line → List Bytes
 line_words (Open config) = codes "open" ∷ shape_words config
 line_words (Set key value) = codes "set" ∷ key ∷ value_text value ∷ []
-line_words (Begin call session command) = codes "begin" ∷ decimal call ∷ session_text session ∷ operation_words command.op command.key
+line_words (Begin call session command) =
+    codes "begin" ∷ decimal call ∷ session_text session ∷ operation_words command.op command.key
 line_words (BeginBulk call session many) = codes "begin" ∷ decimal call ∷ session_text session ∷ bulk_words many
 line_words (OfCall call act) = act_words call act
 line_words (Foreign key value) = codes "foreign" ∷ key ∷ value_or_none_text value ∷ []

@@ -28,7 +28,8 @@
 --                              the keys so far with those of more words, and the keys of some words
 --     said_after, said         what pairs say of a key, after an answer so far, and from the beginning: the last pair with it
 --                              counts
-use Rattle.std.specs.Prelude.{◌==◌, ℕ, ◌+◌, ◌-◌, ◌*◌, List, [], ◌∷◌, ◌++◌, length, map, take, drop, Option, Some, None, Bool, true, ◌&&◌, ◌||◌, nat_lt, nat_le, Result, Ok, Err, if◌then◌else◌, codes}
+use Rattle.std.specs.Prelude.{◌==◌, ℕ, ◌+◌, ◌-◌, ◌*◌, List, [], ◌∷◌, ◌++◌, length, map, take, drop, Option, Some, None, Bool, true}
+use Rattle.std.specs.Prelude.{◌&&◌, ◌||◌, nat_lt, nat_le, Result, Ok, Err, if◌then◌else◌, codes}
 use Rattle.std.specs.Str.{bytes_eq}
 use Rattle.std.specs.List.{list_all}
 use Rattle.std.specs.List.{slice_split, position}
@@ -60,7 +61,8 @@ is_letter b = (nat_le 65 b && nat_le b 90) || (nat_le 97 b && nat_le b 122) || i
 -- a number that continues with these digits
 abbrev pub digits_from : ℕ → List ℕ → Result ℕ Fault
 digits_from n [] = Ok n
-digits_from n (b ∷ bs) = if is_digit b && nat_le (n * 10 + (b - 48)) NUMBER_MAX then digits_from (n * 10 + (b - 48)) bs else Err BadNumber
+digits_from n (b ∷ bs) =
+    if is_digit b && nat_le (n * 10 + (b - 48)) NUMBER_MAX then digits_from (n * 10 + (b - 48)) bs else Err BadNumber
 
 -- no leading zero but 0 itself
 abbrev pub number_of : List ℕ → Result ℕ Fault

@@ -1,4 +1,5 @@
--- Bytes that are kept inline: a buffer of fixed size, of which the first `len` bytes count and the rest is 0.
+-- Bytes that are kept inline: a buffer of fixed size, of which the first `len` bytes count and the rest is 0. No contract of a
+-- public function cites this.
 --     padded            the bytes, and then zeros up to a size
 --     IsInline          of a buffer at least `least` and at most `size` bytes count, and the others are 0
 --     length-inline     as many bytes count as `len` says
@@ -24,4 +25,5 @@ length-inline least size buf len h = length-take-le len buf (omega arith)
 
 -- the bytes that count, padded, are the buffer
 pub padded-inline : (least size : ℕ) (buf : List ℕ) (len : ℕ) → IsInline least size buf len → padded size (take len buf) ≡ buf
-padded-inline least size buf len h = ap (λ n. take len buf ++ replicate (size - n) 0) (length-inline least size buf len h) ∙ sym h.zeros
+padded-inline least size buf len h =
+    ap (λ n. take len buf ++ replicate (size - n) 0) (length-inline least size buf len h) ∙ sym h.zeros

@@ -1,4 +1,4 @@
--- The fields of a key, found again from its bytes.
+-- The fields of a key, found again from its bytes. No contract of a public function cites this.
 --     again         the fields of the key of these bytes
 --     key_again     the bytes that count give a key's fields back
 use Rattle.std.specs.Prelude.{◌≡◌, List, ℕ, length, take}

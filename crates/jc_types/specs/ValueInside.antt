@@ -1,4 +1,4 @@
--- The fields of a value, found again from its bytes.
+-- The fields of a value, found again from its bytes. No contract of a public function cites this.
 --     again           the fields of the value of these bytes
 --     value_again     the bytes that count give a value's fields back
 use Rattle.std.specs.Prelude.{◌≡◌, List, ℕ, length, take}

@@ -4,7 +4,7 @@ ghost use Rattle.jc_model.specs.Cache.{Bytes};
 ghost use Rattle.jc_world.specs.declared.event.WorldEvent.TheVariants as event;
 ghost use Rattle.jc_world.specs.World.{open_call};
 ghost use Rattle.jc_world.specs.Fits.{fits, is_free, is_playable};
-ghost use Rattle.jc_world.specs.Events.{AllFit};
+ghost use Rattle.jc_world.specs.Runs.{AllFit};
 ghost use Rattle.jc_world.specs.Together.{looks, opening_events};
 ghost use Rattle.jc_text.specs.declared.read.line.Line.TheVariants as lines;
 ghost use Rattle.jc_script.specs.Faults.{begin_fault};
