@@ -1,4 +1,4 @@
--- The search for an order of turns that explains a record: which turns it has covered.
+-- The search for an order of turns that explains a record: which turns it has covered. No contract of a public function cites this.
 --     IsSurvey          what is known of the calls of a record as a whole is right
 --     Covers            a turn leads to a node that a known one covers, or can't be made
 --     CoversActs        the same of all that a call may do, but for a landing
@@ -28,7 +28,8 @@ pub record IsSurvey (calls : List Recorded) (survey : Survey) : Type 0 where
   pub landable : (call : ℕ) → landable_at calls call ≡ true → HasLanded survey.landable.items call
 
 abbrev pub Covers : Rules → List Recorded → States → NodeValue → Turn → Type 0
-Covers rules calls states n t = (spot : Spot) → MayGo rules calls n t spot → LeadsInside rules calls (node_values states.list.items) n t
+Covers rules calls states n t =
+    (spot : Spot) → MayGo rules calls n t spot → LeadsInside rules calls (node_values states.list.items) n t
 
 abbrev pub CoversActs : Rules → List Recorded → States → NodeValue → ℕ → Type 0
 CoversActs rules calls states n call = (act : Act) → (act ≡ Land → ⊥) → Covers rules calls states n (Call call act)
@@ -40,10 +41,12 @@ abbrev pub CoversAll : Rules → List Recorded → States → NodeValue → Type
 CoversAll rules calls states n = (t : Turn) → Covers rules calls states n t
 
 abbrev pub AreDone : Rules → List Recorded → States → ℕ → Type 0
-AreDone rules calls states end = (place : ℕ) (n : NodeValue) → place < end → IsAt states place n → IsClosedAt rules calls (node_values states.list.items) n
+AreDone rules calls states end =
+    (place : ℕ) (n : NodeValue) → place < end → IsAt states place n → IsClosedAt rules calls (node_values states.list.items) n
 
 abbrev pub EndsRight : Rules → List Recorded → ℕ → States → Ending → Type 0
 EndsRight rules calls budget states (Whole place) = (n : NodeValue) × IsAt states place n × IsWhole calls n
 EndsRight rules calls budget states Closed =
-    All (IsClosedAt rules calls (node_values states.list.items)) (node_values states.list.items) × (length states.list.items ≤ budget)
+    All (IsClosedAt rules calls (node_values states.list.items)) (node_values states.list.items)
+    × (length states.list.items ≤ budget)
 EndsRight rules calls budget states Spent = budget < length states.list.items

@@ -1,12 +1,13 @@
 -- Laws about verdicts and records.
 --     ClosedNodesRefute    no order explains a record of which some nodes are closed
---     ClosedNodesForesee   what is there when it is the turn of a call that has to be placed is among these, if what is at each closed node is
---                          at which it is its turn
+--     ClosedNodesForesee   what is there when it is the turn of a call that has to be placed is among these, if what is at each
+--                          closed node is at which it is its turn
 --     WholeNodesExplain    turns that lead from the opening to a whole node explain a record
 --     LegalIsExplained     a record of a legal history at a key is explained by the rules that judge the cache alone, whatever the
 --                          store has at first
 --     WholeIsExplained     the same of a legal history over all stripes
---     LegalIsRecorded      a legal history has a record at each key, if no processor whose load failed has an effect; `some` is any call
+--     LegalIsRecorded      a legal history has a record at each key, if no processor whose load failed has an effect; `some` is any
+--                          call
 use Rattle.std.specs.Prelude.{◌≡◌, ℕ, List, true, IsTrue}
 use Rattle.std.specs.FinMap.{from_entries}
 use Rattle.std.specs.List.{list_all}
@@ -33,7 +34,8 @@ abbrev pub ClosedNodesForesee : Type 0
 ClosedNodesForesee =
     (rules : Rules) (calls : List Recorded) (opening : Spot) (nodes : List NodeValue) (call : ℕ) (spots : List Spot)
     → IsClosed rules calls opening nodes → must_at calls call ≡ true
-    → ((n : NodeValue) → IsAmong nodes n → IsReady rules calls n call → IsForeseen rules calls call spots n.spot) → CouldBe rules calls opening call spots
+    → ((n : NodeValue) → IsAmong nodes n → IsReady rules calls n call → IsForeseen rules calls call spots n.spot)
+    → CouldBe rules calls opening call spots
 
 abbrev pub WholeNodesExplain : Type 0
 WholeNodesExplain =
@@ -42,14 +44,17 @@ WholeNodesExplain =
 
 abbrev pub LegalIsExplained : Type 0
 LegalIsExplained =
-    (config : Config) (opening : List (Bytes × Bytes)) (events : List Event) (key : Bytes) (rules : Rules) (calls : List Recorded) (spot : Spot)
+    (config : Config) (opening : List (Bytes × Bytes)) (events : List Event) (key : Bytes) (rules : Rules)
+    (calls : List Recorded) (spot : Spot)
     → Legal config opening events → AreTableRules config rules → spot.entry ≡ entry_at (from_entries opening) key
     → IsRecordOf config key (entry_at (from_entries opening) key) events calls → IsExplained rules calls spot
 
 abbrev pub WholeIsExplained : Type 0
 WholeIsExplained =
-    (config : Config) (opening : ℕ → Cache) (events : List Event) (next : ℕ → Cache) (key : Bytes) (rules : Rules) (calls : List Recorded) (spot : Spot)
-    → IsWholeHistory config opening events next → AreTableRules config rules → spot.entry ≡ entry_at (opening (stripe_of key config.stripes)) key
+    (config : Config) (opening : ℕ → Cache) (events : List Event) (next : ℕ → Cache) (key : Bytes) (rules : Rules)
+    (calls : List Recorded) (spot : Spot)
+    → IsWholeHistory config opening events next → AreTableRules config rules
+    → spot.entry ≡ entry_at (opening (stripe_of key config.stripes)) key
     → IsRecordOf config key (entry_at (opening (stripe_of key config.stripes)) key) events calls → IsExplained rules calls spot
 
 abbrev pub LegalIsRecorded : Type 0

@@ -1,7 +1,7 @@
 -- Nodes: what the turns so far have done, as far as it counts for those to come. They serve the search alone: `Explains` doesn't
 -- speak of them. A call is settled in a node if it is placed there or can't be placed any more.
---     NodeValue          the calls that are settled: those below `from`, and those that `rest` marks from there to `end`; those whose
---                        writes may land and have changed the store; and what is at the key
+--     NodeValue          the calls that are settled: those below `from`, and those that `rest` marks from there to `end`; those
+--                        whose writes may land and have changed the store; and what is at the key
 --     node_value         the value of a node
 --     IsMarked           a call is among those that are marked
 --     NotesNext          it was noted whether the next call is marked
@@ -9,7 +9,8 @@
 --     HasLanded          a call is among those whose write has changed the store
 --     IsNot              something doesn't hold of a call, if there is one
 --     is_must, must_at   a call, if it is there, has to be placed
---     is_landable, landable_at    the same of: its write may change the store though the call makes no step, or answered that it failed
+--     is_landable, landable_at    the same of: its write may change the store though the call makes no step, or answered that it
+--                                 failed
 --     kept               something, under a condition
 --     landed_call        the call whose write may land and changes the store in a turn, if one does
 --     landed_with        calls whose writes have changed the store, with one more
@@ -25,13 +26,14 @@
 --     IsWhole            each call that has to be placed is settled
 --     IsAmong            a node is one of these
 --     IsNoMore           a call is settled in a node only if it is in another one, and then, too, if it has to be placed
---     IsCovering         what may follow another node may follow a node, too: the other one differs at most in calls that it has settled
---                        and that need not be placed, and in writes that have changed the store
+--     IsCovering         what may follow another node may follow a node, too: the other one differs at most in calls that it has
+--                        settled and that need not be placed, and in writes that have changed the store
 --     IsCovered          one of these nodes covers a node
 --     LeadsInside        a turn leads to a node that one of these nodes covers
 --     IsClosedAt         each turn from a node leads to a node that one of these covers; and the node isn't whole
 --     IsClosed           the opening is one of these nodes, and each of them is closed
-use Rattle.std.specs.Prelude.{◌≡◌, ◌<◌, ◌⊎◌, ◌↔◌, ℕ, ◌+◌, ◌-◌, List, [], ◌∷◌, ◌++◌, Bool, true, false, Option, None, Some, get_or, slice_get}
+use Rattle.std.specs.Prelude.{◌≡◌, ◌<◌, ◌⊎◌, ◌↔◌, ℕ, ◌+◌, ◌-◌, List, [], ◌∷◌, ◌++◌, Bool, true, false, Option, None, Some, get_or}
+use Rattle.std.specs.Prelude.{slice_get}
 use Rattle.std.specs.List.{All, Any}
 use Rattle.jc_check.specs.declared.node.Marks.{Marks}
 use Rattle.jc_check.specs.declared.node.Node.{Node}
@@ -105,7 +107,8 @@ IsFresh calls n t = IsNot (IsSettled n) (placed_call t) × IsNot (HasLanded n.la
 
 abbrev pub Keeps : Rules → List Recorded → NodeValue → Turn → Type 0
 Keeps rules calls n t =
-    (call : ℕ) → must_at calls call ≡ true → NumbersPrecede rules calls (Some call) (call_of t) → IsSettled n call ⊎ (placed_call t ≡ Some call)
+    (call : ℕ) → must_at calls call ≡ true → NumbersPrecede rules calls (Some call) (call_of t)
+    → IsSettled n call ⊎ (placed_call t ≡ Some call)
 
 pub record IsLost (rules : Rules) (calls : List Recorded) (n : NodeValue) (t : Turn) (call : ℕ) : Type 0 where
   pub must : must_at calls call ≡ true

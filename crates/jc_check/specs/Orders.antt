@@ -1,4 +1,4 @@
--- The order in which the calls of a record stand.
+-- The order in which the calls of a record stand. No contract of a public function cites this.
 --     AreOrdered    the calls stand in the order of their beginnings, and none ended before it began
 --     IsEnd         from this number on no call has to come before what acts in a turn
 --     DoEndBefore   one call, if it is there, had ended before another one began

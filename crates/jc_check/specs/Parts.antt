@@ -11,8 +11,8 @@
 --     IsLeft           no turns explain the record of which these calls are kept
 --     without          what is kept, without one more call
 --     IsKept           a call is kept
---     IsNeed           what is said of one call of a part is right: it is forgotten; or it is kept, and without it some turns explain
---                      the record, or more nodes than the limit can be met
+--     IsNeed           what is said of one call of a part is right: it is forgotten; or it is kept, and without it some turns
+--                      explain the record, or more nodes than the limit can be met
 --     AreNeeds         the same of some calls, the first of which has this number
 --     IsRoundEnd       what a round over the calls of a part says is right
 --     IsSettledPart    what is kept and what is said of each call is right
@@ -108,7 +108,8 @@ IsRoundEnd rules calls opening limit kept (round.All needs) =
 IsRoundEnd rules calls opening limit kept (round.Fewer fewer) =
     (length fewer.items ≡ length kept) × IsLeft rules calls opening fewer.items
 
-pub record IsSettledPart (rules : Rules) (calls : List Recorded) (opening : Spot) (limit count : ℕ) (kept : List Bool) (needs : List Need) : Type 0 where
+pub record IsSettledPart (rules : Rules) (calls : List Recorded) (opening : Spot) (limit count : ℕ) (kept : List Bool)
+    (needs : List Need) : Type 0 where
   pub left : IsLeft rules calls opening kept
   pub marks : length kept ≡ count
   pub each : length needs ≡ count

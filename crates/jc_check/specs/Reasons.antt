@@ -1,6 +1,7 @@
 -- What could be at the key when it was a call's turn.
---     LeadsUpTo     turns lead up to a call: they can be played from what was there at first, place each call that has to come before it,
---                   not it itself, and each call that has to be placed and isn't can still come after them; in what is there then
+--     LeadsUpTo     turns lead up to a call: they can be played from what was there at first, place each call that has to come
+--                   before it, not it itself, and each call that has to be placed and isn't can still come after them; in what is
+--                   there then
 --     CanFollow     a call can come after turns: it need not come before what acts in any of them
 --     seen_load, seen_spot
 --                   what is at a key, but for a loaded value that may be shared: the entry has that
@@ -8,8 +9,8 @@
 --     FitsAt        a call's answers fit what is at the key: by a step of its own, or by the load that was just made
 --     IsForeseen    what is at the key is among these, or a call's answers fit it
 --     CouldBe       whatever turns lead up to a call, what is there then is among these, or the call's answers fit it
---     IsReason      what is said of why no order explains a record is right: the call has to be placed, and where its answers don't fit,
---                   this could be at the key
+--     IsReason      what is said of why no order explains a record is right: the call has to be placed, and where its answers don't
+--                   fit, this could be at the key
 --     IsReady       at a node it is a call's turn: it isn't settled, and each call is that has to be placed and come before it
 use Rattle.std.specs.Prelude.{◌≡◌, ◌⊎◌, ℕ, List, true, Option, None, Some, slice_get}
 use Rattle.std.specs.List.{All, Any}
@@ -29,13 +30,16 @@ use Rattle.jc_check.specs.Spot.{FitsShare, FitsStep}
 abbrev pub CanFollow : Rules → List Recorded → List Turn → ℕ → Type 0
 CanFollow rules calls turns call = All (λ t. NumbersPrecede rules calls (Some call) (call_of t) → ⊥) turns
 
-pub record LeadsUpTo (rules : Rules) (calls : List Recorded) (opening : Spot) (turns : List Turn) (call : ℕ) (last : Spot) : Type 0 where
+pub record LeadsUpTo (rules : Rules) (calls : List Recorded) (opening : Spot) (turns : List Turn) (call : ℕ)
+    (last : Spot) : Type 0 where
   pub plays : PlaysTurns rules calls opening turns last
   pub once : AreOnce calls turns
   pub order : AreInOrder rules calls turns
-  pub before : (i : ℕ) (c : Recorded) → slice_get calls i ≡ Some c → must_be_placed c ≡ true → NumbersPrecede rules calls (Some i) (Some call)
+  pub before : (i : ℕ) (c : Recorded) → slice_get calls i ≡ Some c → must_be_placed c ≡ true
+      → NumbersPrecede rules calls (Some i) (Some call)
       → IsPlaced turns i
-  pub others : (i : ℕ) (c : Recorded) → slice_get calls i ≡ Some c → must_be_placed c ≡ true → IsPlaced turns i ⊎ CanFollow rules calls turns i
+  pub others : (i : ℕ) (c : Recorded) → slice_get calls i ≡ Some c → must_be_placed c ≡ true
+      → IsPlaced turns i ⊎ CanFollow rules calls turns i
   pub apart : IsPlaced turns call → ⊥
 
 abbrev pub seen_load : LoadAnswer → LoadAnswer

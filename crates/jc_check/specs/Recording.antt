@@ -7,23 +7,24 @@
 --     entry_before         the entry at a key before the event at a place, from what the key had at first
 --     change_of_entry      the change of the store that goes with an entry
 --     asked_change         what the writer was asked for, if it answered: to store what the operation leaves if it mutates
---     IsRun                a processor's calls on its entry, the answers to them, and what its step has of its loader and of itself,
---                          are one run of a processor
+--     IsRun                a processor's calls on its entry, the answers to them, and what its step has of its loader and of
+--                          itself, are one run of a processor
 --     HasRun               the same of an operation that runs a processor; another one has none
---     IsCallOf             a recorded call is that of a step that found this entry: the session is the thread, the recorder's clock tells
---                          when the call with its number began, and it has the step's reply, or none if it hasn't ended. When it ended
---                          doesn't matter
+--     IsCallOf             a recorded call is that of a step that found this entry: the session is the thread, the recorder's clock
+--                          tells when the call with its number began, and it has the step's reply, or none if it hasn't ended. When
+--                          it ended doesn't matter
 --     removal_out          the outside answers of a removal, as those of a processor that removes its entry
---     IsRemovalOf          a recorded call is that of a removal, as a processor that removes its entry: so a record has the keys of a
---                          `removeAll`, since that doesn't answer which of them were there
+--     IsRemovalOf          a recorded call is that of a removal, as a processor that removes its entry: so a record has the keys of
+--                          a `removeAll`, since that doesn't answer which of them were there
 --     TellsEvent           a recorded call is that of the step that an event is: who shares a load has asked nobody itself
 --     Tells                the same of an event and a recorded call, if both are there
---     IsRecordOf           a record has the calls of a history at one key: each step at the key has a call of its own, each call that
---                          has ended is that of a step, and the recorder's clock doesn't run backwards while a session makes its calls.
---                          In which order the calls are listed doesn't matter, and the record says nothing of evictions
+--     IsRecordOf           a record has the calls of a history at one key: each step at the key has a call of its own, each call
+--                          that has ended is that of a step, and the recorder's clock doesn't run backwards while a session makes
+--                          its calls. In which order the calls are listed doesn't matter, and the record says nothing of evictions
 --     keeps_entry          a processor has no effect on its entry
 --     heeds_failed_load    if the load of a step failed, its processor has no effect, if it ran one
-use Rattle.std.specs.Prelude.{◌≡◌, ◌==◌, ◌≤◌, ◌⊎◌, ℕ, List, map, take, Bool, true, false, ◌||◌, Option, None, Some, is_none, option_map, Result, slice_get, if◌then◌else◌}
+use Rattle.std.specs.Prelude.{◌≡◌, ◌==◌, ◌≤◌, ◌⊎◌, ℕ, List, map, take, Bool, true, false, ◌||◌, Option, None, Some, is_none}
+use Rattle.std.specs.Prelude.{option_map, Result, slice_get, if◌then◌else◌}
 use Rattle.std.specs.Cmp.Lexicographic.{pointwise}
 use Rattle.std.specs.List.{fold}
 use Rattle.jc_types.specs.declared.caller.Caller.{Caller}
@@ -135,7 +136,8 @@ Tells clock read_through entry (Some event) (Some c) = TellsEvent clock read_thr
 
 -- 4. The record. `entry` is what the key has at first.
 
-pub record IsRecordOf (config : Config) (key : Bytes) (entry : Option Bytes) (events : List Event) (calls : List Recorded) : Type 0 where
+pub record IsRecordOf (config : Config) (key : Bytes) (entry : Option Bytes) (events : List Event)
+    (calls : List Recorded) : Type 0 where
   pub clock : ℕ → ℕ → ℕ  -- the time at which a session's call with a number begins
   pub forward : (session m n : ℕ) → m ≤ n → clock session m ≤ clock session n
   pub call : ℕ → ℕ  -- which call has the step at a place
@@ -143,7 +145,8 @@ pub record IsRecordOf (config : Config) (key : Bytes) (entry : Option Bytes) (ev
   pub tells : (p : ℕ) → IsStepAt key (slice_get events p)
       → Tells clock config.read_through (entry_before key entry events p) (slice_get events p) (slice_get calls (call p))
   pub own : (p : ℕ) → IsStepAt key (slice_get events p) → place (call p) ≡ p
-  pub steps : (i : ℕ) (c : Recorded) → slice_get calls i ≡ Some c → must_be_placed c ≡ true → IsStepAt key (slice_get events (place i))
+  pub steps : (i : ℕ) (c : Recorded) → slice_get calls i ≡ Some c → must_be_placed c ≡ true
+      → IsStepAt key (slice_get events (place i))
   pub inside : (i : ℕ) (c : Recorded) → slice_get calls i ≡ Some c → must_be_placed c ≡ true → call (place i) ≡ i
 
 -- 5. After a failed load.

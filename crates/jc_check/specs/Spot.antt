@@ -18,7 +18,8 @@
 --     spot_after       what a step leaves at a key
 --     shared_reply     the answer of a call that shares a load
 --     FitsShare        a call may share the load that was just made: it asked nobody itself, and answered as that load
-use Rattle.std.specs.Prelude.{◌≡◌, ◌<◌, ℕ, List, map, take, length, get_or, Bool, true, false, ◌&&◌, IsTrue, Option, None, Some, is_none, if◌then◌else◌}
+use Rattle.std.specs.Prelude.{◌≡◌, ◌<◌, ℕ, List, map, take, length, get_or, Bool, true, false, ◌&&◌, IsTrue, Option, None, Some}
+use Rattle.std.specs.Prelude.{is_none, if◌then◌else◌}
 use Rattle.jc_model.specs.declared.event.Change.{Change}
 use Rattle.jc_model.specs.declared.event.Change.TheVariants.{Write, Delete}
 use Rattle.jc_model.specs.declared.event.Effect.{Effect}

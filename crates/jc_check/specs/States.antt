@@ -23,7 +23,8 @@
 --     Comes               a turn leads to a node from one that is there
 --     IsMet               the node at a place, unless it is the first one, comes from one before it
 --     AreKnown            each node but the first comes from one before it, no two are the same, and their fingerprints are noted
-use Rattle.std.specs.Prelude.{◌≡◌, ◌<◌, ℕ, ◌*◌, ◌%◌, ◌^◌, ◌++◌, List, [], Bool, true, false, bit_xor, length, map, nat_eq, Option, None, Some, IsSome, slice_get}
+use Rattle.std.specs.Prelude.{◌≡◌, ◌<◌, ℕ, ◌*◌, ◌%◌, ◌^◌, ◌++◌, List, [], Bool, true, false, bit_xor, length, map, nat_eq, Option}
+use Rattle.std.specs.Prelude.{None, Some, IsSome, slice_get}
 use Rattle.std.specs.HashMap.{get}
 use Rattle.std.specs.List.{All, AllPairs, fold}
 use Rattle.jc_model.specs.declared.event.LoadAnswer.{LoadAnswer}

@@ -1,9 +1,9 @@
 -- The verdict on the recorded calls at one key: explained, not explained, or given up.
 --     IsRefuted    no turns explain the record, and these nodes, at most as many as the budget, are closed
---     HasMet       more nodes than the budget were met: the opening, and nodes to each of which a turn leads from one before it; no two
---                  are the same
---     IsVerdict    a verdict is right: the turns explain the record; or no turns do, since these nodes are closed; or more nodes than
---                  the budget were met
+--     HasMet       more nodes than the budget were met: the opening, and nodes to each of which a turn leads from one before it; no
+--                  two are the same
+--     IsVerdict    a verdict is right: the turns explain the record; or no turns do, since these nodes are closed; or more nodes
+--                  than the budget were met
 use Rattle.std.specs.Prelude.{◌≤◌, ◌<◌, ℕ, List, length}
 use Rattle.jc_check.specs.declared.record.Recorded.{Recorded}
 use Rattle.jc_check.specs.declared.record.Rules.{Rules}

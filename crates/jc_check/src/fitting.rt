@@ -7,15 +7,9 @@ ghost use Rattle.jc_check.specs.Spot.{spot_after, store_after, store_told, store
 
 use crate::record::{Recorded, Rules, Spot, Stored};
 use crate::sights::do_sights_fit;
+use jc_model::same::is_same_reply;
 use jc_model::{Change, LentChange, LoadAnswer, Op, Out, ProcessAnswer, Reply, WriteAnswer};
 use jc_types::Value;
-
-/// Whether two replies are the same.
-fn is_same_reply(first: &Reply, second: &Reply) -> bool
-    ensures { IsTrue result ↔ (first.now ≡ second.now) }
-{
-    *first == *second
-}
 
 /// Whether nobody was asked outside.
 fn is_nothing_said(out: &Out) -> bool

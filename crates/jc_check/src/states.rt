@@ -10,6 +10,7 @@ use crate::node::Node;
 use crate::places::Places;
 use crate::record::{Recorded, Rules, Spot, Stored, Turn};
 use jc_model::LoadAnswer;
+use jc_model::same::is_same_load;
 use jc_types::Value;
 use std::alloc::{AllocError, Global};
 
@@ -177,13 +178,6 @@ fn is_same_store(first: &Stored, second: &Stored) -> bool
             Stored::Known(b) => is_same_entry(a, b),
         },
     }
-}
-
-/// Whether two answers of a loader are the same.
-fn is_same_load(first: &LoadAnswer, second: &LoadAnswer) -> bool
-    ensures { IsTrue result ↔ (first.now ≡ second.now) }
-{
-    *first == *second
 }
 
 /// Whether the same is at the key.

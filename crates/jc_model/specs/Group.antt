@@ -83,7 +83,8 @@ step_place place group = place + length (victim_events group.victim)
 abbrev pub events_of : ℕ → Group → List Event
 events_of place group =
     victim_events group.victim ++ step_event group
-    ∷ map (shared_event (step_place place group) group.step.key group.step.out.load) group.joined ++ evicted_events group.step.key group.evicted
+    ∷ map (shared_event (step_place place group) group.step.key group.step.out.load) group.joined
+    ++ evicted_events group.step.key group.evicted
 
 pub data Part : Type 0 where
   Made : (group : Group) → Part

@@ -23,10 +23,13 @@ use Rattle.jc_model.specs.declared.event.Cause.{Cause}
 use Rattle.jc_model.specs.declared.event.Cause.TheVariants.{Full, Memory, Invalidated}
 use Rattle.jc_model.specs.Cache.{Bytes, Cache, entry_at}
 use Rattle.jc_model.specs.Table.{Seq, seq_entry, is_load_given, op_kind}
-use Rattle.jc_model.specs.Group.{Group, Part, Made, Dropped, cache_before_step, cache_after_step, cache_after_group, cache_after_part}
+use Rattle.jc_model.specs.Group.{Group, Part, Made, Dropped, cache_before_step, cache_after_step, cache_after_group}
+use Rattle.jc_model.specs.Group.{cache_after_part}
 
 abbrev pub inserts : Cache → Group → Bool
-inserts cache group = is_none (entry_at (cache_before_step cache group) group.step.key) && is_some (seq_entry (cache_before_step cache group) group.step)
+inserts cache group =
+    is_none (entry_at (cache_before_step cache group) group.step.key)
+    && is_some (seq_entry (cache_before_step cache group) group.step)
 
 abbrev pub victim_fits : Config → Cache → Group → Option Bytes → Bool
 victim_fits config cache group None = true
@@ -52,7 +55,8 @@ loads_whole op = elim (op_kind op) [
 
 abbrev pub is_joinable : Config → Cache → Group → Bool
 is_joinable config cache group =
-    config.read_through && loads_whole group.step.op && is_none (entry_at (cache_before_step cache group) group.step.key) && is_load_given group.step.out.load
+    config.read_through && loads_whole group.step.op && is_none (entry_at (cache_before_step cache group) group.step.key)
+    && is_load_given group.step.out.load
 
 abbrev pub joined_fits : Config → Cache → Group → List Caller → Bool
 joined_fits config cache group [] = true

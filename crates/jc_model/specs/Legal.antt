@@ -82,5 +82,6 @@ pub record Legal (config : Config) (opening : List (Bytes × Bytes)) (events : L
 pub record IsWholeHistory (config : Config) (opening : ℕ → Cache) (events : List Event) (next : ℕ → Cache) : Type 0 where
   pub config_fits : check config ≡ Ok tt
   pub openings : (stripe : ℕ) → stripe < config.stripes → IsOpening config stripe (opening stripe)
-  pub parts : (stripe : ℕ) → stripe < config.stripes → IsHistory config (opening stripe) (of_stripe config.stripes stripe events) (next stripe)
+  pub parts : (stripe : ℕ) → stripe < config.stripes
+      → IsHistory config (opening stripe) (of_stripe config.stripes stripe events) (next stripe)
   pub order : IsTrue (in_order events)

@@ -24,7 +24,8 @@
 --     answer_value                  the value in an answer, if it is that of a call for the value
 --     last_value                    the last value that was answered, if any
 --     played_return                 the return of a played processor: its code, or the last value that it was answered
-use Rattle.std.specs.Prelude.{ℕ, ◌+◌, List, [], ◌∷◌, ◌++◌, Bool, true, false, ◌&&◌, ◌||◌, Option, None, Some, Result, Ok, Err, is_some, is_none, if◌then◌else◌, option_map, unwrap_or}
+use Rattle.std.specs.Prelude.{ℕ, ◌+◌, List, [], ◌∷◌, ◌++◌, Bool, true, false, ◌&&◌, ◌||◌, Option, None, Some, Result, Ok, Err}
+use Rattle.std.specs.Prelude.{is_some, is_none, if◌then◌else◌, option_map, unwrap_or}
 use Rattle.std.specs.Option.{option_or}
 use Rattle.jc_model.specs.declared.processor.EntryCall.{EntryCall}
 use Rattle.jc_model.specs.declared.processor.EntryCall.TheVariants.{GetValue, Exists, SetValue, Remove}
@@ -128,7 +129,8 @@ answer_after read_through initial answer before GetValue =
     (unwrap_or (last_mutation before) (option_or initial (loaded_in read_through answer)))
 answer_after read_through initial answer before Exists =
     Present (is_none (failed_load read_through initial answer before)
-    && unwrap_or (option_map is_some (last_mutation before)) (is_some initial || (uses_load read_through initial before && is_some (found_in answer))))
+    && unwrap_or (option_map is_some (last_mutation before))
+    (is_some initial || (uses_load read_through initial before && is_some (found_in answer))))
 answer_after read_through initial answer before (SetValue value) = Done
 answer_after read_through initial answer before Remove = Done
 
@@ -161,7 +163,8 @@ up_to_get (call ∷ calls) = call ∷ (if is_get call then [] else up_to_get cal
 
 -- the load that fails is that of the first `getValue`, and no call follows it
 abbrev pub played_calls : Bool → Option Bytes → LoadAnswer → List EntryCall → List EntryCall
-played_calls read_through initial answer calls = if is_some (failed_load read_through initial answer calls) then up_to_get calls else calls
+played_calls read_through initial answer calls =
+    if is_some (failed_load read_through initial answer calls) then up_to_get calls else calls
 
 abbrev pub answer_value : EntryAnswer → Option (Option Bytes)
 answer_value (Value value) = Some value

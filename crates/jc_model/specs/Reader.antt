@@ -1,6 +1,6 @@
 -- How the checker `legal` goes over a history, event by event: what it keeps, and how it tests the next event. A reader of
 -- contracts needn't believe it, since `legal` is proved to answer `Legal`. The reader's position is a `Stage`: outside a group,
--- after a group's victim, or after a group's step.
+-- after a group's victim, or after a group's step. No contract of a public function cites this.
 --     first_stripe      the stripe of the first key, in the opening or otherwise in the events, and 0 if there is no key
 --     are_of_stripe     the keys of the opening and of the events are all of this stripe
 --     are_of_one_stripe they are all of one stripe
@@ -8,8 +8,8 @@
 --     opened_group      what is kept of a group whose step is at a place
 --     cause_fits        the step's own key may go for this cause
 --     own_goes          this key, for this cause, is the step's own and may go
---     starts_part       an eviction of this key, for this cause, may begin a part: of a victim, or of an invalidated key that has an
---                       entry
+--     starts_part       an eviction of this key, for this cause, may begin a part: of a victim, or of an invalidated key that has
+--                       an entry
 --     started_stage,    started_cache    the stage and the cache after such an eviction
 --     picked_victim     the victim of the group that comes next, if it was read
 --     group_at          the group of a step that is read at a stage
@@ -22,7 +22,8 @@
 --     may_stop          the history may end
 --     Accepts           each of the events fits after those before it
 --     comes_before      an event is a step of the same session with a lower number than another
-use Rattle.std.specs.Prelude.{◌≡◌, ◌==◌, ◌&&◌, ◌||◌, ℕ, ◌+◌, List, [], ◌∷◌, Bool, true, false, IsTrue, Option, None, Some, is_none, is_some, nat_le, nat_lt, if◌then◌else◌}
+use Rattle.std.specs.Prelude.{◌≡◌, ◌==◌, ◌&&◌, ◌||◌, ℕ, ◌+◌, List, [], ◌∷◌, Bool, true, false, IsTrue, Option, None, Some, is_none}
+use Rattle.std.specs.Prelude.{is_some, nat_le, nat_lt, if◌then◌else◌}
 use Rattle.std.specs.List.{list_all}
 use Rattle.std.specs.Cmp.Lexicographic.{pointwise}
 use Rattle.std.specs.FinMap.{len, remove}
@@ -61,7 +62,13 @@ are_of_one_stripe stripes opening events = are_of_stripe stripes (first_stripe s
 -- a group of which the step was read
 abbrev pub read_group : Option Bytes → Caller → Op → Bytes → Out → Reply → Group
 read_group victim caller op key out reply =
-    record { victim = victim; caller = caller; step = record { op = op; key = key; out = out; reply = reply }; joined = []; evicted = None }
+    record {
+      victim = victim;
+      caller = caller;
+      step = record { op = op; key = key; out = out; reply = reply };
+      joined = [];
+      evicted = None;
+    }
 
 -- what is kept of a group whose step is at a place
 abbrev pub opened_group : Config → Cache → ℕ → Group → Opened
@@ -126,7 +133,8 @@ FitsShared (Picked key) event = ⊥
 abbrev pub fits_evict : Config → Cache → Stage → Bytes → Cause → Bool
 fits_evict config cache Outside key cause = starts_part cache key cause
 fits_evict config cache (Picked victim) key cause = false
-fits_evict config cache (Inside kept) key cause = own_goes kept key cause || (starts_part cache key cause && nat_le (len cache) config.capacity)
+fits_evict config cache (Inside kept) key cause =
+    own_goes kept key cause || (starts_part cache key cause && nat_le (len cache) config.capacity)
 
 -- an event may come next
 abbrev pub Fits : Config → Cache → Stage → Event → Type 0
@@ -147,7 +155,8 @@ evict_cache cache (Inside kept) key cause = if own_goes kept key cause then remo
 
 -- the stage after an event at a place
 abbrev pub then_stage : Config → Cache → ℕ → Stage → Event → Stage
-then_stage config cache place stage (Step caller op key out None reply) = Inside (opened_group config cache place (group_at stage caller op key out reply))
+then_stage config cache place stage (Step caller op key out None reply) =
+    Inside (opened_group config cache place (group_at stage caller op key out reply))
 then_stage config cache place stage (Step caller op key out (Some other) reply) = stage
 then_stage config cache place stage (Evict key cause) = evict_stage stage key cause
 
@@ -171,6 +180,7 @@ Accepts config place cache stage (e ∷ es) =
 
 -- a step of the same session with a lower number
 abbrev pub comes_before : Event → Event → Bool
-comes_before (Step who op key out shared reply) (Step who' op' key' out' shared' reply') = (who.session == who'.session) && nat_lt who.call who'.call
+comes_before (Step who op key out shared reply) (Step who' op' key' out' shared' reply') =
+    (who.session == who'.session) && nat_lt who.call who'.call
 comes_before (Step who op key out shared reply) (Evict key' cause) = false
 comes_before (Evict key cause) event = false

@@ -21,7 +21,8 @@ use Rattle.std.specs.List.{count_by}
 use Rattle.std.specs.Bool.{beq}
 use Rattle.jc_types.specs.declared.limits.TheConstants.{LAST_NUMBER}
 use Rattle.jc_model.specs.declared.event.Op.{Op}
-use Rattle.jc_model.specs.declared.event.Op.TheVariants.{Get, ContainsKey, Put, GetAndPut, PutIfAbsent, Remove, RemoveIf, GetAndRemove, Replace, ReplaceIf, GetAndReplace, Clear, LoadAll, Invoke}
+use Rattle.jc_model.specs.declared.event.Op.TheVariants.{Get, ContainsKey, Put, GetAndPut, PutIfAbsent, Remove, RemoveIf}
+use Rattle.jc_model.specs.declared.event.Op.TheVariants.{GetAndRemove, Replace, ReplaceIf, GetAndReplace, Clear, LoadAll, Invoke}
 use Rattle.jc_model.specs.declared.event.Out.{Out}
 use Rattle.jc_model.specs.declared.event.ProcessAnswer.{ProcessAnswer}
 use Rattle.jc_model.specs.declared.event.ProcessAnswer.TheVariants as process
@@ -83,8 +84,8 @@ removes (process.Ended (effect.Set value) outcome) = false
 removes process.NotAsked = false
 removes (process.Failed code) = false
 
--- 3. Steps. A `remove(key, oldValue)` or a `replace(key, oldValue, newValue)` asks for its entry whether or not it changes it, if no
--- writer fails. A processor's step asks for its entry, whatever the processor does.
+-- 3. Steps. A `remove(key, oldValue)` or a `replace(key, oldValue, newValue)` asks for its entry whether or not it changes it, if
+-- no writer fails. A processor's step asks for its entry, whatever the processor does.
 
 abbrev pub step_hits : Bool → Op → Out → Reply → Bool
 step_hits found Get out answer = not (is_load_given out.load) && has_value answer
@@ -225,5 +226,7 @@ together first second = record {
 }
 
 pub record StatisticsLaws : Type 0 where
-  pub one_more : (occurred : List Occurrence) (o : Occurrence) → statistics_of (occurred ++ o ∷ []) ≡ with_event (statistics_of occurred) o.found o.event
-  pub append : (first second : List Occurrence) → statistics_of (first ++ second) ≡ together (statistics_of first) (statistics_of second)
+  pub one_more : (occurred : List Occurrence) (o : Occurrence)
+      → statistics_of (occurred ++ o ∷ []) ≡ with_event (statistics_of occurred) o.found o.event
+  pub append : (first second : List Occurrence)
+      → statistics_of (first ++ second) ≡ together (statistics_of first) (statistics_of second)

@@ -35,14 +35,16 @@
 --     NewStep                             one operation on one key with the outside answers and its reply
 --     seq_entry, seq_cache                the entry that it leaves at its key, and the whole cache
 --     Seq                                 the sequential step: one operation made on a whole cache
-use Rattle.std.specs.Prelude.{◌≡◌, ◌==◌, ℕ, List, [], ◌∷◌, Bool, true, false, not, ◌&&◌, ◌||◌, IsTrue, Option, None, Some, is_some, is_none, if◌then◌else◌, unwrap_or}
+use Rattle.std.specs.Prelude.{◌≡◌, ◌==◌, ℕ, List, [], ◌∷◌, Bool, true, false, not, ◌&&◌, ◌||◌, IsTrue, Option, None, Some, is_some}
+use Rattle.std.specs.Prelude.{is_none, if◌then◌else◌, unwrap_or}
 use Rattle.std.specs.Bool.{beq}
 use Rattle.std.specs.Cmp.Lexicographic.{pointwise}
 use Rattle.jc_types.specs.declared.config.Config.{Config}
 use Rattle.jc_types.specs.declared.refusal.Refusal.{Refusal}
 use Rattle.jc_types.specs.declared.refusal.Refusal.TheVariants as refusal
 use Rattle.jc_model.specs.declared.event.Op.{Op}
-use Rattle.jc_model.specs.declared.event.Op.TheVariants.{Get, ContainsKey, Put, GetAndPut, PutIfAbsent, Remove, RemoveIf, GetAndRemove, Replace, ReplaceIf, GetAndReplace, Clear, LoadAll, Invoke}
+use Rattle.jc_model.specs.declared.event.Op.TheVariants.{Get, ContainsKey, Put, GetAndPut, PutIfAbsent, Remove, RemoveIf}
+use Rattle.jc_model.specs.declared.event.Op.TheVariants.{GetAndRemove, Replace, ReplaceIf, GetAndReplace, Clear, LoadAll, Invoke}
 use Rattle.jc_model.specs.declared.event.OpKind.{OpKind}
 use Rattle.jc_model.specs.declared.event.OpKind.TheVariants as kind
 use Rattle.jc_model.specs.declared.event.Out.{Out}
@@ -294,7 +296,8 @@ abbrev pub answers_fit : Config → Op → Option Bytes → Out → Bool
 answers_fit config op entry out =
     load_fits (loader_ask config.read_through op entry) (is_load_given out.load)
     && beq (is_process_given out.process) (is_invoke op)
-    && beq (is_write_given out.write) (config.write_through && is_none (early_fault out) && is_some (write_ask op entry out.process))
+    && beq (is_write_given out.write)
+    (config.write_through && is_none (early_fault out) && is_some (write_ask op entry out.process))
 
 -- 5. The entry afterwards, and the reply, if there is no fault.
 

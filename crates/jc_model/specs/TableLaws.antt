@@ -9,4 +9,5 @@ abbrev pub FaultLeavesCache : Type 0
 FaultLeavesCache = (cache : Cache) (step : NewStep) → IsTrue (is_some (first_fault step.out)) → seq_cache cache step ≡ cache
 
 abbrev pub OtherKeysStay : Type 0
-OtherKeysStay = (cache : Cache) (step : NewStep) (key : Bytes) → key ≢ step.key → entry_at (seq_cache cache step) key ≡ entry_at cache key
+OtherKeysStay =
+    (cache : Cache) (step : NewStep) (key : Bytes) → key ≢ step.key → entry_at (seq_cache cache step) key ≡ entry_at cache key

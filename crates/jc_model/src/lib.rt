@@ -7,6 +7,7 @@
 //! - [`processor`] has an entry processor's calls on its entry.
 //! - [`statistics`] has the counts of a history.
 //! - [`contents`] has a cache's contents as a map.
+//! - [`same`] has the tests of equality, which the crates above use.
 //! - [`legal`] is the slow checker of one stripe's history. It rests on `callers` (the callers' order), `stripes` (the keys of
 //!   one stripe), `listed` (an opening as a plain list) and `reader` (reading event by event).
 //!
@@ -27,7 +28,7 @@ pub mod event;
 mod listed;
 pub mod processor;
 mod reader;
-mod same;
+pub mod same;
 pub mod statistics;
 mod stripes;
 pub mod table;
