@@ -34,7 +34,8 @@ use Rattle.jc_stripe.specs.Phases.{Begins, PicksUp, new_group, after_group, afte
 use Rattle.jc_stripe.specs.Reached.{IsReached, AreReserved}
 use Rattle.jc_stripe.specs.OnePhase.{IsPhaseOf, FirstPhase, LastPhase, Withdrawal, PickUp, Forgetting}
 use Rattle.jc_stripe.specs.Invalidating.{has_place, without_entry, is_dropped, end_with, after_invalidation, after_invalidation_of_all, Invalidates, InvalidatesAll, sweep, after_sweep, Sweeps, is_forgotten}
-use Rattle.jc_stripe.specs.Forgetting.{BeginsAt, Forgets}
+use Rattle.jc_stripe.specs.Generations.{after_renewal}
+use Rattle.jc_stripe.specs.Forgetting.{BeginsAt, GoesOn, Passes, BeginsAmong, Forgets}
 use Rattle.jc_stripe.proofs.Refusing.{clash, not_refused, or_neither, joins_known}
 use Rattle.jc_stripe.proofs.MarkedKeys.{held_left, marked_left}
 use Rattle.jc_stripe.proofs.Used.{find-entry}
@@ -392,9 +393,26 @@ stays session old new key reached phase h =
     (λ rest. ⊎_elim (λ (b : PickUp session old new). inl (stays_picked old new b.join b.picked key h b.picks_up))
     (λ (f : Forgetting old new). inl (stays_forgetting old new key reached h f)) rest) rest) rest) rest) phase
 
+-- in one phase, or at the end of a generation
+goes_on : (old next : State) (key : Bytes) → IsReached old → GoesOn old next → is_forgotten old key ≡ true → (is_forgotten next key ≡ true) ⊎ BeginsAt old key next
+goes_on old next key reached goes h =
+    ⊎_elim (λ (phase : (session : ℕ) × IsPhaseOf session old next). stays phase.0 old next key reached phase.1 h)
+    (λ (renewed : next ≡ after_renewal old). inl (ap (λ (s : State). is_forgotten s key) renewed ∙ h))
+    goes
+
+along : (old new : State) (states : List State) (key : Bytes) → Passes old states new → is_forgotten old key ≡ true → (is_forgotten new key ≡ true) ⊎ BeginsAmong old key states
+along old new [] key same h = inl (ap (λ (s : State). is_forgotten s key) same ∙ h)
+along old new (next ∷ states) key passes h =
+    ⊎_elim (λ (forgotten : is_forgotten next key ≡ true).
+    ⊎_elim (λ (last : is_forgotten new key ≡ true). inl last) (λ (begins : BeginsAmong next key states). inr (inr (forgotten, begins)))
+    (along next new states key passes.2 forgotten))
+    (λ (begins : BeginsAt old key next). inr (inl begins))
+    (goes_on old next key passes.0 passes.1 h)
+
 pub forgets : Forgets
 forgets = record {
   invalidated = λ old new key h. ap (λ (s : State). is_forgotten s key) h ∙ forgotten_invalidated old key;
   all = λ old new key h. ap (λ (s : State). is_forgotten s key) h ∙ forgotten_all old key;
   stays = stays;
+  along = along;
 }

@@ -1,4 +1,4 @@
--- How a step is made in the entries and appended. No contract of a public function cites this.
+-- How a stripe makes a step in its entries and appends it to its history. No contract of a public function cites this.
 --     NewGroup             a step, and what is evicted before and after it: a group without those that share its load
 --     group_in             the meaning of the fields of a `NewGroup`, whose parts are lent
 --     inserts_into         the step inserts: its key is missing in the entries, and it leaves an entry there
@@ -22,7 +22,8 @@
 --     entries_after        the entries after the step, without those evicted before and after it
 --     AppliesStep          a step in the entries: they change so, this key was evicted before it, and its own key after it for
 --                          this cause
-use Rattle.std.specs.Prelude.{◌≡◌, ◌==◌, ℕ, ◌+◌, ◌-◌, List, [], ◌∷◌, ◌++◌, length, map, Bool, true, ◌&&◌, Option, None, Some, is_some, is_none, option_map, if◌then◌else◌}
+use Rattle.std.specs.Prelude.{◌≡◌, ◌==◌, ℕ, ◌+◌, ◌-◌, List, [], ◌∷◌, ◌++◌, length, map, Bool, true, ◌&&◌, Option, None, Some}
+use Rattle.std.specs.Prelude.{is_some, is_none, option_map, if◌then◌else◌}
 use Rattle.std.specs.FinMap as finite
 use Rattle.jc_types.specs.declared.caller.Caller.{Caller}
 use Rattle.jc_types.specs.declared.config.Config.{Config}
@@ -35,7 +36,8 @@ use Rattle.jc_model.specs.declared.event.Reply.{Reply}
 use Rattle.jc_model.specs.Cache.{Bytes, key_cmp}
 use Rattle.jc_model.specs.declared.event.LoadAnswer.{LoadAnswer}
 use Rattle.jc_model.specs.declared.event.WriteAnswer.{WriteAnswer}
-use Rattle.jc_model.specs.Table.{entry_after, is_load_given, is_write_given, is_process_given, load_fits, wanted_if, early_fault, process_ask}
+use Rattle.jc_model.specs.Table.{entry_after, is_load_given, is_write_given, is_process_given, load_fits, wanted_if, early_fault}
+use Rattle.jc_model.specs.Table.{process_ask}
 use Rattle.jc_model.specs.Group.{victim_events, shared_event, evicted_events, load_only, write_only}
 use Rattle.jc_model.specs.Listed.{others}
 use Rattle.jc_model.specs.Statistics.{with_event}
@@ -66,12 +68,23 @@ pub record NewGroup : Type 0 where
   pub found : Bool  -- whether its key had an entry before it
 
 abbrev pub group_in : Inside → NewGroup
-group_in g = record { caller = g.caller; key = g.key.now; op = g.op.now; out = g.out.now; reply = g.reply.now; victim = g.victim; evicted = g.evicted; found = g.found }
+group_in g =
+    record {
+      caller = g.caller;
+      key = g.key.now;
+      op = g.op.now;
+      out = g.out.now;
+      reply = g.reply.now;
+      victim = g.victim;
+      evicted = g.evicted;
+      found = g.found;
+    }
 
 -- 1. The entries.
 
 abbrev pub inserts_into : List (Bytes × Bytes) → Bytes → Op → Out → Bool
-inserts_into entries key op out = is_none (finite.find key_cmp key entries) && is_some (entry_after op (finite.find key_cmp key entries) out)
+inserts_into entries key op out =
+    is_none (finite.find key_cmp key entries) && is_some (entry_after op (finite.find key_cmp key entries) out)
 
 abbrev pub overflows_in : ByUse → Bytes → Op → Out → Bool
 overflows_in entries key op out = inserts_into entries.list key op out && (length entries.list == entries.capacity)
@@ -92,7 +105,8 @@ new_step new = Step new.caller new.op new.key new.out None new.reply
 abbrev pub group_events : ℕ → NewGroup → List Caller → List Event
 group_events place new callers =
     victim_events new.victim ++ new_step new
-    ∷ map (shared_event (place + length (victim_events new.victim)) new.key new.out.load) callers ++ evicted_events new.key new.evicted
+    ∷ map (shared_event (place + length (victim_events new.victim)) new.key new.out.load) callers
+    ++ evicted_events new.key new.evicted
 
 -- of the events of a group only the step itself counts by `found`
 abbrev pub count_all : Bool → List Event → Statistics → Statistics
@@ -115,7 +129,8 @@ append_group found events kept past = record past {
 
 -- `place` is that of the first event of the group
 abbrev pub eviction_of : ℕ → NewGroup → List Caller → Option Eviction
-eviction_of place new callers = option_map (λ cause. record { cause = cause; place = place + (length (group_events place new callers) - 1) }) new.evicted
+eviction_of place new callers =
+    option_map (λ cause. record { cause = cause; place = place + (length (group_events place new callers) - 1) }) new.evicted
 
 abbrev pub is_write_due : Config → Out → Bool
 is_write_due config out = config.write_through && is_none (early_fault out) && is_some (process_ask out.process)
@@ -153,8 +168,10 @@ without_own_entry key (Some cause) entries = others key entries
 abbrev pub entries_after : List (Bytes × Bytes) → Bytes → Op → Out → Option Bytes → Option Cause → List (Bytes × Bytes)
 entries_after entries key op out victim evicted = without_own_entry key evicted (used_at (after_eviction victim entries) key op out)
 
-pub record AppliesStep (old : ByUse) (pinned : List Bytes) (key : Bytes) (op : Op) (out : Out) (victim : Option Bytes) (evicted : Option Cause) (new : ByUse) : Type 0 where
+pub record AppliesStep (old : ByUse) (pinned : List Bytes) (key : Bytes) (op : Op) (out : Out) (victim : Option Bytes)
+    (evicted : Option Cause) (new : ByUse) : Type 0 where
   pub short : Bool
   pub victim_is : victim ≡ victim_in old pinned key op out
-  pub evicted_is : evicted ≡ own_cause (inserts_into old.list key op out) (overflows_in old key op out) (is_some (victim_in old pinned key op out)) short
+  pub evicted_is : evicted
+      ≡ own_cause (inserts_into old.list key op out) (overflows_in old key op out) (is_some (victim_in old pinned key op out)) short
   pub left : new ≡ record old { list = entries_after old.list key op out victim evicted }

@@ -1,4 +1,4 @@
--- The phases of a desk on its stripe, and which answers it accepts.
+-- The phases that a desk makes on its stripe for a driver that names tickets by numbers, and which answers it accepts.
 --     newest               the reservation that is out and was made last
 --     BeginsWithMoves      a first phase has this outcome, with this reply and these moves if the call is done
 --     RenewsAndBegins      the first phase of the desk's next call, before which a full generation has ended; the call might be
@@ -25,15 +25,18 @@
 --     WithdrawsAtDesk      the reservation with this number is given back, with the value that the key's entry lost by that
 --     PicksUpAtDesk        a joiner asks for its answer; or no such join is out, and nothing was done
 --     is_pick_up_misuse    the answer is that no such join is out
---     makes_place          the generation ends for the eviction of an invalidated key: no place is free, and it may end, and its events
---                          aren't to be taken
+--     makes_place          the generation ends for the eviction of an invalidated key: no place is free, and it may end, and its
+--                          events aren't to be taken
 --     with_place           the stripe after that
 --     InvalidatesAtDesk    a key is invalidated, with the value that its entry lost
 --     InvalidatesAllAtDesk all keys are invalidated
---     answer_without_place     an entry is left for which there is no place: the events are to be taken first, or something ends first
---     sweep_answer         whether an entry was evicted, calls may begin, the events are to be taken first, or there is no place now
+--     answer_without_place     an entry is left for which there is no place: the events are to be taken first, or something ends
+--                              first
+--     sweep_answer         whether an entry was evicted, calls may begin, the events are to be taken first, or there is no place
+--                          now
 --     SweepsAtDesk         an entry of a desk that is shut is evicted, or calls may begin again
-use Rattle.std.specs.Prelude.{◌≡◌, ◌==◌, ◌&&◌, ◌+◌, ◌-◌, ℕ, Bool, true, false, not, Option, None, Some, is_some, find, length, slice_get, if◌then◌else◌}
+use Rattle.std.specs.Prelude.{◌≡◌, ◌==◌, ◌&&◌, ◌+◌, ◌-◌, ℕ, Bool, true, false, not, Option, None, Some, is_some, find, length}
+use Rattle.std.specs.Prelude.{slice_get, if◌then◌else◌}
 use Rattle.std.specs.Bool.{beq}
 use Rattle.jc_types.specs.declared.caller.Caller.{Caller}
 use Rattle.jc_types.specs.declared.config.Config.{Config}
@@ -79,16 +82,21 @@ newest state = slice_get state.reservations (length state.reservations - 1)
 
 abbrev pub BeginsWithMoves : State → Caller → Bytes → Op → Reply → MovesMade → FirstAnswer → State → Type 0
 BeginsWithMoves old caller key op reply moves (first_answer.Done place) new =
-    (done : StepDone) × Begins old caller key op (begun.Done done) new × (done.reply ≡ reply) × (done.place ≡ place) × MovesValues old key done.victim done.evicted moves new
+    (done : StepDone) × Begins old caller key op (begun.Done done) new × (done.reply ≡ reply) × (done.place ≡ place)
+    × MovesValues old key done.victim done.evicted moves new
 BeginsWithMoves old caller key op reply moves (first_answer.Asks number) new =
-    (ticket : TicketClaim) × Begins old caller key op (begun.Asks ticket) new × (ticket.reservation.number ≡ number) × (newest new ≡ Some ticket.reservation)
-BeginsWithMoves old caller key op reply moves (first_answer.Joined load) new = Begins old caller key op (begun.Joined (record { caller = caller; key = key; load = load })) new
-BeginsWithMoves old caller key op reply moves (first_answer.Refused refusal) new = Begins old caller key op (begun.Refused refusal) new
+    (ticket : TicketClaim) × Begins old caller key op (begun.Asks ticket) new × (ticket.reservation.number ≡ number)
+    × (newest new ≡ Some ticket.reservation)
+BeginsWithMoves old caller key op reply moves (first_answer.Joined load) new =
+    Begins old caller key op (begun.Joined (record { caller = caller; key = key; load = load })) new
+BeginsWithMoves old caller key op reply moves (first_answer.Refused refusal) new =
+    Begins old caller key op (begun.Refused refusal) new
 BeginsWithMoves old caller key op reply moves first_answer.Full new = ⊥
 BeginsWithMoves old caller key op reply moves first_answer.Shut new = ⊥
 BeginsWithMoves old caller key op reply moves first_answer.Misuse new = ⊥
 
-pub record RenewsAndBegins (old : DeskState) (session call : ℕ) (key : Bytes) (op : Op) (reply : Reply) (moves : MovesMade) (answer : FirstAnswer) (new : DeskState) : Type 0 where
+pub record RenewsAndBegins (old : DeskState) (session call : ℕ) (key : Bytes) (op : Op) (reply : Reply) (moves : MovesMade)
+    (answer : FirstAnswer) (new : DeskState) : Type 0 where
   pub may : may_call_next old session key ≡ true
   pub free : awaits_end old ≡ false
   pub unshut : old.stripe.shut ≡ false
@@ -103,7 +111,8 @@ BeginsAtDesk old session call key op reply moves first_answer.Full new =
     (new ≡ old) × (call ≡ old.next) × (may_call_next old session key ≡ true) × (awaits_end old ≡ true)
 BeginsAtDesk old session call key op reply moves first_answer.Shut new =
     (new ≡ old) × (call ≡ old.next) × (may_call_next old session key ≡ true) × (awaits_end old ≡ false) × (old.stripe.shut ≡ true)
-BeginsAtDesk old session call key op reply moves first_answer.Misuse new = (new ≡ old) × (call ≡ old.next) × (may_call_next old session key ≡ false)
+BeginsAtDesk old session call key op reply moves first_answer.Misuse new =
+    (new ≡ old) × (call ≡ old.next) × (may_call_next old session key ≡ false)
 BeginsAtDesk old session call key op reply moves answer new = RenewsAndBegins old session call key op reply moves answer new
 
 abbrev pub is_first_misuse : FirstAnswer → Bool
@@ -119,12 +128,14 @@ pub record HitsAtDesk (old : DeskState) (session : ℕ) (key value : Bytes) (cal
   pub between : State
   pub renews : RenewsIfFull old.stripe between
   pub call_is : call ≡ old.next
-  pub begins : Begins between (record { session = session; call = call }) key Get (begun.Done (hit_done (length between.history) value)) new.stripe
+  pub begins : Begins between (record { session = session; call = call }) key Get
+      (begun.Done (hit_done (length between.history) value)) new.stripe
   pub rest : new ≡ record old { stripe = new.stripe; next = old.next + 1 }
 
 abbrev pub hits_next : DeskState → ℕ → Bytes → Bool
 hits_next desk session key =
-    may_call_next desk session key && not (awaits_end desk) && may_hit (renewed_if_full desk.stripe) desk.next key && is_some (entry_at desk.stripe.cache key)
+    may_call_next desk session key && not (awaits_end desk) && may_hit (renewed_if_full desk.stripe) desk.next key
+    && is_some (entry_at desk.stripe.cache key)
 
 abbrev pub without_hit : DeskState → ℕ → Bytes → DeskState
 without_hit desk session key =
@@ -149,14 +160,16 @@ abbrev pub takes_write : State → ℕ → WriteAnswer → Bool
 takes_write state number answer = is_write_given answer && asks_first asks_writer (ticket_of state number)
 
 abbrev pub fits_processor : LoadAnswer → ProcessAnswer → First → Bool
-fits_processor load process first = asks_processor first && is_process_given process && load_fits (wanted_if (is_loadable first)) (is_load_given load)
+fits_processor load process first =
+    asks_processor first && is_process_given process && load_fits (wanted_if (is_loadable first)) (is_load_given load)
 
 abbrev pub wants_writer : Config → LoadAnswer → ProcessAnswer → Bool
 wants_writer config load process = config.write_through && is_some (effect_change load process)
 
 abbrev pub takes_process : State → ℕ → Out → Bool
 takes_process state number out =
-    asks_first (fits_processor out.load out.process) (ticket_of state number) && beq (wants_writer state.config out.load out.process) (is_write_given out.write)
+    asks_first (fits_processor out.load out.process) (ticket_of state number)
+    && beq (wants_writer state.config out.load out.process) (is_write_given out.write)
 
 abbrev pub has_joined_load : Option Joiner → ℕ → Bool
 has_joined_load None load = false
@@ -167,7 +180,8 @@ is_join_out state join = has_joined_load (find (belongs_to join.caller join.key)
 
 -- 3. Last phases.
 
-pub record CommitsAtDesk (old : DeskState) (number : ℕ) (out : Out) (reply : Reply) (moves : MovesMade) (commit : CommitDone) (new : DeskState) : Type 0 where
+pub record CommitsAtDesk (old : DeskState) (number : ℕ) (out : Out) (reply : Reply) (moves : MovesMade) (commit : CommitDone)
+    (new : DeskState) : Type 0 where
   pub reservation : Reservation
   pub ticket : ticket_of old.stripe number ≡ Some reservation
   pub done : StepDone
@@ -186,9 +200,12 @@ pub record WithdrawsAtDesk (old : DeskState) (number : ℕ) (moves : MovesMade) 
   pub rest : new ≡ record old { stripe = new.stripe }
 
 abbrev pub PicksUpAtDesk : DeskState → JoinClaim → Reply → PickUpAnswer → DeskState → Type 0
-PicksUpAtDesk old join reply (pick_up_answer.Answer place shared_with) new = PicksUp old.stripe join (polled.Answer reply place shared_with) new.stripe × (new ≡ record old { stripe = new.stripe })
-PicksUpAtDesk old join reply pick_up_answer.Again new = PicksUp old.stripe join polled.Again new.stripe × (new ≡ record old { stripe = new.stripe })
-PicksUpAtDesk old join reply pick_up_answer.NotYet new = PicksUp old.stripe join (polled.NotYet join) new.stripe × (new ≡ record old { stripe = new.stripe })
+PicksUpAtDesk old join reply (pick_up_answer.Answer place shared_with) new =
+    PicksUp old.stripe join (polled.Answer reply place shared_with) new.stripe × (new ≡ record old { stripe = new.stripe })
+PicksUpAtDesk old join reply pick_up_answer.Again new =
+    PicksUp old.stripe join polled.Again new.stripe × (new ≡ record old { stripe = new.stripe })
+PicksUpAtDesk old join reply pick_up_answer.NotYet new =
+    PicksUp old.stripe join (polled.NotYet join) new.stripe × (new ≡ record old { stripe = new.stripe })
 PicksUpAtDesk old join reply pick_up_answer.Misuse new = (new ≡ old) × (is_join_out old.stripe join ≡ false)
 
 abbrev pub is_pick_up_misuse : PickUpAnswer → Bool

@@ -17,7 +17,8 @@
 --     opened_desk         a desk that opens with these entries
 --     OpenFails           why no desk is opened: the shape doesn't fit; the shape fits, and the entries don't; or both fit, and
 --                         an allocation failed
-use Rattle.std.specs.Prelude.{◌≡◌, ◌==◌, ◌&&◌, ◌<◌, ℕ, List, length, Bool, true, false, not, nat_lt, nat_le, All, is_ok, if◌then◌else◌}
+use Rattle.std.specs.Prelude.{◌≡◌, ◌==◌, ◌&&◌, ◌<◌, ℕ, List, length, Bool, true, false, not, nat_lt, nat_le, All, is_ok}
+use Rattle.std.specs.Prelude.{if◌then◌else◌}
 use Rattle.std.specs.List.{list_all}
 use Rattle.jc_types.specs.declared.caller.Caller.{Caller}
 use Rattle.jc_types.specs.declared.config.Config.{Config}
@@ -84,12 +85,16 @@ is_open_shape config number = is_ok (check config) && nat_lt number config.strip
 
 abbrev pub are_contents : Config → ℕ → List (Bytes × Bytes) → Bool
 are_contents config number entries =
-    nat_le (length entries) config.capacity && has_distinct_keys entries && list_all (λ entry. stripe_of entry.0 config.stripes == number) entries
+    nat_le (length entries) config.capacity && has_distinct_keys entries
+    && list_all (λ entry. stripe_of entry.0 config.stripes == number) entries
 
 abbrev pub opened_desk : Config → ℕ → Bool → List (Bytes × Bytes) → DeskState
-opened_desk config number keeps_events entries = record { stripe = live_on (opened_stripe config Played number entries); next = 0; keeps_events = keeps_events }
+opened_desk config number keeps_events entries =
+    record { stripe = live_on (opened_stripe config Played number entries); next = 0; keeps_events = keeps_events }
 
 abbrev pub OpenFails : OpenFault → Config → ℕ → List (Bytes × Bytes) → Type 0
 OpenFails open_fault.Shape config number entries = is_open_shape config number ≡ false
-OpenFails open_fault.Contents config number entries = (is_open_shape config number ≡ true) × (are_contents config number entries ≡ false)
-OpenFails open_fault.Memory config number entries = (is_open_shape config number ≡ true) × (are_contents config number entries ≡ true)
+OpenFails open_fault.Contents config number entries =
+    (is_open_shape config number ≡ true) × (are_contents config number entries ≡ false)
+OpenFails open_fault.Memory config number entries =
+    (is_open_shape config number ≡ true) × (are_contents config number entries ≡ true)

@@ -1,4 +1,4 @@
--- The findings of a first phase at its key, which it keeps while it decides. No contract of a public function cites this.
+-- What the first phase of a call finds at its key, and keeps while it decides. No contract of a public function cites this.
 --     found_at         the load that the call joins, whether it asks anybody, whether it needs its key free, and whether the key
 --                      is barred, or reserved though the call needs it free
 --     is_to_reserve    whether the call reserves its key, by what it has found

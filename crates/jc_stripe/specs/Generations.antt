@@ -61,4 +61,9 @@ abbrev pub present_generation : State → Generation
 present_generation state = record { opening = state.opening; history = state.history }
 
 abbrev pub after_renewal : State → State
-after_renewal state = record state { ended = state.ended ++ present_generation state ∷ []; opening = by_use state.opening state.history; history = [] }
+after_renewal state =
+    record state {
+      ended = state.ended ++ present_generation state ∷ [];
+      opening = by_use state.opening state.history;
+      history = [];
+    }

@@ -1,4 +1,4 @@
--- A `get` that finds its entry.
+-- A hit: the first phase of a `get` that finds its key's entry in the stripe. No contract of a public function cites this.
 --     IsHit    its first phase, with the value that it finds: the entry is then the most recently used
 use Rattle.std.specs.Prelude.{◌≡◌, Some, length}
 use Rattle.jc_types.specs.declared.caller.Caller.{Caller}

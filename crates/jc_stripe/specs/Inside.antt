@@ -1,4 +1,4 @@
--- The meaning of a stripe's fields, and their invariant. Callers see the state alone.
+-- The meaning of a stripe's fields, and their invariant. Callers see the state alone. No contract of a public function cites this.
 --     state_of    the state that the fields mean
 --     IsStripe    entries and history have the sizes of the stripe's config, the entries are in the order of use, the places that
 --                 are promised are the reserved ones, the occurrences are counted, there is a free box for each ticket that may

@@ -1,4 +1,4 @@
--- The invalidation of a key: no call that begins later is answered from what was cached or reserved of it before.
+-- The invalidation of a key at its stripe: no call that begins later is answered from what was cached or reserved of it before.
 --     dropped_event        the eviction of an invalidated key
 --     has_place            a place of the history is free for an eviction
 --     without_entry        the state after the eviction of an invalidated key
@@ -14,9 +14,10 @@
 --     after_sweep          a shut stripe evicts the least recently used entry that isn't reserved, if a place is free for it; when
 --                          there is none left, calls begin again
 --     Sweeps               the phase
---     is_forgotten         no call that begins is answered from an entry or a load of the key: it is marked, or it isn't reserved and
---                          has no entry or the stripe is shut
-use Rattle.std.specs.Prelude.{◌≡◌, ◌+◌, [], ◌∷◌, ◌++◌, length, Bool, true, false, not, ◌&&◌, ◌||◌, Option, None, Some, is_some, is_none, nat_le, if◌then◌else◌}
+--     is_forgotten         no call that begins is answered from an entry or a load of the key: it is marked, or it isn't reserved
+--                          and has no entry or the stripe is shut
+use Rattle.std.specs.Prelude.{◌≡◌, ◌+◌, [], ◌∷◌, ◌++◌, length, Bool, true, false, not, ◌&&◌, ◌||◌, Option, None, Some, is_some}
+use Rattle.std.specs.Prelude.{is_none, nat_le, if◌then◌else◌}
 use Rattle.std.specs.FinMap.{remove}
 use Rattle.jc_types.specs.declared.limits.TheConstants.{HIT_PLACES}
 use Rattle.jc_model.specs.declared.event.Out.{Out}
@@ -51,7 +52,8 @@ end_with marked ended key = if is_dropped marked ended key then without_entry en
 
 abbrev pub told_drop : Bool → State → Bytes → StepDone → StepDone
 told_drop marked ended key done =
-    if is_dropped marked ended key then record done { evicted = Some (record { cause = Invalidated; place = length ended.history }) } else done
+    if is_dropped marked ended key
+    then record done { evicted = Some (record { cause = Invalidated; place = length ended.history }) } else done
 
 abbrev pub Ends : State → Reservation → Out → StepDone → State → Type 0
 Ends old r out done new =

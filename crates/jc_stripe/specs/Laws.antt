@@ -1,4 +1,5 @@
--- The laws of the phases, over every state.
+-- The laws of a stripe's phases, over every state: what is reached stays reached, histories only grow, and a reserved key's entry
+-- stays.
 --     StaysReached      each phase leads from a reached state to a reached one
 --     OpenedIsReached   a state in which nothing has happened yet is reached, whatever it opens with
 --     ReachedIsLegal    a reached state's history is legal from its opening
@@ -24,11 +25,14 @@ use Rattle.jc_stripe.specs.Invalidating.{Ends, GivesBack, Invalidates, Invalidat
 use Rattle.jc_stripe.specs.Reached.{IsReached, IsOpened}
 
 pub record StaysReached : Type 0 where
-  pub begins : (old new : State) (caller : Caller) (key : Bytes) (op : Op) (b : Begun) → IsReached old → MayBegin old caller key → Begins old caller key op b new → IsReached new
-  pub commits : (old new : State) (r : Reservation) (out : Out) (done : StepDone) → IsReached old → Commits old r out done new → IsReached new
+  pub begins : (old new : State) (caller : Caller) (key : Bytes) (op : Op) (b : Begun) → IsReached old → MayBegin old caller key
+      → Begins old caller key op b new → IsReached new
+  pub commits : (old new : State) (r : Reservation) (out : Out) (done : StepDone) → IsReached old
+      → Commits old r out done new → IsReached new
   pub withdraws : (old new : State) (r : Reservation) → IsReached old → Withdraws old r new → IsReached new
   pub picks_up : (old new : State) (join : JoinClaim) (p : Polled) → IsReached old → PicksUp old join p new → IsReached new
-  pub ends : (old new : State) (r : Reservation) (out : Out) (done : StepDone) → IsReached old → Ends old r out done new → IsReached new
+  pub ends : (old new : State) (r : Reservation) (out : Out) (done : StepDone) → IsReached old
+      → Ends old r out done new → IsReached new
   pub gives_back : (old new : State) (r : Reservation) → IsReached old → GivesBack old r new → IsReached new
   pub invalidates : (old new : State) (key : Bytes) → IsReached old → Invalidates old key new → IsReached new
   pub invalidates_all : (old new : State) → IsReached old → InvalidatesAll old new → IsReached new
@@ -56,13 +60,17 @@ pub record Extends (old new : State) : Type 0 where
   pub history : new.history ≡ old.history ++ more
 
 pub record Grows : Type 0 where
-  pub begins : (old new : State) (caller : Caller) (key : Bytes) (op : Op) (b : Begun) → Begins old caller key op b new → Extends old new
+  pub begins : (old new : State) (caller : Caller) (key : Bytes) (op : Op) (b : Begun)
+      → Begins old caller key op b new → Extends old new
   pub commits : (old new : State) (r : Reservation) (out : Out) (done : StepDone) → Commits old r out done new → Extends old new
   pub withdraws : (old new : State) (r : Reservation) → Withdraws old r new → Extends old new
   pub picks_up : (old new : State) (join : JoinClaim) (p : Polled) → PicksUp old join p new → Extends old new
 
 pub record KeepsReserved : Type 0 where
-  pub begins : (old new : State) (caller : Caller) (key : Bytes) (op : Op) (b : Begun) (q : Bytes) → IsReached old → Begins old caller key op b new → is_reserved old q ≡ true → entry_at new.cache q ≡ entry_at old.cache q
-  pub commits : (old new : State) (r : Reservation) (out : Out) (done : StepDone) (q : Bytes) → IsReached old → Commits old r out done new → is_reserved (without_reservation old r.key) q ≡ true → entry_at new.cache q ≡ entry_at old.cache q
+  pub begins : (old new : State) (caller : Caller) (key : Bytes) (op : Op) (b : Begun) (q : Bytes) → IsReached old
+      → Begins old caller key op b new → is_reserved old q ≡ true → entry_at new.cache q ≡ entry_at old.cache q
+  pub commits : (old new : State) (r : Reservation) (out : Out) (done : StepDone) (q : Bytes) → IsReached old
+      → Commits old r out done new → is_reserved (without_reservation old r.key) q ≡ true
+      → entry_at new.cache q ≡ entry_at old.cache q
   pub withdraws : (old new : State) (r : Reservation) → Withdraws old r new → new.cache ≡ old.cache
   pub picks_up : (old new : State) (join : JoinClaim) (p : Polled) → PicksUp old join p new → new.cache ≡ old.cache

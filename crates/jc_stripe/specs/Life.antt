@@ -1,4 +1,4 @@
--- The generations of a stripe, as contracts see them.
+-- How a stripe keeps its generations: what its field of type `Life` means. No contract of a public function cites this.
 --     Life        the entries that the present generation opened with, the most recently used first, and the generations that
 --                 have ended, the oldest first
 --     noted_in    the entries in a note of a generation
@@ -19,4 +19,5 @@ noted_in [] = []
 noted_in (note ∷ notes) = note.0.list
 
 abbrev pub ended_in : List (Log ByUse (Unit {0}) × Past) → List Generation
-ended_in notes = map (λ (note : Log ByUse (Unit {0}) × Past). record { opening = noted_in note.0.items; history = note.1.events }) notes
+ended_in notes =
+    map (λ (note : Log ByUse (Unit {0}) × Past). record { opening = noted_in note.0.items; history = note.1.events }) notes

@@ -1,4 +1,5 @@
--- At most one phase of one session, the own steps of a session, and what a phase doesn't change.
+-- At most one phase of one session at a stripe, from one state to another; the session's own steps; and what a phase doesn't
+-- change.
 --     FirstPhase      a first phase of a session's call that may begin
 --     LastPhase       the commit of a reservation of the session, with what follows if its key was invalidated
 --     Withdrawal      a reservation of the session is given back
@@ -73,7 +74,8 @@ Forgetting old new = ((key : Bytes) × Invalidates old key new) ⊎ InvalidatesA
 -- at most one phase of this session, or of no session
 abbrev pub IsPhaseOf : ℕ → State → State → Type 0
 IsPhaseOf session old new =
-    (new ≡ old) ⊎ FirstPhase session old new ⊎ LastPhase session old new ⊎ Withdrawal session old new ⊎ PickUp session old new ⊎ Forgetting old new
+    (new ≡ old) ⊎ FirstPhase session old new ⊎ LastPhase session old new ⊎ Withdrawal session old new ⊎ PickUp session old new
+    ⊎ Forgetting old new
 
 -- 2. Own steps.
 
@@ -86,7 +88,8 @@ abbrev pub is_parked : List Joiner → Caller → Bytes → Bool
 is_parked joiners caller key = list_any (λ j. belongs_to caller key j && is_answered j.state) joiners
 
 abbrev pub is_own_step : ℕ → List Joiner → Event → Bool
-is_own_step session joiners (Step caller op key out shared_with reply) = (caller.session == session) && not (is_parked joiners caller key)
+is_own_step session joiners (Step caller op key out shared_with reply) =
+    (caller.session == session) && not (is_parked joiners caller key)
 is_own_step session joiners (Evict key cause) = false
 
 abbrev pub own_steps : ℕ → State → List Event
@@ -114,9 +117,12 @@ pub record IsUniform (session : ℕ) (old new : State) : Type 0 where
   pub next : old.next ≤ new.next
   pub own : (own_steps session new ≡ own_steps session old) ⊎ ((event : Event) × (place : ℕ) × GainsOwn session old new event place)
   pub others : (other : ℕ) → (other == session) ≡ false → own_steps other new ≡ own_steps other old
-  pub reservations : filter (λ r. is_of_others session r.caller) new.reservations ≡ filter (λ r. is_of_others session r.caller) old.reservations
-  pub joins : filter (λ j. is_of_others session j.caller) (map join_claim new.joiners) ≡ filter (λ j. is_of_others session j.caller) (map join_claim old.joiners)
-  pub entries : (key : Bytes) → is_reserved old key ≡ true → is_reserved new key ≡ true → entry_at new.cache key ≡ entry_at old.cache key
+  pub reservations : filter (λ r. is_of_others session r.caller) new.reservations
+      ≡ filter (λ r. is_of_others session r.caller) old.reservations
+  pub joins : filter (λ j. is_of_others session j.caller) (map join_claim new.joiners)
+      ≡ filter (λ j. is_of_others session j.caller) (map join_claim old.joiners)
+  pub entries : (key : Bytes) → is_reserved old key ≡ true → is_reserved new key ≡ true
+      → entry_at new.cache key ≡ entry_at old.cache key
 
 abbrev pub OnePhase : Type 0
 OnePhase = (session : ℕ) (old new : State) → IsReached old → IsPhaseOf session old new → IsUniform session old new

@@ -9,7 +9,8 @@
 --     pinned               the keys that are reserved: their entries can't be evicted
 --     least_used           the victim if there is no room: the least recently used key that isn't pinned, if there is one
 --     next_victim          the victim of an insertion: none if there is room
-use Rattle.std.specs.Prelude.{List, [], ◌∷◌, map, Bool, true, false, ◌&&◌, nat_lt, Option, None, Some, is_none, is_some, if◌then◌else◌}
+use Rattle.std.specs.Prelude.{List, [], ◌∷◌, map, Bool, true, false, ◌&&◌, nat_lt, Option, None, Some, is_none, is_some}
+use Rattle.std.specs.Prelude.{if◌then◌else◌}
 use Rattle.std.specs.FinMap as finite
 use Rattle.std.specs.FinMap.{len}
 use Rattle.jc_model.specs.declared.event.Op.{Op}
@@ -44,7 +45,8 @@ is_use op out = is_none (first_fault out) && uses op out.load
 
 -- the entries after a step at a key: its entry is moved or put to the front, or removed
 abbrev pub used_at : List (Bytes × Bytes) → Bytes → Op → Out → List (Bytes × Bytes)
-used_at entries key op out = if is_use op out then with_entry_first key (entry_after op (finite.find key_cmp key entries) out) entries else entries
+used_at entries key op out =
+    if is_use op out then with_entry_first key (entry_after op (finite.find key_cmp key entries) out) entries else entries
 
 -- 2. The use by a history.
 

@@ -24,7 +24,8 @@
 --     told_to          the state of a join: it waits, was answered, or is told to retry
 --     polled_with      the outcome of a pick-up whose reply was written apart
 --     PicksUp          a joiner asks for its answer
-use Rattle.std.specs.Prelude.{◌≡◌, ◌==◌, ◌-◌, ◌+◌, ℕ, List, [], ◌++◌, length, Bool, true, false, not, ◌&&◌, ◌||◌, IsTrue, Option, None, Some, is_some, is_none, slice_get, option_map, if◌then◌else◌}
+use Rattle.std.specs.Prelude.{◌≡◌, ◌==◌, ◌-◌, ◌+◌, ℕ, List, [], ◌++◌, length, Bool, true, false, not, ◌&&◌, ◌||◌, IsTrue, Option}
+use Rattle.std.specs.Prelude.{None, Some, is_some, is_none, slice_get, option_map, if◌then◌else◌}
 use Rattle.std.specs.List.{list_all}
 use Rattle.std.specs.Cmp.Lexicographic.{pointwise}
 use Rattle.std.specs.FinMap.{len}
@@ -71,11 +72,13 @@ use Rattle.jc_stripe.specs.OrderOfUse.{least_used}
 
 -- a reservation is another session's, or the same call's at another key
 abbrev pub is_other_call : Caller → Bytes → Reservation → Bool
-is_other_call caller key r = not (r.caller.session == caller.session) || ((r.caller.call == caller.call) && not (pointwise ◌==◌ r.key key))
+is_other_call caller key r =
+    not (r.caller.session == caller.session) || ((r.caller.call == caller.call) && not (pointwise ◌==◌ r.key key))
 
 -- a joiner is another session's, or the same call's at another key, also one that has not picked up its answer
 abbrev pub is_other_join : Caller → Bytes → Joiner → Bool
-is_other_join caller key j = not (j.caller.session == caller.session) || ((j.caller.call == caller.call) && not (pointwise ◌==◌ j.key key))
+is_other_join caller key j =
+    not (j.caller.session == caller.session) || ((j.caller.call == caller.call) && not (pointwise ◌==◌ j.key key))
 
 -- the call's number is at least every one of its session here, no reservation and no join of the session has another number, and
 -- there is no step, no reservation and no join of this call at this key
@@ -119,13 +122,16 @@ new_group state caller key op out callers short =
 -- 3. The stripe appends the lawful group of one step, and reports it.
 
 abbrev pub after_group : State → Group → State
-after_group old group = record old { cache = cache_after_group old.cache group; history = old.history ++ events_of (length old.history) group }
+after_group old group =
+    record old { cache = cache_after_group old.cache group; history = old.history ++ events_of (length old.history) group }
 
 -- the eviction of the step's own key is the last event of its group
 abbrev pub own_eviction : ℕ → Group → Option Eviction
-own_eviction place group = option_map (λ cause. record { cause = cause; place = place + (length (events_of place group) - 1) }) group.evicted
+own_eviction place group =
+    option_map (λ cause. record { cause = cause; place = place + (length (events_of place group) - 1) }) group.evicted
 
-pub record Steps (old : State) (caller : Caller) (key : Bytes) (op : Op) (out : Out) (callers : List Caller) (done : StepDone) (new : State) : Type 0 where
+pub record Steps (old : State) (caller : Caller) (key : Bytes) (op : Op) (out : Out) (callers : List Caller) (done : StepDone)
+    (new : State) : Type 0 where
   pub short : Bool
   pub lawful : IsLawful old.config old.cache (new_group old caller key op out callers short)
   pub reply : done.reply ≡ reply_after op (entry_at old.cache key) out
@@ -158,12 +164,18 @@ Begins old caller key op (begun.Done done) new =
     (first_refusal old caller key op ≡ None) × (first_asked old.config op (entry_at old.cache key) ≡ Nobody)
     × Steps old caller key op nothing_said [] done new
 Begins old caller key op (begun.Asks ticket) new =
-    (first_refusal old caller key op ≡ None) × (load_joined old key op ≡ None) × (first_asked old.config op (entry_at old.cache key) ≡ ticket.reservation.first)
+    (first_refusal old caller key op ≡ None) × (load_joined old key op ≡ None)
+    × (first_asked old.config op (entry_at old.cache key) ≡ ticket.reservation.first)
     × (reserves ticket.reservation.first ≡ true)
-    × (ticket ≡ record { reservation = new_reservation old caller key op ticket.reservation.first; asked = false; writer_asked = false })
+    × (ticket ≡ record {
+      reservation = new_reservation old caller key op ticket.reservation.first;
+      asked = false;
+      writer_asked = false;
+    })
     × (new ≡ with_reservation old ticket.reservation)
 Begins old caller key op (begun.Joined join) new =
-    (first_refusal old caller key op ≡ None) × (load_joined old key op ≡ Some join.load) × (join ≡ record { caller = caller; key = key; load = join.load })
+    (first_refusal old caller key op ≡ None) × (load_joined old key op ≡ Some join.load)
+    × (join ≡ record { caller = caller; key = key; load = join.load })
     × (new ≡ with_joiner old join)
 
 -- 5. The last phase.
@@ -173,7 +185,8 @@ abbrev pub after_commit : State → Reservation → ℕ → State
 after_commit old r place = record (without_reservation old r.key) { joiners = after_resolve r.number place old.joiners }
 
 abbrev pub Commits : State → Reservation → Out → StepDone → State → Type 0
-Commits old r out done new = IsOut old r × Steps (after_commit old r done.place) r.caller r.key r.op out (callers_of r.number old.joiners) done new
+Commits old r out done new =
+    IsOut old r × Steps (after_commit old r done.place) r.caller r.key r.op out (callers_of r.number old.joiners) done new
 
 -- 6. A reservation is given back: cache and history stay.
 
@@ -204,6 +217,8 @@ polled_with (picked.NotYet join) reply = polled.NotYet join
 
 abbrev pub PicksUp : State → JoinClaim → Polled → State → Type 0
 PicksUp old join (polled.Answer reply place shared_with) new =
-    IsJoined old join × (told_to old join ≡ Some (state.Answered place shared_with)) × IsSharedStep old join reply place shared_with × (new ≡ without_joiner old join)
+    IsJoined old join × (told_to old join ≡ Some (state.Answered place shared_with)) × IsSharedStep old join reply place shared_with
+    × (new ≡ without_joiner old join)
 PicksUp old join polled.Again new = IsJoined old join × (told_to old join ≡ Some state.Again) × (new ≡ without_joiner old join)
-PicksUp old join (polled.NotYet back) new = IsJoined old join × (told_to old join ≡ Some state.Waiting) × (back ≡ join) × (new ≡ old)
+PicksUp old join (polled.NotYet back) new =
+    IsJoined old join × (told_to old join ≡ Some state.Waiting) × (back ≡ join) × (new ≡ old)

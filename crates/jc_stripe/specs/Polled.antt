@@ -1,4 +1,5 @@
--- The outcome of a pick-up, with the reply that it has written to the caller's buffer.
+-- The outcome of a pick-up, by which a call that has joined a load asks for its answer, with the reply that it has written to the
+-- caller's buffer.
 --     Polled    the answer, the word to retry, or the join, since the load isn't over
 use Rattle.std.specs.Prelude.{ℕ}
 use Rattle.jc_model.specs.declared.event.Reply.{Reply}

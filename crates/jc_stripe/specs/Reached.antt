@@ -1,4 +1,4 @@
--- The invariant of every stripe.
+-- The invariant of every stripe: what is true of each state that its phases reach.
 --     AllAsk         each reservation still asks first whom it asked at first
 --     may_end        the step of a reservation may come after these events
 --     are_beside     no two reservations of a session have different call numbers, or the same key
@@ -18,7 +18,8 @@
 --                    their limits, each reservation still asks what it asked, each joiner that waits still finds its load, and
 --                    the steps of both may still come; only reserved keys are marked
 --     IsOpened       nothing has happened in it yet: it caches what it opens with, and nobody has called
-use Rattle.std.specs.Prelude.{◌≡◌, ◌==◌, ◌+◌, ◌≤◌, ◌<◌, ℕ, List, [], ◌∷◌, length, Ok, IsTrue, Bool, true, false, not, ◌&&◌, ◌||◌, None, Some, All, AllPairs, slice_get}
+use Rattle.std.specs.Prelude.{◌≡◌, ◌==◌, ◌+◌, ◌≤◌, ◌<◌, ℕ, List, [], ◌∷◌, length, Ok, IsTrue, Bool, true, false, not, ◌&&◌, ◌||◌}
+use Rattle.std.specs.Prelude.{None, Some, All, AllPairs, slice_get}
 use Rattle.std.specs.List.{list_all, list_any}
 use Rattle.std.specs.FinMap.{len, from_entries}
 use Rattle.jc_types.specs.declared.config.Config.{Config}

@@ -1,4 +1,4 @@
--- The partner that a first phase asks, and its refusals.
+-- Whom the first phase of a call at a stripe asks first (the loader, the writer or the processor), and why it is refused.
 --     first_by             whom a call without a processor asks first: the loader, if the loader table asks it, otherwise the
 --                          writer
 --     is_wanted            the loader table leaves it to the processor whether its key is loaded
@@ -20,8 +20,10 @@
 --     needs_reservation    the call reserves its key: it asks somebody, and does not join
 --     full_refusal         the refusal of a call that lacks room: the history is full; or, if a full history may end and no
 --                          number is the last one, the call is to be tried again
---     first_refusal        the first refusal whose condition holds: no room, busy (barred, or reserved), too many in flight, too many joiners
-use Rattle.std.specs.Prelude.{ℕ, ◌+◌, length, Bool, true, false, not, ◌&&◌, ◌||◌, Option, None, Some, is_some, is_none, nat_lt, nat_le, if◌then◌else◌}
+--     first_refusal        the first refusal whose condition holds: no room, busy (barred, or reserved), too many in flight, too
+--                          many joiners
+use Rattle.std.specs.Prelude.{ℕ, ◌+◌, length, Bool, true, false, not, ◌&&◌, ◌||◌, Option, None, Some, is_some, is_none, nat_lt}
+use Rattle.std.specs.Prelude.{nat_le, if◌then◌else◌}
 use Rattle.jc_types.specs.declared.caller.Caller.{Caller}
 use Rattle.jc_types.specs.declared.config.Config.{Config}
 use Rattle.jc_types.specs.declared.limits.TheConstants.{STEP_PLACES, HIT_PLACES, RESERVATIONS_MAX, JOINERS_MAX, LAST_NUMBER}
@@ -105,7 +107,8 @@ may_join op = elim (op_kind op) [
 
 abbrev pub load_joined : State → Bytes → Op → Option ℕ
 load_joined state key op =
-    if may_join op && state.config.read_through && is_none (entry_at state.cache key) then load_at (reservation_of state key) else None
+    if may_join op && state.config.read_through && is_none (entry_at state.cache key)
+    then load_at (reservation_of state key) else None
 
 abbrev pub needs_free_key : State → Bytes → Op → Bool
 needs_free_key state key op = not (answers_at_once state.config op (entry_at state.cache key) || is_some (load_joined state key op))
@@ -120,7 +123,9 @@ last_number = LAST_NUMBER
 
 -- the history has these places free, beside the reserved ones, and neither number is the last one
 abbrev pub has_room : State → ℕ → ℕ → Bool
-has_room state call needed = nat_le (length state.history + promised state + needed) state.config.history && nat_lt call last_number && nat_lt state.next last_number
+has_room state call needed =
+    nat_le (length state.history + promised state + needed) state.config.history && nat_lt call last_number
+    && nat_lt state.next last_number
 
 abbrev pub may_hit : State → ℕ → Bytes → Bool
 may_hit state call key = has_room state call HIT_PLACES && not (is_barred state key)
@@ -129,14 +134,17 @@ may_hit state call key = has_room state call HIT_PLACES && not (is_barred state 
 
 -- the refusal of a call that lacks room. If the stripe lives on and neither number is the last one, a place will become free
 abbrev pub full_refusal : State → ℕ → Refusal
-full_refusal state call = if state.lives && nat_lt call last_number && nat_lt state.next last_number then refusal.Busy else refusal.HistoryFull
+full_refusal state call =
+    if state.lives && nat_lt call last_number && nat_lt state.next last_number then refusal.Busy else refusal.HistoryFull
 
 abbrev pub needs_reservation : State → Bytes → Op → Bool
-needs_reservation state key op = reserves (first_asked state.config op (entry_at state.cache key)) && is_none (load_joined state key op)
+needs_reservation state key op =
+    reserves (first_asked state.config op (entry_at state.cache key)) && is_none (load_joined state key op)
 
 abbrev pub first_refusal : State → Caller → Bytes → Op → Option Refusal
 first_refusal state caller key op =
     if not (has_room state caller.call (places_needed (needs_free_key state key op))) then Some (full_refusal state caller.call)
     else (if is_barred state key || (is_reserved state key && needs_free_key state key op) then Some refusal.Busy
     else (if needs_reservation state key op && nat_le RESERVATIONS_MAX (length state.reservations) then Some refusal.TooManyInFlight
-    else (if is_some (load_joined state key op) && nat_le JOINERS_MAX (length state.joiners) then Some refusal.TooManyJoiners else None)))
+    else (if is_some (load_joined state key op) && nat_le JOINERS_MAX (length state.joiners)
+    then Some refusal.TooManyJoiners else None)))

@@ -13,7 +13,8 @@
 --     Renewal         the law: each renewal does so
 --     live_on         the stripe lives on
 --     LivesOn         the laws: a stripe that lives on is reached; and it refuses a call as full only if a number is the last one
-use Rattle.std.specs.Prelude.{◌≡◌, ◌⊎◌, ◌≤◌, ◌+◌, ℕ, List, [], ◌++◌, filter, length, Bool, true, false, not, ◌&&◌, min, nat_le, nat_lt, Option, None, Some}
+use Rattle.std.specs.Prelude.{◌≡◌, ◌⊎◌, ◌≤◌, ◌+◌, ℕ, List, [], ◌++◌, filter, length, Bool, true, false, not, ◌&&◌, min, nat_le}
+use Rattle.std.specs.Prelude.{nat_lt, Option, None, Some}
 use Rattle.std.specs.List.{list_any}
 use Rattle.jc_types.specs.declared.limits.TheConstants.{STEP_PLACES, LAST_NUMBER}
 use Rattle.jc_types.specs.declared.caller.Caller.{Caller}
@@ -52,7 +53,8 @@ RenewsIfFull old new = (is_renewable old ≡ true → Renews old new) × (is_ren
 
 abbrev pub EndsGeneration : State → Option ℕ → List Event → State → Type 0
 EndsGeneration old None events new = (can_renew old ≡ false) × (events ≡ []) × (new ≡ old)
-EndsGeneration old (Some number) events new = Renews old new × (number ≡ min (length old.ended) LAST_NUMBER) × (events ≡ old.history)
+EndsGeneration old (Some number) events new =
+    Renews old new × (number ≡ min (length old.ended) LAST_NUMBER) × (events ≡ old.history)
 
 abbrev pub StaysOrRenews : State → State → Type 0
 StaysOrRenews old new = (new ≡ old) ⊎ Renews old new
@@ -80,5 +82,6 @@ live_on state = record state { lives = true }
 
 pub record LivesOn : Type 0 where
   pub reached : (state : State) → IsReached state → IsReached (live_on state)
-  pub full : (state : State) (caller : Caller) (key : Bytes) (op : Op) → state.lives ≡ true → first_refusal state caller key op ≡ Some HistoryFull
+  pub full : (state : State) (caller : Caller) (key : Bytes) (op : Op) → state.lives ≡ true
+      → first_refusal state caller key op ≡ Some HistoryFull
       → (last_number ≤ caller.call) ⊎ (last_number ≤ state.next)

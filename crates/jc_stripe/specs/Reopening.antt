@@ -13,7 +13,8 @@
 --     opened_stripes    a number of such stripes, numbered from a first number on, each with the entries that it keeps
 --     KeepsOrDrops      the entries that all these stripes open with, and the dropped ones, are the given entries in another order:
 --                       none is lost, and none is there more often than it was given
-use Rattle.std.specs.Prelude.{◌≡◌, ◌==◌, ℕ, zero, suc, ◌+◌, List, [], ◌∷◌, ◌++◌, filter, length, take, Bool, false, not, ◌||◌, Ok, nat_le, if◌then◌else◌}
+use Rattle.std.specs.Prelude.{◌≡◌, ◌==◌, ℕ, zero, suc, ◌+◌, List, [], ◌∷◌, ◌++◌, filter, length, take, Bool, false, not, ◌||◌, Ok}
+use Rattle.std.specs.Prelude.{nat_le, if◌then◌else◌}
 use Rattle.std.specs.List.{list_any}
 use Rattle.std.specs.List.Sorted.{IsPermutation}
 use Rattle.std.specs.FinMap.{from_entries}

@@ -1,4 +1,4 @@
--- A stripe's state.
+-- The state of a stripe, as contracts see it, and what is looked up and changed in it.
 --     Generation          a generation that has ended
 --     State               the stripe as a caller sees it
 --     is_of               whether a key is of this stripe
@@ -18,7 +18,8 @@
 --     IsOut               a reservation is out here: it is the one that the stripe has of its key
 --     IsJoined            a join is out here: its call is among the joiners of its key, and joined this load
 --     IsIdle              no reservation and no join is out
-use Rattle.std.specs.Prelude.{◌≡◌, ◌==◌, ◌||◌, ℕ, ◌+◌, ◌*◌, find, filter, map, count_by, List, [], ◌∷◌, ◌++◌, length, Bool, not, nat_lt, Option, Some, IsSomeAnd, if◌then◌else◌}
+use Rattle.std.specs.Prelude.{◌≡◌, ◌==◌, ◌||◌, ℕ, ◌+◌, ◌*◌, find, filter, map, count_by, List, [], ◌∷◌, ◌++◌, length, Bool, not}
+use Rattle.std.specs.Prelude.{nat_lt, Option, Some, IsSomeAnd, if◌then◌else◌}
 use Rattle.std.specs.List.{list_any}
 use Rattle.std.specs.Cmp.Lexicographic.{pointwise}
 use Rattle.jc_types.specs.declared.caller.Caller.{Caller}
@@ -89,7 +90,8 @@ without_mark key marked = filter (λ k. not (pointwise ◌==◌ key k)) marked
 
 -- a key's mark goes with its reservation
 abbrev pub without_reservation : State → Bytes → State
-without_reservation state key = record state { reservations = without_key key state.reservations; marked = without_mark key state.marked }
+without_reservation state key =
+    record state { reservations = without_key key state.reservations; marked = without_mark key state.marked }
 
 -- a marked key's entry, and what its reservation leaves, answer no call that begins from now on
 abbrev pub is_marked : State → Bytes → Bool
@@ -98,7 +100,8 @@ is_marked state key = list_any (pointwise ◌==◌ key) state.marked
 abbrev pub with_mark : State → Bytes → State
 with_mark state key =
     if is_marked state key then state
-    else (if nat_lt (length state.marked) RESERVATIONS_MAX then record state { marked = state.marked ++ key ∷ [] } else record state { marked = map (λ r. r.key) state.reservations })
+    else (if nat_lt (length state.marked) RESERVATIONS_MAX then record state { marked = state.marked ++ key ∷ [] }
+    else record state { marked = map (λ r. r.key) state.reservations })
 
 abbrev pub is_barred : State → Bytes → Bool
 is_barred state key = state.shut || is_marked state key

@@ -12,7 +12,8 @@ use Rattle.jc_stripe.specs.Refusals.{first_asked, reserves}
 use Rattle.jc_stripe.specs.Phases.{is_other_call, is_other_join}
 
 abbrev pub is_clear : State → Caller → Bytes → Bool
-is_clear state caller key = is_of state key && list_all (is_other_call caller key) state.reservations && list_all (is_other_join caller key) state.joiners
+is_clear state caller key =
+    is_of state key && list_all (is_other_call caller key) state.reservations && list_all (is_other_join caller key) state.joiners
 
 abbrev pub asks_outside : State → Bytes → Op → Bool
 asks_outside state key op = reserves (first_asked state.config op (entry_at state.cache key))

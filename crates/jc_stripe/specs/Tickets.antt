@@ -1,4 +1,5 @@
--- Tickets and joins, as data.
+-- What contracts see of the tickets that stand for a stripe's reservations, of their asks, and of the joins that stand for joined
+-- loads.
 --     TicketClaim       the ticket of a reservation: the whole reservation, whether the one whom it asks first was asked, and
 --                       whether the writer was asked after a processor
 --     Claim             the content of an ask for a reservation: the reservation's key and number, and whom the ask is of

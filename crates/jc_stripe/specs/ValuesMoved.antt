@@ -1,4 +1,4 @@
--- The values that came into a stripe with a step, and those that left it.
+-- The values that came into a stripe with a step, and those that left it, as a desk reports them to its driver.
 --     MovesMade            the values as a driver sees them: whether the key's entry has a new value, the value that it lost, the
 --                          entry that was evicted for the step, and why the step's own entry was evicted after it, if it was
 --     nothing_moved        no value came, and none left
@@ -11,8 +11,8 @@
 --     HasMovesIfDone       the values that the step of a first phase moved, if the call is done
 --     value_dropped        the value that an entry had, if it is gone
 --     moves_of_drop        the eviction of an entry because its key was invalidated, by the value that it had; nothing, without one
---     DropsValue           an invalidation of a key, or a withdrawal, moved the value of the key's entry, if that was evicted, and no
---                          other one
+--     DropsValue           an invalidation of a key, or a withdrawal, moved the value of the key's entry, if that was evicted, and
+--                          no other one
 --     swept_key            the key whose entry a sweep evicts
 --     SweepsValue          a sweep moved the value of that entry, and no other one
 use Rattle.std.specs.Prelude.{◌≡◌, ◌==◌, ◌&&◌, Bool, false, not, Option, None, Some, is_some, option_map, if◌then◌else◌}
@@ -54,9 +54,11 @@ victim_entry state (Some key) = option_map (λ value. (key, value)) (entry_at st
 
 abbrev pub KeepsOtherEntries : State → Bytes → Option Bytes → State → Type 0
 KeepsOtherEntries old key victim new =
-    (other : Bytes) → pointwise ◌==◌ key other ≡ false → (victim ≡ Some other → ⊥) → entry_at new.cache other ≡ entry_at old.cache other
+    (other : Bytes) → pointwise ◌==◌ key other ≡ false → (victim ≡ Some other → ⊥)
+    → entry_at new.cache other ≡ entry_at old.cache other
 
-pub record MovesValues (old : State) (key : Bytes) (victim : Option Bytes) (evicted : Option Eviction) (moves : MovesMade) (new : State) : Type 0 where
+pub record MovesValues (old : State) (key : Bytes) (victim : Option Bytes) (evicted : Option Eviction) (moves : MovesMade)
+    (new : State) : Type 0 where
   pub kept : moves.kept ≡ is_new_value (entry_at old.cache key) (entry_at new.cache key)
   pub left : moves.left ≡ value_lost (entry_at old.cache key) (entry_at new.cache key)
   pub victim_is : moves.victim ≡ victim_entry old victim

@@ -24,6 +24,7 @@ mod log;
 mod marks;
 pub mod phase_laws;
 mod reopening;
+pub mod same;
 mod stripe;
 mod stripe_tables;
 mod ticket;

@@ -37,6 +37,13 @@ impl Marks {
         })
     }
 
+    /// The marked keys, in the order of marking.
+    pub(crate) fn keys(&self) -> &[Key]
+        ensures { result.now ≡ self.now }
+    {
+        &self.keys
+    }
+
     /// Whether a key is marked. As a rule there is no mark at all.
     #[inline(always)]
     pub(crate) fn contains(&self, key: &Key) -> bool

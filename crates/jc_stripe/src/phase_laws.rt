@@ -62,8 +62,9 @@ pub fn own_numbers()
     ensures { OwnNumbers }
 {}
 
-/// A key is forgotten once it was invalidated, and stays so in every phase of every session until a call begins at it; that call
-/// finds no entry, and joins no load. So no call that begins after an invalidation is answered from what was there before.
+/// A key is forgotten once it was invalidated, and stays so in every phase of every session, and at the end of a generation, until a
+/// call begins at it; that call finds no entry, and joins no load. So it is over any number of phases: no call that begins after an
+/// invalidation is answered from what was there before.
 pub fn forgets()
     ensures { Forgets }
 {}

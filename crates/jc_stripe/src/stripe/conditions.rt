@@ -10,7 +10,8 @@ ghost use Rattle.jc_stripe.specs.Tests.{is_clear, asks_outside};
 
 use super::Stripe;
 use crate::call_rules::asks_anybody;
-use crate::ticket::{First, Join, Reservation};
+use crate::same::is_same_reservation;
+use crate::ticket::{Join, Reservation};
 use jc_history::History;
 use jc_inflight::Joiner;
 use jc_model::Op;
@@ -46,34 +47,6 @@ fn are_other_joins(joiners: &[Joiner], caller: Caller, key: &Key) -> bool
     ensures { result ≡ list_all (is_other_join caller key.now) joiners.now }
 {
     joiners.iter().all(|j| is_other_join(j, caller, key))
-}
-
-/// Whether two operations are the same.
-fn is_same_op(first: &Op, second: &Op) -> bool
-    ensures { IsTrue result ↔ (first.now ≡ second.now) }
-{
-    *first == *second
-}
-
-/// Whether two calls ask the same first: the same partner, for the same change or entry.
-fn is_same_first(first: &First, second: &First) -> bool
-    ensures { IsTrue result ↔ (first.now ≡ second.now) }
-{
-    *first == *second
-}
-
-/// Whether two reservations are the same.
-fn is_same(first: &Reservation, second: &Reservation) -> bool
-    ensures { IsTrue result ↔ (first.now ≡ second.now) }
-{
-    let (one, other) = (first.caller, second.caller);
-    if first.number != second.number || one.session != other.session || one.call != other.call {
-        return false;
-    }
-    if first.key != second.key || !is_same_op(&first.op, &second.op) {
-        return false;
-    }
-    is_same_first(&first.first, &second.first)
 }
 
 /// The call's joiner at a key, if it is among the joiners.
@@ -153,7 +126,7 @@ impl Stripe {
         ensures { IsTrue result ↔ IsOut self.now reservation.now }
     {
         match self.reservations.find(&reservation.key) {
-            Some(held) => is_same(held, reservation),
+            Some(held) => is_same_reservation(held, reservation),
             None => false,
         }
     }

@@ -30,6 +30,13 @@ impl Stripe {
         self.joiners.list()
     }
 
+    /// The reserved keys that were invalidated since they were reserved, in the order of marking.
+    pub fn marks(&self) -> &[Key]
+        ensures { result.now ≡ self.now.marked }
+    {
+        self.marks.keys()
+    }
+
     /// The number of the next reservation.
     pub fn next_number(&self) -> u64
         ensures { result ≡ self.now.next }
