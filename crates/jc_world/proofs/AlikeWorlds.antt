@@ -8,7 +8,8 @@ use Rattle.jc_stripe.specs.Polled as polled
 use Rattle.jc_stripe.specs.Reopening.{dropped, opened_stripes}
 use Rattle.jc_world.specs.declared.event.WorldEvent.TheVariants as event
 use Rattle.jc_world.specs.declared.event.Outcome.TheVariants as outcome
-use Rattle.jc_world.specs.Events.{Happens, Step, Run, StartsAs, EndsAs, Picks, eviction_place, invalidated_as, with_call, with_look, after_answer, after_change, after_process, run_result, after_report, after_reports, reported_at, with_met_by, keys_reported, reported_now, with_stripe, with_phase, with_settled, fault_in, new_progress, with_new_part, with_join, without_part, with_commit, without_join, without_call, over_by, step_of, not_over}
+use Rattle.jc_world.specs.Events.{Happens, StartsAs, EndsAs, Picks, eviction_place, invalidated_as, with_call, with_look, after_answer, after_change, after_process, run_result, after_report, after_reports, reported_at, with_met_by, keys_reported, reported_now, with_stripe, with_phase, with_settled, fault_in, new_progress, with_new_part, with_join, without_part, with_commit, without_join, without_call, over_by, step_of, not_over}
+use Rattle.jc_world.specs.Runs.{Step, Run}
 use Rattle.jc_world.specs.Reopening.{foreign_reopened, after_reopening}
 use Rattle.jc_world.specs.Alike.{IsLike, AreLike, WorldsAlike}
 use Rattle.jc_world.proofs.Facts.{none_some, some_back}

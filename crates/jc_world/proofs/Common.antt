@@ -106,7 +106,8 @@ pub use Rattle.jc_world.specs.Audit.{IsCache, differs, differing, cache_in, cach
 pub use Rattle.jc_world.specs.Calls.{Task, at_each, put_each_of, SweepState, sweep_of, keeps_open, CallState, new_call, has_number, is_of_session, op_in, op_at, op_found, op_or_found, op_for, is_open, open_in, open_keys, is_going, has_too_many_keys, opened, going_on, over_of, with_met, settled, replaced, settle, over_settled, drop_call, has_looked, has_looked_at_each, next_sweep, with_swept_keys, look}
 pub use Rattle.jc_world.specs.Coherent.{IsCoherentAt, Coherent, CoherentAsTold, all_hold}
 pub use Rattle.jc_world.specs.Ending.{IsLeftStripe, AreLeft, out_at, IsPartOut, HasHeld, IsJoinOut, HasJoins, NoneReserved}
-pub use Rattle.jc_world.specs.Events.{with_stripe, with_phase, step_of, not_over, shown_begun, fault_in, with_settled, over_by, with_met_by, without_call, with_look, asks_as, new_progress, new_part, with_part, with_new_part, without_part, with_join, without_join, BeginsAs, ReservesAs, StartsAs, RefusesAs, EndsAs, eviction_place, invalidated_as, Picks, with_heard, foreign_committed, with_commit, with_loaded, after_answer, with_change, after_change, with_report, after_report, reported_part, reported_in, reported_key, reported_keys, reported_now, keys_reported, reported_at, after_reports, run_result, progress_after, after_process, Happens, Step, Run, RunAppending, is_fit, AllFit}
+pub use Rattle.jc_world.specs.Events.{with_stripe, with_phase, step_of, not_over, shown_begun, fault_in, with_settled, over_by, with_met_by, without_call, with_look, asks_as, new_progress, new_part, with_part, with_new_part, without_part, with_join, without_join, BeginsAs, ReservesAs, StartsAs, RefusesAs, EndsAs, eviction_place, invalidated_as, Picks, with_heard, foreign_committed, with_commit, with_loaded, after_answer, with_change, after_change, with_report, after_report, reported_part, reported_in, reported_key, reported_keys, reported_now, keys_reported, reported_at, after_reports, run_result, progress_after, after_process, Happens}
+pub use Rattle.jc_world.specs.Runs.{Step, Run, RunAppending, is_fit, AllFit}
 pub use Rattle.jc_world.specs.Reopening.{keys_dropped, stripes_reopened, after_reopening}
 pub use Rattle.jc_world.specs.Fits.{is_playable, is_new, is_free, may_start, may_leave, passes_in, waits_at, is_in_batch, batch_of, writer_batch, is_asked_in, may_change, is_being_written, may_report, is_to_look, may_look, may_invalidate, fits}
 pub use Rattle.jc_world.specs.Gathered.{or_else, found_after}

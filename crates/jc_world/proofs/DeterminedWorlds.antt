@@ -9,7 +9,8 @@ use Rattle.jc_world.specs.declared.command.CallKind.{CallKind}
 use Rattle.jc_world.specs.declared.event.WorldEvent.TheVariants as event
 use Rattle.jc_world.specs.declared.event.Outcome.TheVariants as outcome
 use Rattle.jc_world.proofs.SortedKeys.{sorted-once}
-use Rattle.jc_world.specs.Events.{Happens, Step, Run, after_answer, after_change, after_process, run_result, shown_process, after_reports, with_met_by, keys_reported, reported_now, StartsAs, RefusesAs, EndsAs, Picks, eviction_place, invalidated_as, with_stripe, with_phase, step_of, with_settled, fault_in, asks_as, new_progress, with_new_part, with_join, with_commit, without_part, without_join, not_over, over_by, with_look}
+use Rattle.jc_world.specs.Events.{Happens, after_answer, after_change, after_process, run_result, shown_process, after_reports, with_met_by, keys_reported, reported_now, StartsAs, RefusesAs, EndsAs, Picks, eviction_place, invalidated_as, with_stripe, with_phase, step_of, with_settled, fault_in, asks_as, new_progress, with_new_part, with_join, with_commit, without_part, without_join, not_over, over_by, with_look}
+use Rattle.jc_world.specs.Runs.{Step, Run}
 use Rattle.jc_world.specs.Determinism.{has_memory, have_memory}
 use Rattle.jc_world.proofs.DeterminedStripes.{begun_amply, begins-determined, end-determined, gives_back-determined}
 use Rattle.jc_world.proofs.Facts.{some_back}

@@ -16,7 +16,7 @@ use Rattle.jc_stripe.specs.OrderOfUse.{by_use}
 use Rattle.jc_stripe.specs.State.{State}
 use Rattle.jc_world.specs.declared.event.Shown.{Shown}
 use Rattle.jc_world.specs.declared.event.WorldEvent.{WorldEvent}
-use Rattle.jc_world.specs.Events.{Run}
+use Rattle.jc_world.specs.Runs.{Run}
 use Rattle.jc_world.specs.World.{WorldState}
 
 -- 1. Stripes.

@@ -1,4 +1,5 @@
--- What an audit shows of a world.
+-- What the audit of a world shows (`World::audit`): what is cached, which entries aren't the store's, and that the order of all
+-- events is one legal history.
 --     IsCache       a map of all that is cached, over all stripes
 --     differs       an entry that isn't the store's, while no writer's change of its key waits for its commit
 --     differing     the keys of such entries

@@ -1,17 +1,19 @@
--- Calls under way: what each does at its keys. A key is open in a call until it has its reply or its last refusal there.
+-- Calls under way in a world: what each does at its keys. A key is open in a call until it has its reply or its last refusal there.
 --     Task              a key, and what is done there as long as it is open
 --     at_each           an operation at each of some keys
 --     put_each_of       a `Put` of each of some entries
---     tasks             what a command does at each of its keys, in their order. Those of `removeAll()` and `clear()` are found stripe
---                       by stripe
+--     tasks             what a command does at each of its keys, in their order. Those of `removeAll()` and `clear()` are found
+--                       stripe by stripe
 --     kind_of           how the call of a command takes its keys
 --     is_bulk           a call of a kind has many keys
---     keeps_open        a key of a call of a kind that meets a refusal stays open, to be tried again: in a call of one key it doesn't
+--     keeps_open        a key of a call of a kind that meets a refusal stays open, to be tried again: in a call of one key it
+--                       doesn't
 --     has_too_many      tasks are more than a call may have keys
 --     SweepState        what a call that takes the keys that are cached does at each key that it finds, and the stripes at which it
 --                       has looked
 --     sweep_of          the sweep of a command that takes the keys that are cached, before its first look; none of another command
---     CallState         a call under way: who calls, how it takes its keys, what it does, its sweep of the stripes, and what it has met
+--     CallState         a call under way: who calls, how it takes its keys, what it does, its sweep of the stripes, and what it has
+--                       met
 --     new_call          a call that has just begun
 --     has_too_many_keys
 --                       a call names too many keys: it is refused whole
@@ -28,9 +30,9 @@
 --                       the open keys of tasks, and of a call, in their order
 --     going_on          a call, if it isn't over
 --     over_of           that a call of many keys is over, with its cause, if it is: no key of it is open, and no look is left
---     cause_after       the first fault, or refusal that isn't put off, that a call of a kind has met, once it meets this or nothing. A call
---                       of one key doesn't keep it, since it is answered with it, nor does an `invokeAll`, each key of which has a result
---                       of its own
+--     cause_after       the first fault, or refusal that isn't put off, that a call of a kind has met, once it meets this or
+--                       nothing. A call of one key doesn't keep it, since it is answered with it, nor does an `invokeAll`, each key
+--                       of which has a result of its own
 --     with_met          a call that meets this
 --     settled           a call once a key of it has its reply or last refusal, and it has met this by it
 --     replaced          the calls, once of the one with this number is left what there is
@@ -46,7 +48,8 @@
 --     with_swept_keys   a call that has looked at a stripe and taken its keys, in a cache of this number of stripes
 --     look              the calls under way once a call has looked at a stripe and taken these keys: it is over if it has looked at
 --                       each stripe, and no key of it is open
-use Rattle.std.specs.Prelude.{◌==◌, ◌&&◌, ◌||◌, ℕ, zero, suc, List, [], ◌∷◌, ◌++◌, length, nat_lt, Bool, true, false, not, Option, None, Some, find, filter, map, is_some, option_map, if◌then◌else◌}
+use Rattle.std.specs.Prelude.{◌==◌, ◌&&◌, ◌||◌, ℕ, zero, suc, List, [], ◌∷◌, ◌++◌, length, nat_lt, Bool, true, false, not, Option}
+use Rattle.std.specs.Prelude.{None, Some, find, filter, map, is_some, option_map, if◌then◌else◌}
 use Rattle.std.specs.List.{cons_option, list_any}
 use Rattle.std.specs.Map.{keys_of, lookup, set_value}
 use Rattle.std.specs.Option.{option_flatten, option_or}
@@ -61,7 +64,8 @@ use Rattle.jc_model.specs.Cache.{Bytes}
 use Rattle.jc_world.specs.declared.command.CallKind.{CallKind}
 use Rattle.jc_world.specs.declared.command.CallKind.TheVariants as kind
 use Rattle.jc_world.specs.declared.command.Command.{Command}
-use Rattle.jc_world.specs.declared.command.Command.TheVariants.{Single, GetAll, PutAll, RemoveAll, RemoveEvery, Clear, LoadAll, InvokeAll}
+use Rattle.jc_world.specs.declared.command.Command.TheVariants.{Single, GetAll, PutAll, RemoveAll, RemoveEvery, Clear, LoadAll}
+use Rattle.jc_world.specs.declared.command.Command.TheVariants.{InvokeAll}
 use Rattle.jc_world.specs.declared.event.Over.{Over}
 
 -- 1. Commands.

@@ -1,4 +1,5 @@
--- Coherence, the second half of the headline.
+-- Coherence of a world, the second half of the headline: what is cached is the store's, but for keys whose write isn't committed
+-- yet.
 --     IsCoherentAt   what is cached for a key is the store's, unless its writer has changed the store and its call isn't committed
 --     Coherent       that is so of each key
 --     CoherentAsTold that is so of each key that isn't untold

@@ -1,4 +1,4 @@
--- Runs in which memory was there are determined by their events.
+-- The law that two runs of one world with the same events show the same, as long as no allocation for a new entry fails.
 --     cause_has_memory       the cause of an eviction isn't that an allocation failed
 --     eviction_has_memory    that is so of an eviction, if one was made
 --     has_memory             the same of what was shown: no new entry was lost because an allocation for it failed
@@ -15,7 +15,7 @@ use Rattle.jc_world.specs.declared.event.Outcome.TheVariants as outcome
 use Rattle.jc_world.specs.declared.event.Shown.{Shown}
 use Rattle.jc_world.specs.declared.event.WorldEvent.{WorldEvent}
 use Rattle.jc_world.specs.World.{WorldState}
-use Rattle.jc_world.specs.Events.{Run}
+use Rattle.jc_world.specs.Runs.{Run}
 
 abbrev pub cause_has_memory : Cause → Bool
 cause_has_memory Full = true

@@ -1,10 +1,11 @@
--- What is still out in the stripes of a world that ends. No contract of a public call cites this.
+-- The end of a world, at which each ticket and each join is spent: what is still out in its stripes. No contract of a public
+-- function cites this.
 --     IsLeftStripe   a stripe of a world that ends: it is reached
 --     AreLeft        there is a stripe for each number
 --     out_at         the stripe of a key
 --     IsPartOut      the reservation of a held key is out in the stripe of its key
---     HasHeld        each held key's is, each reservation of a stripe has its key, and after a processor the writer is asked exactly
---                    if it has to be
+--     HasHeld        each held key's is, each reservation of a stripe has its key, and after a processor the writer is asked
+--                    exactly if it has to be
 --     IsJoinOut      a join has its joiner in the stripe of its key
 --     HasJoins       each join has, and is of the call and the key by which it is found
 --     NoneReserved   no key of any stripe is reserved

@@ -4,12 +4,14 @@
 --     step_of                     what is shown of a step, but for its stripe
 --     not_over                    what is shown of an event with which no call of many keys is over: its outcome alone
 --     with_call                   the world once a call has begun: it is under way, unless it is over at once
---     shown_begun                 what the beginning of a call shows: it is refused whole, or it has begun, and is over if it has no keys
+--     shown_begun                 what the beginning of a call shows: it is refused whole, or it has begun, and is over if it has
+--                                 no keys
 --     fault_in                    the fault that a reply is, if it is one
---     with_settled                the world in which a key of a call has its reply or last refusal, and the call has met this by it:
---                                 without the call if it is over with that
---     over_by                     that a call of many keys is over with an outcome at a key, if that settles its last open one: a step's
---                                 or a joined load's reply, or a refusal that isn't put off. The call has met it if it is a fault or refusal
+--     with_settled                the world in which a key of a call has its reply or last refusal, and the call has met this by
+--                                 it: without the call if it is over with that
+--     over_by                     that a call of many keys is over with an outcome at a key, if that settles its last open one: a
+--                                 step's or a joined load's reply, or a refusal that isn't put off. The call has met it if it is a
+--                                 fault or refusal
 --     with_met_by                 the world in which a call has met this
 --     without_call                the world without a call that leaves
 --     with_look                   the world in which a call has looked at a stripe, and taken these keys
@@ -17,7 +19,8 @@
 --     asks_as                     what is shown of a key that was just reserved
 --     new_part                    what is kept of a key that was just reserved
 --     with_part, without_part     the world with this part of a key, and with none
---     with_new_part            the world in which a call has reserved its key. If it has no entry, no write of others counts any longer
+--     with_new_part            the world in which a call has reserved its key. If it has no entry, no write of others counts any
+--                              longer
 --     foreign_committed           the foreign keys, once one is committed: it is one if somebody has lied about it, and none if its
 --                                 commit leaves what the store holds, or nothing
 --     with_commit                 the world once a key is committed
@@ -31,7 +34,8 @@
 --     with_progress               the world with another progress of a reserved key
 --     with_heard                  the progress once whoever was asked has answered, honestly or not
 --     with_loaded, with_change, with_report
---                                 the progress once the loader has answered, once the writer has changed the store, and once it has returned
+--                                 the progress once the loader has answered, once the writer has changed the store, and once it has
+--                                 returned
 --     after_answer                the world once the loader has answered
 --     after_change                the world once the writer has changed the store: no write of others from before counts any longer
 --     after_report                the world once the writer has returned for a key
@@ -48,16 +52,14 @@
 --     after_process               the world once the processor has run
 --     shown_process               what a processor's run shows
 --     eviction_place              where the stripe evicted an invalidated key, if its history is longer by that
---     invalidated_as              what is shown of an invalidation: a reserved key is marked, and any other one's entry evicted, if there is one
---     Happens                     what an event that fits may show and leave. A call of many keys is over with the event after which none of
---                                 its keys is open and no look is left; a call that leaves, or is refused whole, is given up instead
---     Step                        one event: one that doesn't fit is shown as a fault and changes nothing
---     Run                         events one after another
---     RunAppending                the same, and what they show is appended to a list
---     is_fit, all_fit             an outcome is not the fault of an event that doesn't fit, and none of those that are shown is
---     AllFit                      whatever the world may choose, each of these events fits when it comes
-use Rattle.std.specs.Prelude.{◌≡◌, ◌⊎◌, ℕ, List, [], ◌∷◌, ◌++◌, length, drop, Bool, true, false, not, ◌||◌, Option, None, Some, is_none, nat_lt, map, option_map, slice_get, slice_set, if◌then◌else◌}
-use Rattle.std.specs.List.{filter_map, list_all}
+--     invalidated_as              what is shown of an invalidation: a reserved key is marked, and any other one's entry evicted, if
+--                                 there is one
+--     Happens                     what an event that fits may show and leave. A call of many keys is over with the event after
+--                                 which none of its keys is open and no look is left; a call that leaves, or is refused whole, is
+--                                 given up instead
+use Rattle.std.specs.Prelude.{◌≡◌, ℕ, List, [], ◌∷◌, ◌++◌, length, drop, Bool, true, false, not, ◌||◌, Option, None, Some, is_none}
+use Rattle.std.specs.Prelude.{nat_lt, map, option_map, slice_get, slice_set, if◌then◌else◌}
+use Rattle.std.specs.List.{filter_map}
 use Rattle.std.specs.FinMap.{get, insert, remove}
 use Rattle.jc_types.specs.declared.caller.Caller.{Caller}
 use Rattle.jc_types.specs.declared.refusal.Refusal.{Refusal}
@@ -100,13 +102,17 @@ use Rattle.jc_world.specs.declared.event.Shown.{Shown}
 use Rattle.jc_world.specs.declared.event.Stepped.{Stepped}
 use Rattle.jc_world.specs.declared.reports.ReportedKey.{ReportedKey}
 use Rattle.jc_world.specs.declared.reports.WriterBatch.{WriterBatch}
-use Rattle.jc_world.specs.Calls.{CallState, SweepState, open_keys, keeps_open, op_at, new_call, has_too_many_keys, opened, over_of, settle, over_settled, meet, drop_call, with_swept_keys, look}
+use Rattle.jc_world.specs.Calls.{CallState, SweepState, open_keys, keeps_open, op_at, new_call, has_too_many_keys, opened, over_of}
+use Rattle.jc_world.specs.Calls.{settle, over_settled, meet, drop_call, with_swept_keys, look}
 use Rattle.jc_world.specs.declared.event.Part.{Part}
 use Rattle.jc_world.specs.declared.event.PartProgress.{PartProgress}
-use Rattle.jc_world.specs.World.{WorldState, home, stripe_for, open_call, of_call, cached_entry, part_of, Parts, waits_for_report, has_changed, is_misled, join_of, join_key, out_of_part, writer_change, with_foreign, without_foreign, with_doubt}
-use Rattle.jc_world.specs.Premises.{is_agreed, read_answer, changed_to, report_for, is_true_load, is_true_report, with_loader, with_writer, load_from}
+use Rattle.jc_world.specs.World.{WorldState, home, stripe_for, open_call, of_call, cached_entry, part_of, Parts, waits_for_report}
+use Rattle.jc_world.specs.World.{has_changed, is_misled, join_of, join_key, out_of_part, writer_change, with_foreign}
+use Rattle.jc_world.specs.World.{without_foreign, with_doubt}
+use Rattle.jc_world.specs.Premises.{is_agreed, read_answer, changed_to, report_for, is_true_load, is_true_report, with_loader}
+use Rattle.jc_world.specs.Premises.{with_writer, load_from}
 use Rattle.jc_world.specs.declared.process.ShownRun.{ShownRun as ProcessShown}
-use Rattle.jc_world.specs.Fits.{fits, is_in_batch, writer_batch}
+use Rattle.jc_world.specs.Fits.{is_in_batch, writer_batch}
 use Rattle.jc_world.specs.Reopening.{keys_dropped, after_reopening}
 
 -- 1. What a phase leaves.
@@ -467,35 +473,3 @@ Happens old (event.Invalidate key) seen new =
     × (new ≡ record (with_phase old key from to) { is_fresh = false })
 Happens old (event.Reopen config) seen new =
     (seen ≡ not_over (outcome.Reopened (keys_dropped config old))) × (new ≡ after_reopening config old)
-
--- 5. Steps and runs.
-
--- what happens, if it fits
-abbrev pub Step : WorldState → WorldEvent → Shown → WorldState → Type 0
-Step old e seen new =
-    ((fits old e ≡ true) × Happens old e seen new)
-    ⊎ ((fits old e ≡ false) × (seen ≡ not_over outcome.Unfit) × (new ≡ old))
-
-abbrev pub Run : WorldState → List WorldEvent → List Shown → WorldState → Type 0
-Run old [] [] new = new ≡ old
-Run old (e ∷ es) (s ∷ ss) new = (mid : WorldState) × Step old e s mid × Run mid es ss new
-Run old [] (s ∷ ss) new = ⊥
-Run old (e ∷ es) [] new = ⊥
-
-abbrev pub RunAppending : WorldState → List WorldEvent → List Shown → List Shown → WorldState
-    → Type 0
-RunAppending old events before after new =
-    (seen : List Shown) × Run old events seen new × (after ≡ before ++ seen)
-
--- 6. Events that fit.
-
-abbrev pub is_fit : Outcome → Bool
-is_fit outcome.Unfit = false
-is_fit o = true
-
-abbrev pub all_fit : List Shown → Bool
-all_fit seen = list_all (λ s. is_fit s.outcome) seen
-
-abbrev pub AllFit : WorldState → List WorldEvent → Type 0
-AllFit old events =
-    (seen : List Shown) (new : WorldState) → Run old events seen new → all_fit seen ≡ true

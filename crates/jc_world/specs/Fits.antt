@@ -1,4 +1,4 @@
--- When an event fits.
+-- When an event fits: whether a call, an outside answer or any other event of a world may happen in the world's present state.
 --     is_single          an operation is a call by itself: each but `LoadAll`
 --     is_playable        a command that a world plays: one operation that is a call by itself, or one on many keys
 --     is_new             a call's number is above all before it
@@ -8,18 +8,19 @@
 --     passes_in          in these parts a call has reserved a key, and the part passes a test
 --     waits_at           a call has reserved a key, the writer was asked for it and hasn't returned
 --     is_in_batch        a part is among those for which the writer is asked at once
---     batch_of           for which keys a call of a kind has the writer asked now, by whether a key of it waits for its processor, and
---                        whether one waits for a write
---     writer_batch       for which keys a call has the writer asked now: for all together; but in an `invokeAll` for none while a key of it
---                        waits for its processor, then for the writes together, and once it has returned for these for the deletes
+--     batch_of           for which keys a call of a kind has the writer asked now, by whether a key of it waits for its processor,
+--                        and whether one waits for a write
+--     writer_batch       for which keys a call has the writer asked now: for all together; but in an `invokeAll` for none while a
+--                        key of it waits for its processor, then for the writes together, and once it has returned for these for
+--                        the deletes
 --     is_asked_in        a key of a call under way is among these
 --     may_change         so it is, if the call is under way
 --     is_being_written   so it is of the call with this number
 --     may_report         so it is of an open key of the call
 --     is_to_look         a sweep hasn't looked at a stripe yet
 --     may_look           a call takes the keys that are cached, and hasn't looked at this one, in a cache of this number of stripes
---     may_invalidate     a key may be invalidated at its stripe: it is reserved, or has no entry, or a place of the history is free for its
---                        eviction. So no stripe of a world is ever shut
+--     may_invalidate     a key may be invalidated at its stripe: it is reserved, or has no entry, or a place of the history is free
+--                        for its eviction. So no stripe of a world is ever shut
 --     fits               an event fits
 use Rattle.std.specs.Prelude.{ℕ, Bool, true, false, not, ◌&&◌, ◌||◌, Option, None, Some, is_some, is_none, nat_lt, if◌then◌else◌}
 use Rattle.std.specs.List.{list_all, list_any}
@@ -42,7 +43,9 @@ use Rattle.jc_world.specs.declared.event.WorldEvent.TheVariants as event
 use Rattle.jc_world.specs.declared.reports.WriterBatch.{WriterBatch}
 use Rattle.jc_world.specs.declared.reports.WriterBatch.TheVariants as batch
 use Rattle.jc_world.specs.Calls.{CallState, SweepState, has_looked, open_keys, op_at}
-use Rattle.jc_world.specs.World.{WorldState, is_busy, is_idle, open_call, of_call, part_of, Parts, is_free_of, waits_for_load, waits_for_report, waits_for_write, is_all_answered, is_untouched, is_joined, has_progress, waits_for_process, stripe_for}
+use Rattle.jc_world.specs.World.{WorldState, is_busy, is_idle, open_call, of_call, part_of, Parts, is_free_of, waits_for_load}
+use Rattle.jc_world.specs.World.{waits_for_report, waits_for_write, is_all_answered, is_untouched, is_joined, has_progress}
+use Rattle.jc_world.specs.World.{waits_for_process, stripe_for}
 
 -- the operations that are calls by themselves: the other one is a key of a bulk call
 abbrev pub is_single : Op → Bool

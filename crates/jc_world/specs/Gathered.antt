@@ -1,4 +1,4 @@
--- How an audit gathers what is cached. No contract of a public call cites this.
+-- How the audit of a world gathers what its stripes cache. No contract of a public function cites this.
 --     or_else          the first of two values that is there
 --     found_after      what the last of some stripes that caches a key caches for it, or what was found before them
 use Rattle.std.specs.Prelude.{List, [], ◌∷◌, Option, None, Some}

@@ -1,4 +1,5 @@
--- The headline, over every run.
+-- The headline, as laws over every run of a world: the order of all events is one legal history from the last opening on, and with
+-- write-through on the world stays coherent, but for untold keys.
 --     IsOpeningStripe   nothing has happened in a stripe yet, and what it caches is its opening
 --     IsOpeningWorld    nothing has happened in a world yet. Its stripes may cache entries from before, and its store has any; the
 --                       premises are taken to hold only if the one agrees with the other
@@ -8,20 +9,21 @@
 --     is_reopening      an outcome says that the cache was opened again
 --     reopens           one of these does
 --     ReachesSince      after a list of events, of which none opened it again, an opening world is at this state
---     StaysLegal        after every list of events the order is one legal history from what the cache opened with last, what is cached
---                       is what it leaves, and each stripe's history is its part of the order
---     StaysCoherent     after every list of events, if write-through is on, and the last opening was coherent but for foreign keys, the
---                       world is coherent, but for untold keys
+--     StaysLegal        after every list of events the order is one legal history from what the cache opened with last, what is
+--                       cached is what it leaves, and each stripe's history is its part of the order
+--     StaysCoherent     after every list of events, if write-through is on, and the last opening was coherent but for foreign keys,
+--                       the world is coherent, but for untold keys
 --     with_all_premises  a world in which the premises have held so far, and these are the foreign keys, whatever came before
---     StaysCoherentFrom from any world that is reached and coherent but for some keys, in which no key is reserved: after every list of
---                       events, with write-through on, the world is coherent, but for those of these keys that are untold, and of
---                       those that are foreign since
+--     StaysCoherentFrom from any world that is reached and coherent but for some keys, in which no key is reserved: after every
+--                       list of events, with write-through on, the world is coherent, but for those of these keys that are untold,
+--                       and of those that are foreign since
 --     is_answer         an event is an answer of the loader for a key, and was taken, by its outcome
 --     is_load           an event is a step of a key that had the loader asked, and isn't shared
 --     is_loaded         an answer of the loader is kept for the commit
---     CountsLoads       after every list of events since the last opening, the answers that loaders gave for a key are as many as its
---                       steps that had the loader asked and aren't shared, and the answer that is kept for a commit, together
-use Rattle.std.specs.Prelude.{◌≡◌, ◌==◌, ◌+◌, ◌&&◌, ℕ, List, length, slice_get, [], ◌∷◌, zip, count_by, Bool, true, false, Option, None, Some, Ok, if◌then◌else◌}
+--     CountsLoads       after every list of events since the last opening, the answers that loaders gave for a key are as many as
+--                       its steps that had the loader asked and aren't shared, and the answer that is kept for a commit, together
+use Rattle.std.specs.Prelude.{◌≡◌, ◌==◌, ◌+◌, ◌&&◌, ℕ, List, length, slice_get, [], ◌∷◌, zip, count_by, Bool, true, false, Option}
+use Rattle.std.specs.Prelude.{None, Some, Ok, if◌then◌else◌}
 use Rattle.std.specs.List.{list_any}
 use Rattle.std.specs.Cmp.Lexicographic.{pointwise}
 use Rattle.std.specs.FinMap.{get, empty}
@@ -41,7 +43,7 @@ use Rattle.jc_world.specs.declared.event.Outcome.{Outcome}
 use Rattle.jc_world.specs.declared.event.Outcome.TheVariants as outcome
 use Rattle.jc_world.specs.declared.event.Shown.{Shown}
 use Rattle.jc_world.specs.World.{WorldState, start, out_of_part, with_stored, cached_entry}
-use Rattle.jc_world.specs.Events.{Run}
+use Rattle.jc_world.specs.Runs.{Run}
 use Rattle.jc_world.specs.Coherent.{CoherentAsTold, all_hold}
 use Rattle.jc_world.specs.Audit.{IsOrder, HasShares}
 

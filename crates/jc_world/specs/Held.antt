@@ -1,5 +1,5 @@
--- How a world keeps the keys that its calls have reserved: a map by key, of tickets with what was done and answered; and its joins: a
--- map by call and key. No contract of a public call cites this.
+-- How a world keeps the keys that its calls have reserved: a map by key, of tickets with what was done and answered; and its joins:
+-- a map by call and key. No contract of a public function cites this.
 --     HasPlayedRun   either the ticket was not asked, and no processor has run; or its own processor's played run is there
 --     IsAnswerable   the progress of a ticket is that of one whom it asks first, with the run of its processor
 --     parts_of       by key, what was asked and answered: the map that an index map means

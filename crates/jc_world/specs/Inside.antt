@@ -1,4 +1,5 @@
--- What a machine's fields mean. Callers see the world's state alone.
+-- What the fields of a `Machine` mean, which plays the events of a world: callers see the world's state alone. No contract of a
+-- public function cites this.
 --     world_of      the state that the fields mean
 use Rattle.jc_world.specs.declared.machine.Machine.TheInside.{Inside}
 use Rattle.jc_world.specs.World.{WorldState}

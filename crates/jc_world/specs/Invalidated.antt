@@ -1,18 +1,18 @@
--- What an invalidation of a key leaves, over every run.
+-- What an invalidation of a key leaves of it, as laws over every run of a world.
 --     is_marked_in, is_marked_at
 --                     a key is reserved and was invalidated since, at a stripe and in a world
---     Drops           an event after which nothing is left of an invalidated key: it invalidates a key that isn't reserved, or ends the
---                     reservation of a marked one
+--     Drops           an event after which nothing is left of an invalidated key: it invalidates a key that isn't reserved, or ends
+--                     the reservation of a marked one
 --     TellsInvalidated
---                     after such an event there is neither an entry nor a reservation of the key. So it isn't untold, whatever others have
---                     written before
+--                     after such an event there is neither an entry nor a reservation of the key. So it isn't untold, whatever
+--                     others have written before
 --     MarksReserved   an invalidation of a reserved key fits, and marks it
 --     StaysCoherentInvalidated
---                     from such an event on, as long as nobody else writes the key and nobody lies about it: what is cached for it is the
---                     store's, unless its writer has changed the store and its call isn't committed
+--                     from such an event on, as long as nobody else writes the key and nobody lies about it: what is cached for it
+--                     is the store's, unless its writer has changed the store and its call isn't committed
 --     ForgetsInvalidated
---                     what is cached for a key after its eviction is what the parts of the history since then leave of an empty cache:
---                     what was loaded or put before it counts no longer
+--                     what is cached for a key after its eviction is what the parts of the history since then leave of an empty
+--                     cache: what was loaded or put before it counts no longer
 use Rattle.std.specs.Prelude.{◌≡◌, List, ◌∷◌, ◌++◌, Bool, true, false, Option, None, Some}
 use Rattle.std.specs.FinMap.{empty, get}
 use Rattle.jc_model.specs.Cache.{Bytes, Cache, entry_at}
@@ -24,7 +24,7 @@ use Rattle.jc_world.specs.declared.event.WorldEvent.{WorldEvent}
 use Rattle.jc_world.specs.declared.event.WorldEvent.TheVariants as event
 use Rattle.jc_world.specs.World.{WorldState, stripe_for, has_any, is_untold}
 use Rattle.jc_world.specs.Fits.{fits}
-use Rattle.jc_world.specs.Events.{Step}
+use Rattle.jc_world.specs.Runs.{Step}
 use Rattle.jc_world.specs.Coherent.{IsCoherentAt, all_hold}
 use Rattle.jc_world.specs.Headline.{Reaches, reopens}
 use Rattle.jc_world.specs.Told.{RunsTrueTo}

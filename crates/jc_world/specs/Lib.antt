@@ -5,6 +5,7 @@ pub mod Premises
 pub mod Fits
 pub mod Reopening
 pub mod Events
+pub mod Runs
 pub mod Together
 pub mod Coherent
 pub mod Audit

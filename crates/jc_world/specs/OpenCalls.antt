@@ -1,4 +1,4 @@
--- How a call keeps what it does at its keys. No contract of a public call cites this.
+-- How a call under way in a world keeps what it does at its keys. No contract of a public function cites this.
 --     tasks_of       what a call does, as data
 --     IsCountKept    of a call of many keys, it is kept how many are open
 --     IsMany         what a call does is kept as that of a call of many keys

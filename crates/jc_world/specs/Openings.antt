@@ -1,7 +1,7 @@
--- Reopenings, over every run.
+-- A cache that is closed and opened again, as laws over every run of a world: each run has a last opening, and what that leaves.
 --     EndsInReopening   the last one of these events opened the cache again
---     LastOpening       a run has a last opening, and is a run from there that opens nothing again: the world at its begin, or the one
---                       that its last reopening left
+--     LastOpening       a run has a last opening, and is a run from there that opens nothing again: the world at its begin, or the
+--                       one that its last reopening left
 --     HasLastOpening    every run has one
 --     is_dropped        a key is among those that a reopening drops
 --     IsReopenedWorld   a reopening left an opening in the new shape, with the store and the numbers of calls as they were. Each
@@ -10,8 +10,8 @@
 --                       is the store's, but for untold keys
 --     ReopensOpen       every reopening does so
 --     is_by_others      an event is a write of the store by somebody else
---     StaysUnwritten    if nobody else has written the store since the last opening, that was coherent, and each loader and each writer
---                       was honest, no key is foreign
+--     StaysUnwritten    if nobody else has written the store since the last opening, that was coherent, and each loader and each
+--                       writer was honest, no key is foreign
 --     StaysCoherentAlone
 --                       and if write-through is on too, it is coherent
 use Rattle.std.specs.Prelude.{◌≡◌, ◌==◌, ◌⊎◌, ◌↔◌, ◌++◌, ℕ, List, [], ◌∷◌, slice_get, Bool, true, false, None, Some, if◌then◌else◌}
@@ -27,7 +27,7 @@ use Rattle.jc_world.specs.declared.event.WorldEvent.TheVariants as event
 use Rattle.jc_world.specs.declared.event.Outcome.TheVariants as outcome
 use Rattle.jc_world.specs.declared.event.Shown.{Shown}
 use Rattle.jc_world.specs.World.{WorldState, cached_entry}
-use Rattle.jc_world.specs.Events.{Run, Step}
+use Rattle.jc_world.specs.Runs.{Run, Step}
 use Rattle.jc_world.specs.Reopening.{keys_dropped}
 use Rattle.jc_world.specs.Fits.{fits}
 use Rattle.jc_world.specs.Premises.{are_honest}

@@ -1,10 +1,10 @@
--- What a call that has joined a load is told, over every run.
+-- What a call that has joined another call's load is told when it picks up its answer, as a law over every run of a world.
 --     ends_join         a pick-up with this outcome ended its join: it did not come too early
 --     is_last_pick_up   an event is the pick-up that ended the call's join of a key
 --     ends_load         an event ended a reservation of the load's call and key: by its commit or its withdrawal
 --     IsLoadEnd         an event, with its outcome, is the first that did. The load is out when it is joined, so this ended it
---     Resolves          the outcome of a pick-up, by what has become of the load: the answer of the step that committed it, that it was
---                       withdrawn, or that it is still out
+--     Resolves          the outcome of a pick-up, by what has become of the load: the answer of the step that committed it, that it
+--                       was withdrawn, or that it is still out
 --     AnswersJoins      after every list of events, each pick-up is so of the load that the call joined, which asked the loader for
 --                       the key
 use Rattle.std.specs.Prelude.{◌≡◌, ◌==◌, ◌&&◌, ℕ, List, zip, take, slice_get, Bool, true, false, Option, Some}
@@ -22,7 +22,8 @@ use Rattle.jc_world.specs.declared.event.Outcome.{Outcome}
 use Rattle.jc_world.specs.declared.event.Outcome.TheVariants as outcome
 use Rattle.jc_world.specs.declared.event.Shown.{Shown}
 use Rattle.jc_world.specs.World.{WorldState, part_of}
-use Rattle.jc_world.specs.Events.{is_fit, not_over, Step, Run}
+use Rattle.jc_world.specs.Events.{not_over}
+use Rattle.jc_world.specs.Runs.{is_fit, Step, Run}
 use Rattle.jc_world.specs.Headline.{Reaches}
 
 abbrev pub ends_join : Outcome → Bool

@@ -1,14 +1,14 @@
--- What is expected of loaders, writers and the store.
+-- The premises of coherence in a world: honest loaders, honest writers, and an opening that agrees with the store.
 --     read_answer                  what a loader that reads the store answers
 --     load_from                    what the loader of a played processor answers, with this in the store
 --     changed_to                   what the store holds at a key once the writer did as it was asked
 --     report_of                    the writer's report, from its fault or none
---     report_for                   what a writer's return says for a key of a call of a kind: its fault or none in a call of one key,
---                                  else whether the key is left, and with which code it then fails
+--     report_for                   what a writer's return says for a key of a call of a kind: its fault or none in a call of one
+--                                  key, else whether the key is left, and with which code it then fails
 --     is_true_load                 honest loaders: an answer is a failure, or what the store holds for the key
 --     is_done                      a report says that the writer did as it was asked
---     is_true_report               honest writers: a report says done exactly where the store was changed. So in a batch the changed keys
---                                  are exactly those that aren't left
+--     is_true_report               honest writers: a report says done exactly where the store was changed. So in a batch the
+--                                  changed keys are exactly those that aren't left
 --     with_loader, with_writer     the premises behind an answer of a loader, and behind a report of a writer, by whether it was
 --                                  honest
 --     is_stored                    an entry is the store's

@@ -1,10 +1,10 @@
--- The opening of a world anew, with what its cache keeps.
+-- A world after its cache was closed and opened again, in any shape: what is kept of its entries, and the premises from there on.
 --     keys_dropped        the keys that a reopening drops
 --     stripes_reopened    the stripes of the new shape, each with what it keeps
 --     foreign_reopened    the foreign keys, once it is opened again: none if what is kept is the store's
---     after_reopening     the world once it is opened again: as a new one, but for what is cached, the store, the foreign keys, and the
---                         numbers of calls. Its premises count from here: the opening is coherent if what is kept is the store's, but
---                         for foreign keys
+--     after_reopening     the world once it is opened again: as a new one, but for what is cached, the store, the foreign keys, and
+--                         the numbers of calls. Its premises count from here: the opening is coherent if what is kept is the
+--                         store's, but for foreign keys
 use Rattle.std.specs.Prelude.{List, Bool, true, false, map}
 use Rattle.std.specs.FinMap.{empty}
 use Rattle.jc_types.specs.declared.config.Config.{Config}

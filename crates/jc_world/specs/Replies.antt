@@ -1,5 +1,5 @@
--- What callers were shown, over every run since the last opening: each answer is the reply of a step of the order, and each step was
--- answered once.
+-- What callers were shown, over every run of a world since its last opening: each answer is the reply of a step of the order, and
+-- each step was answered once.
 --     IsReplyOfStep  the event at a place of the order is a step of a call that has begun before, with this reply
 --     Stands          the outcome of an event, if it is an answer, is that of its call's step
 --     RepliesStand    after every list of events since the last opening, each answer that was shown is that of the step at its
@@ -10,7 +10,8 @@
 --     times_shown     once, or not yet if the answer is still parked
 --     StepsShownOnce  after every list of events since the last opening, each step of the order was shown exactly once, or its
 --                     answer is parked
-use Rattle.std.specs.Prelude.{◌≡◌, ◌==◌, ◌&&◌, ℕ, List, [], take, zip, count_by, slice_get, Bool, false, Option, None, Some, if◌then◌else◌}
+use Rattle.std.specs.Prelude.{◌≡◌, ◌==◌, ◌&&◌, ℕ, List, [], take, zip, count_by, slice_get, Bool, false, Option, None, Some}
+use Rattle.std.specs.Prelude.{if◌then◌else◌}
 use Rattle.jc_types.specs.declared.caller.Caller.{Caller}
 use Rattle.jc_model.specs.declared.event.Op.{Op}
 use Rattle.jc_model.specs.declared.event.Out.{Out}

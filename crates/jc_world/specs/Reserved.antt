@@ -1,8 +1,9 @@
--- What stays while nothing is appended, and while a key is reserved.
---     changes_cache     an outcome is a step's answer, which was given as the step was appended, names the eviction of an invalidated key,
---                       or says that the cache was opened again
---     OnlyStepsChange   an event that neither appends a step, nor evicts an invalidated key, nor opens the cache again leaves the order,
---                       and all that is cached: so do a reservation, an outside answer, a withdrawal and a pick-up
+-- What stays in a world, as laws over every run: the order and the cache while nothing is appended, and the entry of a key while
+-- the key is reserved.
+--     changes_cache     an outcome is a step's answer, which was given as the step was appended, names the eviction of an
+--                       invalidated key, or says that the cache was opened again
+--     OnlyStepsChange   an event that neither appends a step, nor evicts an invalidated key, nor opens the cache again leaves the
+--                       order, and all that is cached: so do a reservation, an outside answer, a withdrawal and a pick-up
 --     EntryStays        the cached entry of a reserved key stays as long as the reservation is out, whatever happens meanwhile (the
 --                       cache isn't opened again then)
 use Rattle.std.specs.Prelude.{◌≡◌, List, Bool, true, false, Some, is_some}
@@ -14,7 +15,7 @@ use Rattle.jc_world.specs.declared.event.Outcome.{Outcome}
 use Rattle.jc_world.specs.declared.event.Outcome.TheVariants as outcome
 use Rattle.jc_world.specs.declared.event.Shown.{Shown}
 use Rattle.jc_world.specs.World.{WorldState, cached_entry}
-use Rattle.jc_world.specs.Events.{Step, Run}
+use Rattle.jc_world.specs.Runs.{Step, Run}
 use Rattle.jc_world.specs.Headline.{Reaches}
 
 abbrev pub changes_cache : Outcome → Bool

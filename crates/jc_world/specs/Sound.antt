@@ -4,11 +4,12 @@
 --     HaveNoneEnded                 of these stripes none has ended a generation
 --     is_up_to, number_up_to        a number is at most the last call's, and so is the number of an event's step
 --     has_parked_answer             an answer is parked for a joiner that is there
---     is_served_in, is_served       the answer of a load that it has joined is parked for a caller at a key, in a stripe and in the world
+--     is_served_in, is_served       the answer of a load that it has joined is parked for a caller at a key, in a stripe and in the
+--                                   world
 --     is_apart                      two calls are of different sessions, and have different numbers
 --     FitsKey                       a key of a call: its step may still come, unless it is served
---     FitsCall                      a call under way: its number is at most the last, and that is so of each open key, and of each key
---                                   that it may still find
+--     FitsCall                      a call under way: its number is at most the last, and that is so of each open key, and of each
+--                                   key that it may still find
 --     CallsFit                      that is so of all calls under way, and no two are of one session or have one number
 --     Each                          a fact is true of each of a list
 --     FitsAsked                     what is told of a key is of whom its reservation asks first
@@ -18,20 +19,21 @@
 --     IsHeld                        a part has its reservation, whose call is then under way
 --     IsCallOf                      a call is of a session, and an operation is open in it at a key
 --     IsOwned, AllOwned             a reservation has its part and its call; each does
---     IsWaitedFor, AllWaitedFor     a join has its joiner and its call, which has no part; each does, and is of the call and the key by
---                                   which it is found
+--     IsWaitedFor, AllWaitedFor     a join has its joiner and its call, which has no part; each does, and is of the call and the
+--                                   key by which it is found
 --     IsCalled, AllCalled           a joiner has its join and its call, and is in the stripe of its key; each is so
 --     Agrees                        an entry that is there is the store's value
---     LoadAgrees, WriteAgrees       as long as the premises hold: what is known of a key that is loaded, also for a processor, and of one
---                                   that is written
+--     LoadAgrees, WriteAgrees       as long as the premises hold: what is known of a key that is loaded, also for a processor, and
+--                                   of one that is written
 --     ChangeAgrees, ProgressAgrees  and so of a reserved key, by whether the writer is asked
 --     PartAgrees                    and whether anyone was misled
 --     KeyAgrees                     as long as the premises hold: what is known of any key, by its part, the store's value and the
 --                                   cached one
---     Sweeps                        a call that is still to look at a stripe: the keys that it has taken are of those at which it has
---                                   looked
+--     Sweeps                        a call that is still to look at a stripe: the keys that it has taken are of those at which it
+--                                   has looked
 --     IsSoundWorld                  all of it; and in a fresh world nothing is cached, reserved, joined or under way
-use Rattle.std.specs.Prelude.{◌≡◌, ◌==◌, if◌then◌else◌, ℕ, List, [], ◌∷◌, length, Ok, Bool, true, false, not, ◌&&◌, Option, None, Some, IfSome, IsSomeAnd, is_some, find, slice_get, nat_le}
+use Rattle.std.specs.Prelude.{◌≡◌, ◌==◌, if◌then◌else◌, ℕ, List, [], ◌∷◌, length, Ok, Bool, true, false, not, ◌&&◌, Option, None}
+use Rattle.std.specs.Prelude.{Some, IfSome, IsSomeAnd, is_some, find, slice_get, nat_le}
 use Rattle.std.specs.List.{list_all}
 use Rattle.std.specs.Map.{lookup}
 use Rattle.std.specs.Cmp.Lexicographic.{pointwise}
@@ -69,7 +71,8 @@ use Rattle.jc_stripe.specs.OwnSteps.{may_come_all}
 use Rattle.jc_world.specs.Calls.{CallState, SweepState, has_looked, op_at, op_for}
 use Rattle.jc_world.specs.declared.event.Part.{Part}
 use Rattle.jc_world.specs.declared.event.PartProgress.{PartProgress}
-use Rattle.jc_world.specs.World.{WorldState, home, stripe_for, cached_entry, open_call, part_of, JoinKey, Joins, join_key, is_joined, is_unanswered, Parts, is_foreign}
+use Rattle.jc_world.specs.World.{WorldState, home, stripe_for, cached_entry, open_call, part_of, JoinKey, Joins, join_key}
+use Rattle.jc_world.specs.World.{is_joined, is_unanswered, Parts, is_foreign}
 use Rattle.jc_world.specs.Premises.{changed_to, is_done}
 use Rattle.jc_world.specs.Coherent.{all_hold}
 

@@ -1,14 +1,17 @@
--- Events of one call that follow each other: at its begin, and at several of its keys, as the rounds of a call of many keys have them.
+-- Events of one call of a world that follow each other, as one line of a script stands for them: those at the call's begin, and
+-- those at several of its keys. Two laws say when they all fit.
 --     looks              looks of a call at as many stripes, from a number on
 --     looks_of           the looks that follow the begin of a call: at all stripes, if it takes the keys that are cached, else none
 --     opening_events     the begin of a call, and its looks
 --     BeginFits          if a call fits, so do its looks after it, and then it is free of every key
 --     at_call            a key, if a number is this call's
---     key_at             the key of this call at which an event is, if it is at one. It is none for a writer's change of the store: in
---                        an `invokeAll` a change waits for the processors of the call's other keys
---     FitTogether        what fits at keys that differ fits one after the other: events of one kind that isn't a change; the writer's
---                        return after its changes of the store; a call's leaving after the withdrawals of all that it has reserved
-use Rattle.std.specs.Prelude.{◌≡◌, ◌==◌, ◌||◌, ◌+◌, ℕ, zero, suc, List, [], ◌∷◌, ◌++◌, map, true, Option, None, Some, is_some, if◌then◌else◌}
+--     key_at             the key of this call at which an event is, if it is at one. It is none for a writer's change of the store:
+--                        in an `invokeAll` a change waits for the processors of the call's other keys
+--     FitTogether        what fits at keys that differ fits one after the other: events of one kind that isn't a change; the
+--                        writer's return after its changes of the store; a call's leaving after the withdrawals of all that it has
+--                        reserved
+use Rattle.std.specs.Prelude.{◌≡◌, ◌==◌, ◌||◌, ◌+◌, ℕ, zero, suc, List, [], ◌∷◌, ◌++◌, map, true, Option, None, Some, is_some}
+use Rattle.std.specs.Prelude.{if◌then◌else◌}
 use Rattle.std.specs.List.{IsDistinct, list_all}
 use Rattle.std.specs.Cmp.Lexicographic.{pointwise}
 use Rattle.jc_model.specs.Batches.{is_among}
@@ -22,7 +25,7 @@ use Rattle.jc_world.specs.declared.command.Command.TheVariants.{Single}
 use Rattle.jc_model.specs.declared.event.Op.{Op}
 use Rattle.jc_world.specs.World.{WorldState, open_call}
 use Rattle.jc_world.specs.Fits.{fits, is_free}
-use Rattle.jc_world.specs.Events.{AllFit, Run}
+use Rattle.jc_world.specs.Runs.{AllFit, Run}
 
 -- 1. How a call begins.
 

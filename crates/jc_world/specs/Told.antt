@@ -1,4 +1,4 @@
--- What a clear of a key leaves, and a load that replaces it, over every run.
+-- What a clear of a key leaves, and a load that replaces its entry, as laws over every run of a world.
 --     IsClear         a call has a clear to make at a key
 --     TellsCleared    a clear of a key that is done leaves nothing of it: neither an entry nor a reservation. So it isn't untold,
 --                     whatever others have written before
@@ -7,15 +7,15 @@
 --     is_foreign_write
 --                     an event is a write of a key by somebody else
 --     RunsTrueTo      a run in which nobody else writes a key, and nobody who is asked for it lies
---     StaysTold       with write-through on, until the cache is opened again: a key that isn't untold, and about which nobody has lied
---                     since it was reserved, stays so in such a run
+--     StaysTold       with write-through on, until the cache is opened again: a key that isn't untold, and about which nobody has
+--                     lied since it was reserved, stays so in such a run
 --     StaysCoherentTold
---                     so from any moment on at which a key isn't untold, as long as nobody else writes it and nobody lies about it: what
---                     is cached for it is the store's, unless its writer has changed the store and its call isn't committed
+--                     so from any moment on at which a key isn't untold, as long as nobody else writes it and nobody lies about it:
+--                     what is cached for it is the store's, unless its writer has changed the store and its call isn't committed
 --     StaysCoherentCleared, StaysCoherentLoaded
 --                     so it is from a clear of the key that is done on, and from such a load on
---     ForgetsCleared  what is cached for a key after a clear of it is what the parts of the history since then leave of an empty cache:
---                     what was loaded or put before it counts no longer
+--     ForgetsCleared  what is cached for a key after a clear of it is what the parts of the history since then leave of an empty
+--                     cache: what was loaded or put before it counts no longer
 use Rattle.std.specs.Prelude.{◌≡◌, ◌==◌, ℕ, List, [], ◌∷◌, ◌++◌, Bool, true, false, Option, Some, IsSomeAnd}
 use Rattle.std.specs.Cmp.Lexicographic.{pointwise}
 use Rattle.std.specs.FinMap.{empty, get}
@@ -32,7 +32,7 @@ use Rattle.jc_world.specs.declared.event.WorldEvent.TheVariants as event
 use Rattle.jc_world.specs.Calls.{op_at}
 use Rattle.jc_world.specs.declared.event.Part.{Part}
 use Rattle.jc_world.specs.World.{WorldState, open_call, part_of, out_of_part, has_progress, is_misled, has_any, is_untold}
-use Rattle.jc_world.specs.Events.{Step}
+use Rattle.jc_world.specs.Runs.{Step}
 use Rattle.jc_world.specs.Coherent.{IsCoherentAt, all_hold}
 use Rattle.jc_world.specs.Headline.{Reaches, reopens}
 

@@ -1,4 +1,5 @@
--- The order of all events as turns: a number for each event, that of the stripe whose event it is.
+-- How a world keeps the order of all its events: as turns, a number for each event, that of the stripe whose event it is. No
+-- contract of a public function cites this.
 --     history_in       the history of a stripe, and nothing if there is none
 --     history_at       the history of the stripe with a number, and nothing if there is no such stripe
 --     turns_of         how many of some turns are a stripe's
@@ -11,7 +12,8 @@
 --     IsQuietPhase     a phase that appends nothing: the order stays
 --     AreTurns         each stripe has as many turns as its history has events
 --     IsMergeable      what is true of the fields: that, and the number of stripes is within its limit, so a number fits a byte
-use Rattle.std.specs.Prelude.{◌≡◌, ◌==◌, ◌≤◌, ◌-◌, ℕ, List, [], ◌∷◌, ◌++◌, Option, None, Some, length, take, drop, count_by, slice_get, slice_set, vec_len, vec_capacity, if◌then◌else◌}
+use Rattle.std.specs.Prelude.{◌≡◌, ◌==◌, ◌≤◌, ◌-◌, ℕ, List, [], ◌∷◌, ◌++◌, Option, None, Some, length, take, drop, count_by}
+use Rattle.std.specs.Prelude.{slice_get, slice_set, vec_len, vec_capacity, if◌then◌else◌}
 use Rattle.jc_types.specs.declared.limits.TheConstants.{STRIPES_MAX}
 use Rattle.jc_model.specs.declared.event.Event.{Event}
 use Rattle.jc_stripe.specs.State.{State}

@@ -1,4 +1,5 @@
--- A world: a state for each stripe, one store, the calls under way, and one order of all events.
+-- The state of a world, a cache beside a store that is driven by events: each stripe, the store, the calls under way, and one order
+-- of all events.
 --     Parts                           by key, what the call that has reserved it asked and heard so far
 --     JoinKey                         a call's number, and a key
 --     join_cmp                        how two of them are compared: by the calls' numbers, and then by the keys
@@ -33,13 +34,15 @@
 --     has_join, is_joined             among these joins, and in a world, a call has joined a load of a key, and hasn't its answer
 --     is_free_of                      a call has neither reserved a key nor joined a load of it
 --     with_stored                     the world with this value in its store
---     is_foreign                      others have written a key in the store, or a loader or a writer has lied about it, since the cache
---                                     last wrote it, reserved it with no entry, or left what the store held of it at a commit
+--     is_foreign                      others have written a key in the store, or a loader or a writer has lied about it, since the
+--                                     cache last wrote it, reserved it with no entry, left no entry of it or the store's at a
+--                                     commit, or was opened again with the store's entries alone
 --     has_any                         the cache has something of a key: an entry, or a reservation
 --     is_untold                       a key is foreign, and the cache has something of it: it may be from before
 --     with_foreign, without_foreign   these keys with one more, and without one if its write counts no longer
 --     with_doubt                      these keys with one more if a loader or a writer has lied about it
-use Rattle.std.specs.Prelude.{◌==◌, ℕ, zero, suc, ◌+◌, List, [], ◌∷◌, length, Bool, true, false, not, ◌&&◌, ◌||◌, Option, None, Some, find, is_none, is_some, slice_get, if◌then◌else◌}
+use Rattle.std.specs.Prelude.{◌==◌, ℕ, zero, suc, ◌+◌, List, [], ◌∷◌, length, Bool, true, false, not, ◌&&◌, ◌||◌, Option, None}
+use Rattle.std.specs.Prelude.{Some, find, is_none, is_some, slice_get, if◌then◌else◌}
 use Rattle.std.specs.declared.cmp.Ordering.{Ordering}
 use Rattle.std.specs.Ordering.{nat_cmp, on, then_cmp}
 use Rattle.std.specs.List.{list_any}
@@ -234,7 +237,7 @@ with_stored w key value = record w { store = with_entry w.store key (Some value)
 
 -- 6. What others have written, or lied about.
 
--- others have written the key, or lied about it, since the cache last wrote it, newly reserved it, or agreed with the store on it
+-- others have written the key, or lied about it, and what the cache has of it may be from before
 abbrev pub is_foreign : WorldState → Bytes → Bool
 is_foreign w key = is_some (entry_at w.foreign key)
 
@@ -242,7 +245,7 @@ is_foreign w key = is_some (entry_at w.foreign key)
 abbrev pub has_any : WorldState → Bytes → Bool
 has_any w key = is_some (cached_entry w key) || is_some (map.get w.parts key)
 
--- and what it has may be from before that write
+-- and it has something of it
 abbrev pub is_untold : WorldState → Bytes → Bool
 is_untold w key = is_foreign w key && has_any w key
 

@@ -1,4 +1,4 @@
-//! The commands of calls.
+//! The commands of a world's calls: one operation on one key, or one on each of many keys.
 ghost use Rattle.std.specs.Prelude.{◌≡◌, [], is_some, length, option_map};
 ghost use Rattle.jc_world.specs.Calls.{kind_of, sweep_of, is_bulk, cause_after, keeps_open, tasks, has_too_many};
 

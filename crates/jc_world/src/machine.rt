@@ -5,7 +5,8 @@ ghost use Rattle.jc_model.specs.Cache.{entry_at};
 ghost use Rattle.jc_world.specs.declared.event.WorldEvent.TheVariants as event;
 ghost use Rattle.jc_world.specs.World.{start, with_stored};
 ghost use Rattle.jc_world.specs.Fits.{fits};
-ghost use Rattle.jc_world.specs.Events.{Happens, Step, not_over};
+ghost use Rattle.jc_world.specs.Events.{Happens, not_over};
+ghost use Rattle.jc_world.specs.Runs.{Step};
 ghost use Rattle.jc_world.specs.declared.event.Outcome.TheVariants as outcome;
 ghost use Rattle.jc_world.specs.Sound.{IsSoundWorld};
 

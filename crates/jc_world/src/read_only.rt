@@ -1,4 +1,4 @@
-//! Lists that are only read.
+//! Lists that are only read, in what the events of a world show.
 ghost use Rattle.std.specs.Prelude.{◌≡◌};
 
 use std::marker::Model;

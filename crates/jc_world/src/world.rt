@@ -8,7 +8,7 @@ ghost use Rattle.jc_types.specs.Limits.{check};
 ghost use Rattle.jc_world.specs.World.{start, is_busy, is_idle, open_call, part_of, has_progress, waits_for_load, waits_for_process};
 ghost use Rattle.jc_world.specs.World.{waits_for_report, is_joined, is_untold, with_stored};
 ghost use Rattle.jc_world.specs.Fits.{fits, is_being_written, is_new};
-ghost use Rattle.jc_world.specs.Events.{RunAppending};
+ghost use Rattle.jc_world.specs.Runs.{RunAppending};
 ghost use Rattle.jc_world.specs.Together.{BeginFits, FitTogether};
 ghost use Rattle.jc_world.specs.Coherent.{all_hold, CoherentAsTold};
 ghost use Rattle.jc_world.specs.Audit.{IsOrder, HasShares, IsAudit, untold_keys};

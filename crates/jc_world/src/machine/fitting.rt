@@ -1,4 +1,4 @@
-//! Whether an event fits.
+//! Whether an event fits: whether it may happen in the machine's present state.
 ghost use Rattle.std.specs.Prelude.{◌≡◌, ◌&&◌, not, true, false, None, Some};
 ghost use Rattle.jc_world.specs.declared.event.WorldEvent.TheVariants as event;
 ghost use Rattle.jc_world.specs.World.{is_busy, open_call, stripe_for};
