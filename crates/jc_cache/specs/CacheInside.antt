@@ -26,7 +26,8 @@ pub record IsOwnSeat (config : Config) (stripe given : ℕ) (view : View) : Type
   pub origin_is : view.noted.origin ≡ Live
 
 abbrev pub GiveNumbers : List (TableId × View) → Type 0
-GiveNumbers seats = (i : ℕ) (seat : TableId × View) → slice_get seats i ≡ Some seat → (session : ℕ) × (seat.1.next_session ≡ Some session)
+GiveNumbers seats =
+    (i : ℕ) (seat : TableId × View) → slice_get seats i ≡ Some seat → (session : ℕ) × (seat.1.next_session ≡ Some session)
 
 pub record IsWhole (config : Config) (given : ℕ) (locks : List TableId) (seats : List (TableId × View)) : Type 0 where
   pub fits : check config ≡ Ok tt

@@ -10,7 +10,8 @@
 --     OpensWith         a cache that has just been opened: no session was given out, each stripe has its part of the entries, and
 --                       nothing has happened in it
 --     session_refusal   the refusal of a session with or without a loader and a writer: too many, no loader, no writer
-use Rattle.std.specs.Prelude.{◌≡◌, ◌&&◌, ℕ, List, [], map, length, replicate, Bool, true, false, not, Option, None, Some, nat_le, if◌then◌else◌}
+use Rattle.std.specs.Prelude.{◌≡◌, ◌&&◌, ℕ, List, [], map, length, replicate, Bool, true, false, not, Option, None, Some, nat_le}
+use Rattle.std.specs.Prelude.{if◌then◌else◌}
 use Rattle.atomic_table.specs.Seated.{TableId}
 use Rattle.jc_types.specs.declared.config.Config.{Config}
 use Rattle.jc_types.specs.declared.limits.TheConstants.{SESSIONS_MAX}

@@ -41,7 +41,8 @@ use Rattle.jc_cache.specs.Turns.{HasLent}
 
 -- 1. One seat of a session.
 
-pub record AtStripe {I J : Type 0} {D : I → Type 0} {E : J → Type 0} (cache : CacheState) (key : Bytes) (old : Session I J D E) (before after : View) (new : Session I J D E) : Type 0 where
+pub record AtStripe {I J : Type 0} {D : I → Type 0} {E : J → Type 0} (cache : CacheState) (key : Bytes) (old : Session I J D E)
+    (before after : View) (new : Session I J D E) : Type 0 where
   pub lock : TableId
   pub was : slice_get old.seats.items (stripe_of key cache.config.stripes) ≡ Some (lock, before)
   pub now : new.seats.items ≡ slice_set old.seats.items (stripe_of key cache.config.stripes) (lock, after)
@@ -52,7 +53,8 @@ pub record CallsAt
     {I J : Type 0} {D : I → Type 0} {E : J → Type 0}
     (loads : LoadRelation ((i : I) × D i)) (load_state : (i : I) × D i → List ℕ)
     (writes : WriteRelation ((j : J) × E j)) (write_state : (j : J) × E j → List ℕ)
-    (cache : CacheState) (old : Session I J D E) (key : Bytes) (op : Op) (ended : Result Reply Refusal) (new : Session I J D E) : Type 0 where
+    (cache : CacheState) (old : Session I J D E) (key : Bytes) (op : Op) (ended : Result Reply Refusal)
+    (new : Session I J D E) : Type 0 where
   pub before : View
   pub after : View
   pub at : AtStripe cache key old before after new
@@ -62,37 +64,53 @@ pub record CallsAt
   pub lent : HasLent before row after
   pub between : AllLend (λ found left. IsBetween before found after) row
   pub did : IsCallRow old.agent.caller key op asked ended row
-  pub loader : AsksLoader (boxed loads) (boxed load_state) old.agent.hands.outside.loader key asked.load new.agent.hands.outside.loader
-  pub writer : AsksWriter (boxed writes) (boxed write_state) old.agent.hands.outside.writer key (change_wanted (state_found did) key op asked.process) asked.write new.agent.hands.outside.writer
+  pub loader : AsksLoader (boxed loads) (boxed load_state) old.agent.hands.outside.loader key asked.load
+      new.agent.hands.outside.loader
+  pub writer : AsksWriter (boxed writes) (boxed write_state) old.agent.hands.outside.writer key
+      (change_wanted (state_found did) key op asked.process) asked.write new.agent.hands.outside.writer
   pub types : KeepsTypes old.agent new.agent
-  pub left : new.agent ≡ record old.agent { counts = record old.agent.counts { own = own_after old.agent.counts.own ended }; hands = new.agent.hands }
+  pub left : new.agent
+      ≡ record old.agent {
+        counts = record old.agent.counts { own = own_after old.agent.counts.own ended };
+        hands = new.agent.hands;
+      }
 
-abbrev pub Called : {I J : Type 0} {D : I → Type 0} {E : J → Type 0} → LoadRelation ((i : I) × D i) → ((i : I) × D i → List ℕ) → WriteRelation ((j : J) × E j) → ((j : J) × E j → List ℕ)
+abbrev pub Called : {I J : Type 0} {D : I → Type 0} {E : J → Type 0} → LoadRelation ((i : I) × D i) → ((i : I) × D i → List ℕ)
+    → WriteRelation ((j : J) × E j) → ((j : J) × E j → List ℕ)
     → CacheState → Session I J D E → Bytes → Op → Result Reply Refusal → Session I J D E → Type 0
-Called loads load_state writes write_state cache old key op ended new = CallsAt loads load_state writes write_state cache (next_call old) key op ended new
+Called loads load_state writes write_state cache old key op ended new =
+    CallsAt loads load_state writes write_state cache (next_call old) key op ended new
 
-abbrev pub Returns : {I J T : Type 0} {D : I → Type 0} {E : J → Type 0} → LoadRelation ((i : I) × D i) → ((i : I) × D i → List ℕ) → WriteRelation ((j : J) × E j) → ((j : J) × E j → List ℕ)
+abbrev pub Returns : {I J T : Type 0} {D : I → Type 0} {E : J → Type 0} → LoadRelation ((i : I) × D i) → ((i : I) × D i → List ℕ)
+    → WriteRelation ((j : J) × E j) → ((j : J) × E j → List ℕ)
     → CacheState → Session I J D E → Bytes → Op → (Result Reply Refusal → T) → T → Session I J D E → Type 0
 Returns loads load_state writes write_state cache old key op answer_in result new =
-    (ended : Result Reply Refusal) × Called loads load_state writes write_state cache old key op ended new × (result ≡ answer_in ended)
+    (ended : Result Reply Refusal) × Called loads load_state writes write_state cache old key op ended new
+    × (result ≡ answer_in ended)
 
-abbrev pub Gets : {I J T : Type 0} {D : I → Type 0} {E : J → Type 0} → LoadRelation ((i : I) × D i) → ((i : I) × D i → List ℕ) → WriteRelation ((j : J) × E j) → ((j : J) × E j → List ℕ)
+abbrev pub Gets : {I J T : Type 0} {D : I → Type 0} {E : J → Type 0} → LoadRelation ((i : I) × D i) → ((i : I) × D i → List ℕ)
+    → WriteRelation ((j : J) × E j) → ((j : J) × E j → List ℕ)
     → CacheState → Session I J D E → Bytes → (Result Reply Refusal → T) → T → Session I J D E → Type 0
 Gets loads load_state writes write_state cache old key answer_in result new =
-    (ended : Result Reply Refusal) × (called : Called loads load_state writes write_state cache old key Get ended new) × (result ≡ answer_in ended)
+    (ended : Result Reply Refusal) × (called : Called loads load_state writes write_state cache old key Get ended new)
+    × (result ≡ answer_in ended)
     × HasLookedFirst (next_call old).agent.caller key called.row
 
 -- 3. Calls that wait for nobody.
 
-pub record Tried {I J : Type 0} {D : I → Type 0} {E : J → Type 0} (cache : CacheState) (old : Session I J D E) (key : Bytes) (op : Op) (ended : Result Reply Refusal) (new : Session I J D E) : Type 0 where
+pub record Tried {I J : Type 0} {D : I → Type 0} {E : J → Type 0} (cache : CacheState) (old : Session I J D E) (key : Bytes)
+    (op : Op) (ended : Result Reply Refusal) (new : Session I J D E) : Type 0 where
   pub before : View
   pub after : View
   pub at : AtStripe cache key (next_call old) before after new
   pub seat : SeatTried before (next_call old).agent.caller key op ended after
-  pub left : new.agent ≡ record (next_call old).agent { counts = record old.agent.counts { own = own_after old.agent.counts.own ended } }
+  pub left : new.agent
+      ≡ record (next_call old).agent { counts = record old.agent.counts { own = own_after old.agent.counts.own ended } }
 
-abbrev pub Tries : {I J T : Type 0} {D : I → Type 0} {E : J → Type 0} → CacheState → Session I J D E → Bytes → Op → (Result Reply Refusal → T) → T → Session I J D E → Type 0
-Tries cache old key op answer_in result new = (ended : Result Reply Refusal) × Tried cache old key op ended new × (result ≡ answer_in ended)
+abbrev pub Tries : {I J T : Type 0} {D : I → Type 0} {E : J → Type 0} → CacheState → Session I J D E → Bytes → Op
+    → (Result Reply Refusal → T) → T → Session I J D E → Type 0
+Tries cache old key op answer_in result new =
+    (ended : Result Reply Refusal) × Tried cache old key op ended new × (result ≡ answer_in ended)
 
 -- 4. A call that runs a processor.
 
@@ -101,10 +119,12 @@ pub record Invoked
     (loads : LoadRelation ((i : I) × D i)) (load_state : (i : I) × D i → List ℕ)
     (writes : WriteRelation ((j : J) × E j)) (write_state : (j : J) × E j → List ℕ)
     (processes : ProcessRelation (DynBox P Z F)) (process_state : DynBox P Z F → List ℕ)
-    (cache : CacheState) (old : Session I J D E) (key : Bytes) (args : List Bytes) (processor : DynBox P Z F) (ended : Result Reply Refusal) (new : Session I J D E) (processor' : DynBox P Z F) : Type 0 where
+    (cache : CacheState) (old : Session I J D E) (key : Bytes) (args : List Bytes) (processor : DynBox P Z F)
+    (ended : Result Reply Refusal) (new : Session I J D E) (processor' : DynBox P Z F) : Type 0 where
   pub call : Called loads load_state writes write_state cache old key Invoke ended new
   pub run : RunsProcessor processes process_state processor (state_decided call.did) key args call.asked processor'
-  pub alone : IsMadeIn call.before (next_call old).agent.caller key Invoke call.asked ended call.after call.seat (state_decided call.did)
+  pub alone : IsMadeIn call.before (next_call old).agent.caller key Invoke call.asked ended call.after call.seat
+      (state_decided call.did)
   pub type : processor'.vtable ≡ processor.vtable
 
 -- 5. What a call returns.

@@ -63,7 +63,9 @@ pub record IsClosedAt (config : Config) (stripe given : ℕ) (noted state : Stat
   pub none_later : (session : ℕ) → given ≤ session → all_own_steps session state ≡ []
 
 abbrev pub HasFront : List State → List (TableId × View) → Type 0
-HasFront stripes seats = (i : ℕ) (state : State) (seat : TableId × View) → slice_get stripes i ≡ Some state → slice_get seats i ≡ Some seat → IsPrefix seat.1.front (whole_history state)
+HasFront stripes seats =
+    (i : ℕ) (state : State) (seat : TableId × View) → slice_get stripes i ≡ Some state → slice_get seats i ≡ Some seat
+    → IsPrefix seat.1.front (whole_history state)
 
 -- `before` and `after` are the log of an own seat
 pub record HasOnlyLooked (before after : Log) : Type 0 where
@@ -78,7 +80,9 @@ pub record HasLookedOnce (before after : Log) (found : State) : Type 0 where
 
 -- `old` and `new` are the logs of the own seats
 abbrev pub AreIdle : (old new : List Log) → Type 0
-AreIdle old new = (i : ℕ) (before after : Log) → slice_get old i ≡ Some before → slice_get new i ≡ Some after → (found : State) × HasLookedOnce before after found × IsIdle found
+AreIdle old new =
+    (i : ℕ) (before after : Log) → slice_get old i ≡ Some before → slice_get new i ≡ Some after
+    → (found : State) × HasLookedOnce before after found × IsIdle found
 
 pub record IsTakenAs (seat : TableId × View) (state : State) : Type 0 where
   pub holds : seat.1.holds ≡ true
@@ -89,7 +93,8 @@ pub record AreClosed (owner : CacheOwnerState) (stripes : List State) : Type 0 w
   pub each : (i : ℕ) (state : State) → slice_get stripes i ≡ Some state
       → (noted : State) × (slice_get owner.noted i ≡ Some noted) × IsClosedAt owner.cache.config i owner.given noted state
 
-pub record IsClosed {I J : Type 0} {D : I → Type 0} {E : J → Type 0} (owner : CacheOwnerState) (sessions : List (Session I J D E)) (stripes : List State) : Type 0 where
+pub record IsClosed {I J : Type 0} {D : I → Type 0} {E : J → Type 0} (owner : CacheOwnerState) (sessions : List (Session I J D E))
+    (stripes : List State) : Type 0 where
   pub stripes_are : AreClosed owner stripes
   pub all : length sessions ≡ owner.given
   pub fronts : (n : ℕ) (session : Session I J D E) → slice_get sessions n ≡ Some session → HasFront stripes session.seats.items
@@ -108,15 +113,18 @@ pub record HasTakenOver (before : Log) (brought : List (State × State)) (seat :
   pub lendings : seat.1.lendings ≡ before.lendings ++ (found, found) ∷ brought
   pub idle : IsIdle found
 
-pub record HasClosed {I J : Type 0} {D : I → Type 0} {E : J → Type 0} (owner : CacheOwnerState) (sessions : List (Session I J D E)) (stripes : List State) (brought : List (Outside I J D E)) (seats : List (TableId × View)) (says : Bool) : Type 0 where
+pub record HasClosed {I J : Type 0} {D : I → Type 0} {E : J → Type 0} (owner : CacheOwnerState) (sessions : List (Session I J D E))
+    (stripes : List State) (brought : List (Outside I J D E)) (seats : List (TableId × View)) (says : Bool) : Type 0 where
   pub closed : IsClosed owner sessions stripes
   pub taken : AllZip IsTakenAs seats stripes
   pub gave_none : (i : ℕ) (seat : TableId × View) → slice_get seats i ≡ Some seat → seat.1.next_session ≡ Some owner.given
-  pub lent : (i : ℕ) (before : Log) (seat : TableId × View) → slice_get owner.logs i ≡ Some before → slice_get seats i ≡ Some seat → HasTakenOver before (all_lent sessions i) seat
+  pub lent : (i : ℕ) (before : Log) (seat : TableId × View) → slice_get owner.logs i ≡ Some before → slice_get seats i ≡ Some seat
+      → HasTakenOver before (all_lent sessions i) seat
   pub outside : brought ≡ map (λ (session : Session I J D E). session.agent.hands.outside) sessions
   pub legal : says ≡ true
 
-pub record HasEnded {I J : Type 0} {D : I → Type 0} {E : J → Type 0} (owner : CacheOwnerState) (stripes : List State) (brought : List (Outside I J D E)) (seats : List (TableId × View)) (says : Bool) : Type 0 where
+pub record HasEnded {I J : Type 0} {D : I → Type 0} {E : J → Type 0} (owner : CacheOwnerState) (stripes : List State)
+    (brought : List (Outside I J D E)) (seats : List (TableId × View)) (says : Bool) : Type 0 where
   pub closed : AreClosed owner stripes
   pub looked : AreIdle owner.logs (logs_of seats)
   pub taken : AllZip IsTakenAs seats stripes
@@ -135,7 +143,9 @@ IsInUse old new = (i : ℕ) × (before : Log) × (after : Log) × (slice_get old
     × ((found : State) × HasLastFound before.lendings after.lendings found × (IsIdle found → ⊥))
 
 abbrev pub HasFoundHeld : (old new : List Log) → Type 0
-HasFoundHeld old new = (i : ℕ) × (before : Log) × (after : Log) × (slice_get old i ≡ Some before) × (slice_get new i ≡ Some after) × (before.misses < after.misses)
+HasFoundHeld old new =
+    (i : ℕ) × (before : Log) × (after : Log) × (slice_get old i ≡ Some before) × (slice_get new i ≡ Some after)
+    × (before.misses < after.misses)
 
 pub record IsHandedBack (owner left : CacheOwnerState) : Type 0 where
   pub cache : left.cache ≡ owner.cache
@@ -151,12 +161,16 @@ IsEndRefusal refusal owner left =
 
 abbrev pub IsCloseRefusal : CacheOwnerState → ℕ → Refusal → CacheOwnerState → Type 0
 IsCloseRefusal owner handed_in refusal left =
-    ((handed_in ≢ owner.given) × (refusal ≡ StillReserved) × (left ≡ owner)) ⊎ ((handed_in ≡ owner.given) × IsEndRefusal refusal owner left)
+    ((handed_in ≢ owner.given) × (refusal ≡ StillReserved) × (left ≡ owner))
+    ⊎ ((handed_in ≡ owner.given) × IsEndRefusal refusal owner left)
 
-pub record HasNotClosed {I J : Type 0} {D : I → Type 0} {E : J → Type 0} (owner : CacheOwnerState) (sessions : List (Session I J D E)) (refusal : Refusal) (left : CacheOwnerState) (sessions' : List (Session I J D E)) : Type 0 where
+pub record HasNotClosed {I J : Type 0} {D : I → Type 0} {E : J → Type 0} (owner : CacheOwnerState)
+    (sessions : List (Session I J D E)) (refusal : Refusal) (left : CacheOwnerState)
+    (sessions' : List (Session I J D E)) : Type 0 where
   pub why : IsCloseRefusal owner (length sessions) refusal left
   pub back : IsHandedBack owner left × (sessions' ≡ sessions)
 
-pub record HasNotEnded {I J : Type 0} {D : I → Type 0} {E : J → Type 0} (owner : CacheOwnerState) (refusal : Refusal) (left : CacheOwnerState) (sessions : List (Session I J D E)) : Type 0 where
+pub record HasNotEnded {I J : Type 0} {D : I → Type 0} {E : J → Type 0} (owner : CacheOwnerState) (refusal : Refusal)
+    (left : CacheOwnerState) (sessions : List (Session I J D E)) : Type 0 where
   pub why : IsEndRefusal refusal owner left
   pub back : IsHandedBack owner left × (sessions ≡ [])

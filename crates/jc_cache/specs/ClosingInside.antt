@@ -1,4 +1,4 @@
--- The cache's own seats during a close, after the first ones have taken their stripes.
+-- The cache's own seats during a close, after the first ones have taken their stripes. No contract of a public function cites this.
 --     KeepsSeat                   a seat is still the same, at the same lock and stripe; it may have seen more of the history,
 --                                 and have more lendings of this kind
 --     LeavesUnchanged, Whatever   a lending that left the stripe as it was, and any lending
@@ -87,7 +87,9 @@ IsTakeRefusal refusal before after =
     ⊎ ((refusal ≡ Busy) × (before.misses < after.misses))
 
 abbrev pub IsRowRefusal : Refusal → List (TableId × View) → List (TableId × View) → Type 0
-IsRowRefusal refusal old new = ((refusal ≡ StillReserved) × IsInUse (logs_of old) (logs_of new)) ⊎ ((refusal ≡ Busy) × HasFoundHeld (logs_of old) (logs_of new))
+IsRowRefusal refusal old new =
+    ((refusal ≡ StillReserved) × IsInUse (logs_of old) (logs_of new))
+    ⊎ ((refusal ≡ Busy) × HasFoundHeld (logs_of old) (logs_of new))
 
 -- 3. Seats of sessions.
 

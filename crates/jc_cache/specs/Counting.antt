@@ -18,7 +18,8 @@ pub record HasRead (before after : View) : Type 0 where
   pub on : HasSeen before after
 
 abbrev pub HasReadEach : List (TableId × View) → List (TableId × View) → Type 0
-HasReadEach before after = (i : ℕ) (a b : TableId × View) → slice_get before i ≡ Some a → slice_get after i ≡ Some b → HasRead a.1 b.1
+HasReadEach before after =
+    (i : ℕ) (a b : TableId × View) → slice_get before i ≡ Some a → slice_get after i ≡ Some b → HasRead a.1 b.1
 
 abbrev pub occurred_in : List State → List Occurrence
 occurred_in [] = []

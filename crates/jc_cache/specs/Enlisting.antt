@@ -15,9 +15,11 @@ use Rattle.jc_cache.specs.Sessions.{BeginsAt, MayCall}
 
 abbrev pub HaveNumbers : {I J : Type 0} {D : I → Type 0} {E : J → Type 0} → ℕ → List (Session I J D E) → Type 0
 HaveNumbers number [] = Unit {0}
-HaveNumbers number (session ∷ sessions) = (session.agent.caller ≡ record { session = number; call = 0 }) × HaveNumbers (number + 1) sessions
+HaveNumbers number (session ∷ sessions) =
+    (session.agent.caller ≡ record { session = number; call = 0 }) × HaveNumbers (number + 1) sessions
 
-pub record AreGivenOut {I J : Type 0} {D : I → Type 0} {E : J → Type 0} (from left : CacheOwnerState) (outside : List (Outside I J D E)) (sessions : List (Session I J D E)) : Type 0 where
+pub record AreGivenOut {I J : Type 0} {D : I → Type 0} {E : J → Type 0} (from left : CacheOwnerState)
+    (outside : List (Outside I J D E)) (sessions : List (Session I J D E)) : Type 0 where
   pub owner : left ≡ record from { given = from.given + length sessions }
   pub boxes : map (λ (session : Session I J D E). session.agent.hands.outside) sessions ≡ outside
   pub fresh : All (λ (session : Session I J D E). (session.agent.counts.own ≡ 0) × BeginsAt from session) sessions
@@ -25,11 +27,13 @@ pub record AreGivenOut {I J : Type 0} {D : I → Type 0} {E : J → Type 0} (fro
   pub may : All (λ (session : Session I J D E). MayCall left.cache session) sessions
 
 -- `made` are the sessions that were given out
-pub record IsNotEnlisted {I J : Type 0} {D : I → Type 0} {E : J → Type 0} (from left : CacheOwnerState) (outside : List (Outside I J D E)) (refusal : Refusal) : Type 0 where
+pub record IsNotEnlisted {I J : Type 0} {D : I → Type 0} {E : J → Type 0} (from left : CacheOwnerState)
+    (outside : List (Outside I J D E)) (refusal : Refusal) : Type 0 where
   pub before : List (Outside I J D E)
   pub rest : List (Outside I J D E)
   pub made : List (Session I J D E)
   pub outside_is : outside ≡ before ++ rest
   pub given : AreGivenOut from left before made
   pub why : (refusal ≡ OutOfMemory)
-      ⊎ ((one : Outside I J D E) × (others : List (Outside I J D E)) × (rest ≡ one ∷ others) × (session_refusal left (is_some one.loader) (is_some one.writer) ≡ Some refusal))
+      ⊎ ((one : Outside I J D E) × (others : List (Outside I J D E)) × (rest ≡ one ∷ others)
+      × (session_refusal left (is_some one.loader) (is_some one.writer) ≡ Some refusal))

@@ -66,7 +66,8 @@ pub record HasForgottenAll (before after : View) : Type 0 where
 
 -- 2. A session.
 
-pub record HasInvalidated {I J : Type 0} {D : I → Type 0} {E : J → Type 0} (cache : CacheState) (old : Session I J D E) (key : Bytes) (new : Session I J D E) : Type 0 where
+pub record HasInvalidated {I J : Type 0} {D : I → Type 0} {E : J → Type 0} (cache : CacheState) (old : Session I J D E)
+    (key : Bytes) (new : Session I J D E) : Type 0 where
   pub lock : TableId
   pub before : View
   pub after : View
@@ -76,7 +77,8 @@ pub record HasInvalidated {I J : Type 0} {D : I → Type 0} {E : J → Type 0} (
   pub stays : new.agent ≡ old.agent
 
 abbrev pub HasForgottenEach : List (TableId × View) → List (TableId × View) → Type 0
-HasForgottenEach before after = (i : ℕ) (a b : TableId × View) → slice_get before i ≡ Some a → slice_get after i ≡ Some b → HasForgottenAll a.1 b.1
+HasForgottenEach before after =
+    (i : ℕ) (a b : TableId × View) → slice_get before i ≡ Some a → slice_get after i ≡ Some b → HasForgottenAll a.1 b.1
 
 pub record HasInvalidatedAll {I J : Type 0} {D : I → Type 0} {E : J → Type 0} (old new : Session I J D E) : Type 0 where
   pub each : HasForgottenEach old.seats.items new.seats.items

@@ -86,7 +86,8 @@ abbrev pub IsAskedFor : Option ℕ → Out → Out → Type 0
 IsAskedFor None out asked = asked ≡ out
 IsAskedFor (Some shared_with) out asked = asked ≡ nothing_said
 
-pub record MakesStep (before : View) (caller : Caller) (key : Bytes) (op : Op) (asked : Out) (reply : Reply) (after : View) : Type 0 where
+pub record MakesStep (before : View) (caller : Caller) (key : Bytes) (op : Op) (asked : Out) (reply : Reply)
+    (after : View) : Type 0 where
   pub out : Out
   pub shared_with : Option ℕ
   pub place : ℕ
@@ -96,7 +97,8 @@ pub record MakesStep (before : View) (caller : Caller) (key : Bytes) (op : Op) (
 abbrev pub SeatAfter : View → Caller → Bytes → Op → Out → Result Reply Refusal → View → Type 0
 SeatAfter before caller key op asked (Ok reply) after = MakesStep before caller key op asked reply after
 SeatAfter before caller key op asked (Err refusal) after =
-    HasSeen before after × (asked ≡ nothing_said) × (refusal ≡ HistoryFull) × (first_refusal after.noted caller key op ≡ Some refusal) × HasAllSeen after
+    HasSeen before after × (asked ≡ nothing_said) × (refusal ≡ HistoryFull)
+    × (first_refusal after.noted caller key op ≡ Some refusal) × HasAllSeen after
 
 abbrev pub IsBusyAt : Caller → Bytes → Op → State → State → Type 0
 IsBusyAt caller key op found left = (can_start Alone found caller key op ≡ false) × MakesWay found left
@@ -117,11 +119,13 @@ pub record TriesTo (before : View) (caller : Caller) (key : Bytes) (op : Op) (be
 
 abbrev pub SeatTried : View → Caller → Bytes → Op → Result Reply Refusal → View → Type 0
 SeatTried before caller key op (Ok reply) after =
-    MakesStep before caller key op nothing_said reply after × ((done : StepDone) × (done.reply ≡ reply) × TriesTo before caller key op (begun.Done done) after)
+    MakesStep before caller key op nothing_said reply after
+    × ((done : StepDone) × (done.reply ≡ reply) × TriesTo before caller key op (begun.Done done) after)
 SeatTried before caller key op (Err refusal) after =
     HasSeen before after
     × (((refusal ≡ Busy) × WasBusy before caller key op after)
-    ⊎ ((first_refusal after.noted caller key op ≡ Some refusal) × (asks_outside after.noted key op ≡ false) × HasAllSeen after × TriesTo before caller key op (begun.Refused refusal) after))
+    ⊎ ((first_refusal after.noted caller key op ≡ Some refusal) × (asks_outside after.noted key op ≡ false) × HasAllSeen after
+    × TriesTo before caller key op (begun.Refused refusal) after))
 
 pub record IsBetween (before : View) (state : State) (after : View) : Type 0 where
   pub reached : IsReached state
@@ -131,6 +135,7 @@ pub record IsBetween (before : View) (state : State) (after : View) : Type 0 whe
 
 -- 3. The state in which a call's step was made.
 
-abbrev pub IsMadeIn : (before : View) (caller : Caller) (key : Bytes) (op : Op) (asked : Out) (ended : Result Reply Refusal) (after : View) → SeatAfter before caller key op asked ended after → State → Type 0
+abbrev pub IsMadeIn : (before : View) (caller : Caller) (key : Bytes) (op : Op) (asked : Out) (ended : Result Reply Refusal)
+    (after : View) → SeatAfter before caller key op asked ended after → State → Type 0
 IsMadeIn before caller key op asked (Ok reply) after seat state = IsNext state key seat.place after.front
 IsMadeIn before caller key op asked (Err refusal) after seat state = Unit {0}

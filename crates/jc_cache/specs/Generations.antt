@@ -22,7 +22,8 @@ abbrev pub IsEndOf : {A : Type 0} → Result (Option ℕ) A → List Event → L
 IsEndOf (Ok ended) old new found left = (events : List Event) × (new ≡ old ++ events) × EndsGeneration found ended events left
 IsEndOf (Err failed) old new found left = (new ≡ old) × (left ≡ found)
 
-pub record EndsAt {I J : Type 0} {D : I → Type 0} {E : J → Type 0} (stripe : ℕ) (old : Session I J D E) (turn : State → State → Type 0) (new : Session I J D E) : Type 0 where
+pub record EndsAt {I J : Type 0} {D : I → Type 0} {E : J → Type 0} (stripe : ℕ) (old : Session I J D E)
+    (turn : State → State → Type 0) (new : Session I J D E) : Type 0 where
   pub lock : TableId
   pub before : View
   pub found : State
@@ -37,5 +38,6 @@ pub record EndsAt {I J : Type 0} {D : I → Type 0} {E : J → Type 0} (stripe :
 -- that the ended generations of `left` are the first ones of `found` is so of all that a seat finds later
 abbrev pub GenerationsFollow : Type 0
 GenerationsFollow = (old left found new : State) (number : ℕ) (events later : List Event) → number + 1 < LAST_NUMBER
-    → EndsGeneration old (Some number) events left → IsPrefix left.ended found.ended → EndsGeneration found (Some (number + 1)) later new
+    → EndsGeneration old (Some number) events left → IsPrefix left.ended found.ended
+    → EndsGeneration found (Some (number + 1)) later new
     → whole_history found ≡ whole_history old ++ later

@@ -36,7 +36,8 @@ pub record TellsAt (teller hearer teller' hearer' : View) : Type 0 where
   pub none_lent : HasLent hearer [] hearer'
 
 abbrev pub TellEach : List (TableId × View) → List (TableId × View) → List (TableId × View) → List (TableId × View) → Type 0
-TellEach tellers hearers tellers' hearers' = (i : ℕ) (a b a' b' : TableId × View) → slice_get tellers i ≡ Some a → slice_get hearers i ≡ Some b
+TellEach tellers hearers tellers' hearers' =
+    (i : ℕ) (a b a' b' : TableId × View) → slice_get tellers i ≡ Some a → slice_get hearers i ≡ Some b
     → slice_get tellers' i ≡ Some a' → slice_get hearers' i ≡ Some b' → TellsAt a.1 b.1 a'.1 b'.1
 
 pub record Meets {I J : Type 0} {D : I → Type 0} {E : J → Type 0} (teller hearer teller' hearer' : Session I J D E) : Type 0 where
@@ -44,7 +45,8 @@ pub record Meets {I J : Type 0} {D : I → Type 0} {E : J → Type 0} (teller he
   pub teller_stays : teller'.agent ≡ teller.agent
   pub hearer_stays : hearer'.agent ≡ hearer.agent
 
-pub record HaveMet {I J : Type 0} {D : I → Type 0} {E : J → Type 0} (cache : CacheState) (from to from' to' : Session I J D E) : Type 0 where
+pub record HaveMet {I J : Type 0} {D : I → Type 0} {E : J → Type 0} (cache : CacheState)
+    (from to from' to' : Session I J D E) : Type 0 where
   pub teller : MayCall cache from'
   pub hearer : MayCall cache to'
   pub met : Meets from to from' to'

@@ -40,7 +40,8 @@ pub record SeatPhase (session : ℕ) (before : View) (turn : Turn) (after : View
   pub front_is : after.front ≡ whole_history after.noted
   pub own_is : after.own ≡ all_own_steps session after.noted
 
-pub record PhaseAt {I J : Type 0} {D : I → Type 0} {E : J → Type 0} (stripe : ℕ) (old : Session I J D E) (turn : Turn) (counted : Counted) (new : Session I J D E) : Type 0 where
+pub record PhaseAt {I J : Type 0} {D : I → Type 0} {E : J → Type 0} (stripe : ℕ) (old : Session I J D E) (turn : Turn)
+    (counted : Counted) (new : Session I J D E) : Type 0 where
   pub lock : TableId
   pub before : View
   pub after : View
@@ -50,7 +51,8 @@ pub record PhaseAt {I J : Type 0} {D : I → Type 0} {E : J → Type 0} (stripe 
   pub left : new.agent ≡ record old.agent { counts = counts_after old.agent.counts counted }
 
 abbrev pub MayStart : {I J : Type 0} {D : I → Type 0} {E : J → Type 0} → CacheState → Session I J D E → Bytes → Type 0
-MayStart cache session key = (seat : TableId × View) → slice_get session.seats.items (stripe_of key cache.config.stripes) ≡ Some seat
+MayStart cache session key =
+    (seat : TableId × View) → slice_get session.seats.items (stripe_of key cache.config.stripes) ≡ Some seat
     → may_come_all seat.1.own session.agent.caller key ≡ true
 
 abbrev pub MayFind : {I J : Type 0} {D : I → Type 0} {E : J → Type 0} → Session I J D E → ℕ → State → Type 0

@@ -47,17 +47,20 @@ own_total (seat ∷ seats) = length seat.1.own + own_total seats
 pub record IsOf {I J : Type 0} {D : I → Type 0} {E : J → Type 0} (cache : CacheState) (session : Session I J D E) : Type 0 where
   pub locks : map (λ (seat : TableId × View). seat.0) session.seats.items ≡ cache.locks
   pub count : length cache.locks ≡ cache.config.stripes
-  pub seats : (i : ℕ) (seat : TableId × View) → slice_get session.seats.items i ≡ Some seat → IsSeatAt cache.config i session.agent.caller.session seat.1
+  pub seats : (i : ℕ) (seat : TableId × View) → slice_get session.seats.items i ≡ Some seat
+      → IsSeatAt cache.config i session.agent.caller.session seat.1
   pub held : session.agent.hands.held ≡ 0
   pub loads : cache.config.read_through ≡ true → IsSome session.agent.hands.outside.loader
   pub writes : cache.config.write_through ≡ true → IsSome session.agent.hands.outside.writer
   pub own : session.agent.counts.own ≡ capped (own_total session.seats.items)
 
-pub record IsCaller {I J : Type 0} {D : I → Type 0} {E : J → Type 0} (cache : CacheState) (session : Session I J D E) (who : Caller) : Type 0 where
+pub record IsCaller {I J : Type 0} {D : I → Type 0} {E : J → Type 0} (cache : CacheState) (session : Session I J D E)
+    (who : Caller) : Type 0 where
   pub own : IsOf cache session
   pub caller : who.session ≡ session.agent.caller.session
 
-pub record GoesOn {I J : Type 0} {D : I → Type 0} {E : J → Type 0} (cache : CacheState) (session : Session I J D E) (Made : Type 0) : Type 0 where
+pub record GoesOn {I J : Type 0} {D : I → Type 0} {E : J → Type 0} (cache : CacheState) (session : Session I J D E)
+    (Made : Type 0) : Type 0 where
   pub own : IsOf cache session
   pub phase : Made
 
@@ -70,10 +73,12 @@ pub record HasAsked {I J : Type 0} {D : I → Type 0} {E : J → Type 0} (old ne
   pub rest : new ≡ record old { agent = record old.agent { hands = new.agent.hands } }
   pub own : (cache : CacheState) → IsOf cache old → IsOf cache new
 
-pub record BeginsAt {I J : Type 0} {D : I → Type 0} {E : J → Type 0} (owner : CacheOwnerState) (session : Session I J D E) : Type 0 where
+pub record BeginsAt {I J : Type 0} {D : I → Type 0} {E : J → Type 0} (owner : CacheOwnerState)
+    (session : Session I J D E) : Type 0 where
   pub noted : noted_by session.seats.items ≡ owner.noted
   pub fronts : fronts_of session.seats.items ≡ owner.fronts
-  pub none_lent : (i : ℕ) (seat : TableId × View) → slice_get session.seats.items i ≡ Some seat → (seat.1.lendings ≡ []) × (seat.1.misses ≡ 0)
+  pub none_lent : (i : ℕ) (seat : TableId × View) → slice_get session.seats.items i ≡ Some seat
+      → (seat.1.lendings ≡ []) × (seat.1.misses ≡ 0)
 
 pub record MayCall {I J : Type 0} {D : I → Type 0} {E : J → Type 0} (cache : CacheState) (session : Session I J D E) : Type 0 where
   pub own : IsOf cache session
@@ -82,7 +87,8 @@ pub record MayCall {I J : Type 0} {D : I → Type 0} {E : J → Type 0} (cache :
   pub numbers : (i : ℕ) (seat : TableId × View) → slice_get session.seats.items i ≡ Some seat
       → list_all (is_before_call session.agent.caller.session (one_more session.agent.caller.call)) seat.1.own ≡ true
 
-pub record IsGivenOut {I J : Type 0} {D : I → Type 0} {E : J → Type 0} (from left : CacheOwnerState) (outside : Outside I J D E) (session : Session I J D E) : Type 0 where
+pub record IsGivenOut {I J : Type 0} {D : I → Type 0} {E : J → Type 0} (from left : CacheOwnerState) (outside : Outside I J D E)
+    (session : Session I J D E) : Type 0 where
   pub fits : session_refusal from (is_some outside.loader) (is_some outside.writer) ≡ None
   pub owner : left ≡ record from { given = from.given + 1 }
   pub caller : session.agent.caller ≡ record { session = from.given; call = 0 }
@@ -91,12 +97,14 @@ pub record IsGivenOut {I J : Type 0} {D : I → Type 0} {E : J → Type 0} (from
   pub none : session.agent.counts.own ≡ 0
   pub begins : BeginsAt from session
 
-pub record IsNotGivenOut {I J : Type 0} {D : I → Type 0} {E : J → Type 0} (from left : CacheOwnerState) (outside : Outside I J D E) (fault : SessionFault I J D E) : Type 0 where
+pub record IsNotGivenOut {I J : Type 0} {D : I → Type 0} {E : J → Type 0} (from left : CacheOwnerState) (outside : Outside I J D E)
+    (fault : SessionFault I J D E) : Type 0 where
   pub why : (session_refusal from (is_some outside.loader) (is_some outside.writer) ≡ Some fault.refusal)
       ⊎ ((session_refusal from (is_some outside.loader) (is_some outside.writer) ≡ None) × (fault.refusal ≡ OutOfMemory))
   pub same : left ≡ from
   pub back : (fault.loader ≡ outside.loader) × (fault.writer ≡ outside.writer)
 
-pub record Completes {I J : Type 0} {D : I → Type 0} {E : J → Type 0} (cache : CacheState) (session : Session I J D E) (Ended : Type 0) : Type 0 where
+pub record Completes {I J : Type 0} {D : I → Type 0} {E : J → Type 0} (cache : CacheState) (session : Session I J D E)
+    (Ended : Type 0) : Type 0 where
   pub may : MayCall cache session
   pub call : Ended

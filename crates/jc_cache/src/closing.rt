@@ -72,6 +72,14 @@ impl ClosedStripe {
         self.stripe.lives()
     }
 
+    /// Whether it was shut when its cache was closed: all its entries were to be forgotten, but its history had no place for that
+    /// ([`Cache::invalidate`]). [`CacheOwner::reopen`] opens with none of them.
+    pub fn is_shut(&self) -> bool
+        ensures { result ≡ self.now.shut }
+    {
+        self.stripe.is_shut()
+    }
+
     /// The number of generations that ended before this history. A count that has reached `u64::MAX` stays there.
     pub fn generations_ended(&self) -> u64
         ensures { result ≡ min (length self.now.ended) LAST_NUMBER }
@@ -94,8 +102,8 @@ impl ClosedStripe {
         self.stripe.append_events(0, self.stripe.events_len(), out)
     }
 
-    /// Appends the entries, each key once, the most recently used first. An `Err` says that an allocation failed, and then nothing
-    /// is appended.
+    /// Appends the entries, each key once, the most recently used first; also those that were to be forgotten, if the stripe
+    /// [was shut](ClosedStripe::is_shut). An `Err` says that an allocation failed, and then nothing is appended.
     pub fn append_entries(&self, out: &mut Vec<(Key, Value)>) -> Result<(), AllocError>
         ensures by_use { OnOk result (out.new.items
             ≡ out.old.items ++ by_use self.now.opening self.now.history) }

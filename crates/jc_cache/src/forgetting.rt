@@ -30,8 +30,8 @@ impl Cache {
     /// - Otherwise its entry is evicted at once, if it has one.
     /// - If the stripe's history is full, and its generation may end, it ends first. If not, the stripe is shut: each call that
     ///   begins there is `Busy`, and those that wait evict all its entries as places become free. In a cache that doesn't live on
-    ///   no place becomes free, and calls are refused as `HistoryFull`. What such a stripe hasn't evicted when the cache is closed
-    ///   is among its entries, and [`reopen`](crate::CacheOwner::reopen) opens with it.
+    ///   no place becomes free, and calls are refused as `HistoryFull`. What a stripe that is shut hasn't evicted when the cache is
+    ///   closed is forgotten then: [`reopen`](crate::CacheOwner::reopen) doesn't open with it.
     ///
     /// It is never refused, asks nobody, takes no memory, and waits for nothing but the stripe, while a phase is made there. It is
     /// no step: it takes no call number, and the session's own steps and its counts stay. The session has then seen the stripe's

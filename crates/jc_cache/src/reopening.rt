@@ -1,11 +1,10 @@
 //! The reopening of a closed cache, in the same shape or another.
-ghost use Rattle.std.specs.Prelude.{◌≡◌, ◌⊎◌, None, Some, IfOk, IfErr, not};
+ghost use Rattle.std.specs.Prelude.{◌≡◌, ◌⊎◌, ◌++◌, None, Some, IfOk, IfErr, OnOk, not};
 ghost use Rattle.std.specs.List.{list_any};
 ghost use Rattle.jc_types.specs.declared.refusal.Refusal.TheVariants.{OutOfMemory};
 ghost use Rattle.jc_model.specs.Listed.{has_distinct_keys};
 ghost use Rattle.jc_stripe.specs.Reached.{IsReached};
-ghost use Rattle.jc_stripe.specs.Reopening.{all_entries, shares_key};
-ghost use Rattle.jc_cache.specs.Reopening.{IsReopened, lived, IsReopenRefusal};
+ghost use Rattle.jc_cache.specs.Reopening.{IsReopened, lived, IsReopenRefusal, all_left, entries_left, shares_left};
 
 use crate::closing::{Closed, ClosedStripe};
 use crate::owner::{CacheOwner, open_with};
@@ -49,18 +48,21 @@ impl CacheOwner {
     /// used entry on, every entry goes to the stripe of its key. That stripe keeps as many entries as it has room for, in this
     /// order of use, and the others are dropped. A cache that lived on lives on.
     ///
+    /// A stripe that was [shut](ClosedStripe::is_shut) when it was closed leaves no entry: each of them was to be forgotten, and
+    /// had no place for its eviction.
+    ///
     /// The new histories are empty, and legal from what is kept. The closed histories end here: read them before. A stripe
     /// doesn't store what it was opened with. To check a later history by `legal`, keep the entries that
-    /// [`ClosedStripe::append_entries`] gives of each old stripe, in their order: a stripe's opening is the first `capacity` of
-    /// those that `stripe_of` sends to it.
+    /// [`ClosedStripe::append_entries`] gives of each old stripe that wasn't shut, in their order: a stripe's opening is the first
+    /// `capacity` of those that `stripe_of` sends to it.
     ///
-    /// It is refused, and hands the closed cache back, if the shape is out of its limits (`BadConfig`), if a key is there twice,
+    /// It is refused, and hands the closed cache back, if the shape is out of its limits (`BadConfig`), if a key is left twice,
     /// as in stripes of two caches (`RepeatedKey`), or if an allocation failed (`OutOfMemory`), tested in this order. Old and new
     /// stripes are there together until it returns.
     pub fn reopen(alloc: Global, closed: Closed, config: &Config) -> Result<Reopened, ReopenFault>
-        ensures ok { IfOk result (λ r. IsReopened (lived closed.stripes.items) config.now (all_entries closed.stripes.items) r.owner r.dropped.items
+        ensures ok { IfOk result (λ r. IsReopened (lived closed.stripes.items) config.now (all_left closed.stripes.items) r.owner r.dropped.items
             × (r.outside ≡ closed.outside)) }
-        ensures err { IfErr result (λ f. IsReopenRefusal config.now (all_entries closed.stripes.items) f.refusal × (f.closed ≡ closed)) }
+        ensures err { IfErr result (λ f. IsReopenRefusal config.now (all_left closed.stripes.items) f.refusal × (f.closed ≡ closed)) }
     {
         match open_again(alloc, &closed.stripes, config) {
             Ok((owner, dropped)) => {
@@ -81,14 +83,33 @@ impl CacheOwner {
     }
 }
 
-/// Opens a cache of this shape with what these stripes have cached. It returns the owner, and the entries that were dropped.
+impl ClosedStripe {
+    /// Appends the entries that the stripe leaves to the cache that opens. An `Err` says that an allocation failed.
+    fn append_left(&self, out: &mut Vec<(Key, Value)>) -> Result<(), AllocError>
+        ensures { OnOk result (out.new.items ≡ out.old.items ++ entries_left self.now) }
+    {
+        if self.is_shut() {
+            return Ok(());
+        }
+        self.append_entries(out)
+    }
+
+    /// Whether this stripe and the other leave the same key. It takes no memory.
+    fn shares_left(&self, other: &ClosedStripe) -> bool
+        ensures { result ≡ shares_left self.now other.now }
+    {
+        !self.is_shut() && !other.is_shut() && self.shares_key(other)
+    }
+}
+
+/// Opens a cache of this shape with what these stripes leave. It returns the owner, and the entries that were dropped.
 fn open_again(
     alloc: Global,
     stripes: &[ClosedStripe],
     config: &Config,
 ) -> Result<(CacheOwner, Vec<(Key, Value)>), Refusal>
-    ensures ok { IfOk result (λ r. IsReopened (lived stripes.now) config.now (all_entries stripes.now) r.0 r.1.items) }
-    ensures err { IfErr result (λ r. IsReopenRefusal config.now (all_entries stripes.now) r) }
+    ensures ok { IfOk result (λ r. IsReopened (lived stripes.now) config.now (all_left stripes.now) r.0 r.1.items) }
+    ensures err { IfErr result (λ r. IsReopenRefusal config.now (all_left stripes.now) r) }
 {
     keeps_or_drops();
     config.check()?;
@@ -114,9 +135,9 @@ fn lived(stripes: &[ClosedStripe]) -> bool
     }
 }
 
-/// Whether a key is in two of these stripes. It takes no memory.
+/// Whether two of these stripes leave the same key. It takes no memory.
 fn has_repeated_key(stripes: &[ClosedStripe]) -> bool
-    ensures { result ≡ not (has_distinct_keys (all_entries stripes.now)) }
+    ensures { result ≡ not (has_distinct_keys (all_left stripes.now)) }
 {
     let mut found = false;
     for i in 0..stripes.len() {
@@ -127,27 +148,27 @@ fn has_repeated_key(stripes: &[ClosedStripe]) -> bool
     found
 }
 
-/// Whether a key is in a stripe and in one of the others.
+/// Whether a stripe and one of the others leave the same key.
 fn shares_with_any(stripe: &ClosedStripe, others: &[ClosedStripe]) -> bool
-    ensures shares { result ≡ list_any (shares_key stripe.now) others.now }
+    ensures shares { result ≡ list_any (shares_left stripe.now) others.now }
     ensures reached { IsReached stripe.now }
 {
     let _reached = stripe.events_len();
     for other in others {
-        if stripe.shares_key(other) {
+        if stripe.shares_left(other) {
             return true;
         }
     }
     false
 }
 
-/// Copies what these stripes have cached, stripe by stripe. An `Err` says that an allocation failed.
+/// Copies what these stripes leave, stripe by stripe. An `Err` says that an allocation failed.
 fn copy_entries(alloc: Global, stripes: &[ClosedStripe]) -> Result<Vec<(Key, Value)>, AllocError>
-    ensures { IfOk result (λ r. r.items ≡ all_entries stripes.now) }
+    ensures { IfOk result (λ r. r.items ≡ all_left stripes.now) }
 {
     let mut entries = Vec::new(alloc);
     for stripe in stripes {
-        stripe.append_entries(&mut entries)?;
+        stripe.append_left(&mut entries)?;
     }
     Ok(entries)
 }

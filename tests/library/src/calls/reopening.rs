@@ -62,6 +62,42 @@ reopen 1 1 100 drops a=1 b=2
 get d = 4 | 0 0 0
 ";
 
+/// A history that is full when a key of its stripe is forgotten. No entry of that stripe is there after the cache is opened again, and
+/// none is dropped; the other stripe's are there.
+const FORGOTTEN: &str = "\
+open 2 4 16
+put b 2 = ok
+put a 1 = ok
+put c 3 = ok
+get a = 1
+get a = 1
+get a = 1
+get a = 1
+get a = 1
+get a = 1
+get a = 1
+get a = 1
+get a = 1
+get a = 1
+get a = 1
+get a = 1
+get a = 1
+get a = 1
+invalidate a
+contains a = HistoryFull
+contains b = true
+reopen 2 4 16 drops
+contains a = false
+contains c = false
+contains b = true
+get a = -
+put a 4 = ok
+reopen 1 4 16 drops
+contains c = false
+get a = 4
+get b = 2
+";
+
 /// Generations one after the other, in one shape, each with a step of each session.
 const GENERATION: &str = "\
 get a = 1 | 1 0 0
@@ -121,7 +157,7 @@ macro_rules! two_of {
 #[test]
 fn opens_again(rt: HostRuntime) {
     let alloc = rt.alloc();
-    for text in [SAME_SHAPE, OTHER_SHAPE, BACK_AND_FORTH] {
+    for text in [SAME_SHAPE, OTHER_SHAPE, BACK_AND_FORTH, FORGOTTEN] {
         let scene = Scene::of(&rt, text);
         let desk = Desk::of(&rt, alloc, scene.stored);
         let mut stage = two_of!(rt, desk, scene);
@@ -221,4 +257,49 @@ fn refuses_to_open_again(rt: HostRuntime) {
     let why = Refusal::RepeatedKey;
     let first = stays_closed(&rt, alloc, first, &scene.shape, why);
     is(&rt, first.stripes.first().map(|s| s.events_len()), Some(1));
+}
+
+/// One stripe of two entries, whose history is full when its keys are forgotten.
+const ALL_FORGOTTEN: &str = "\
+open 1 4 16
+put a 1 = ok
+put b 2 = ok
+get a = 1
+get a = 1
+get a = 1
+get a = 1
+get a = 1
+get a = 1
+get a = 1
+get a = 1
+get a = 1
+get a = 1
+get a = 1
+get a = 1
+get a = 1
+get a = 1
+invalidateall
+";
+
+/// A key that is cached in stripes of two caches isn't there twice, if one of them has forgotten it.
+#[test]
+fn opens_with_a_key_that_was_forgotten_once(rt: HostRuntime) {
+    let alloc = rt.alloc();
+    let scene = Scene::of(&rt, ALL_FORGOTTEN);
+    let desk = Desk::of(&rt, alloc, scene.stored);
+    let (mut first, mut second) = (two_of!(rt, desk, scene), two_of!(rt, desk, scene));
+    first.plays(&rt, alloc, &desk, scene.lines);
+    second.plays(&rt, alloc, &desk, "put a 5 = ok\n");
+    let mut first = closed(&rt, alloc, first);
+    let mut second = closed(&rt, alloc, second);
+    let stripe = second.stripes.pop().expect(&rt, "a stripe");
+    first.stripes.push(stripe).ok().expect(&rt, "memory");
+    let shut = |place| first
+        .stripes
+        .get(place)
+        .map(|it: &ClosedStripe| it.is_shut());
+    is(&rt, (shut(0), shut(1)), (Some(true), Some(false)));
+    let mut stage = opened_again(&rt, alloc, first, &scene.shape, "");
+    stage.plays(&rt, alloc, &desk, "get a = 5\ncontains b = false\n");
+    let _end = closed(&rt, alloc, stage);
 }

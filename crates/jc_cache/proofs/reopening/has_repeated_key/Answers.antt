@@ -1,4 +1,5 @@
-use Rattle.jc_cache.proofs.Common.{◌≡◌, ◌+◌, ◌||◌, ◌≤◌, ℕ, Bool, length, take, sym, ap, subst, ◌∙◌, arith, All-more, All-same, list_any, IsReached, shares_key}
+use Rattle.jc_cache.proofs.Common.{◌≡◌, ◌+◌, ◌||◌, ◌≤◌, ℕ, Bool, length, take, sym, ap, subst, ◌∙◌, arith, All-more, All-same, list_any, IsReached}
+use Rattle.jc_cache.specs.Reopening.{shares_left}
 use Rattle.std.proofs.Math.ListN.{drop_of_length-le}
 use Rattle.std.proofs.Math.Seq.{take-length}
 use Rattle.jc_cache.proofs.Reopenings.{rest_whole, asked_of, found_repeated}
@@ -16,7 +17,7 @@ loop-i-preserved c =
       | else-found w ↦ w.found-is ∙ ap (λ (b : Bool). b || c.shares_with_any-shares.result) (sym w.if-found.false)
     ] in
     record {
-      found = rw joined (asked_of stripes i c.index-stripes-i.result c.loop-i.found c.shares_with_any-shares.result c.loop-i-test.true c.index-stripes-i.is (asked.shares ∙ ap (list_any (shares_key c.index-stripes-i.result)) (rest_whole stripes (i + 1))) c.loop-i.invariant.found);
+      found = rw joined (asked_of stripes i c.index-stripes-i.result c.loop-i.found c.shares_with_any-shares.result c.loop-i-test.true c.index-stripes-i.is (asked.shares ∙ ap (list_any (shares_left c.index-stripes-i.result)) (rest_whole stripes (i + 1))) c.loop-i.invariant.found);
       reached = All-more IsReached stripes i c.index-stripes-i.result c.loop-i-test.true c.loop-i.invariant.reached (subst IsReached c.index-stripes-i.is asked.reached);
     }
 
