@@ -37,7 +37,7 @@ pub use Rattle.jc_types.proofs.CallerLemmas.{stands_on}
 pub use Rattle.jc_world.specs.Alike.{Agree, AgreeAt, AreLike, IsLike, WorldsAlike, WorldsGoOnAlike}
 pub use Rattle.jc_world.specs.Determinism.{RunsAreDetermined, have_memory}
 pub use Rattle.jc_world.specs.Essence.{EssencesTell, StripeEssence, WorldEssence, answer_in, essence_of, essence_of_world}
-pub use Rattle.jc_world.specs.Events.{Run, RunAppending}
+pub use Rattle.jc_world.specs.Runs.{Run, RunAppending}
 pub use Rattle.jc_world.specs.World.{WorldState, cached_entry, entry_in, home}
 pub use Rattle.jc_world.specs.declared.event.Shown.{Shown}
 pub use Rattle.jc_world.specs.declared.event.WorldEvent.{WorldEvent}

@@ -93,7 +93,8 @@ HasEachScene p scenes = (s : SceneState) → IsReachedScene p s → IsAmongScene
 abbrev pub IsNoFarther : Program → SceneState → SceneState → Type 0
 IsNoFarther p s t =
     (schedule : List Move) × PlaysSchedule p (opening p) schedule s
-    × ((other : List Move) (like : SceneState) → PlaysSchedule p (opening p) other like → ScenesAlike like t → length schedule ≤ length other)
+    × ((other : List Move) (like : SceneState) → PlaysSchedule p (opening p) other like → ScenesAlike like t
+    → length schedule ≤ length other)
 
 abbrev pub AreNearestFirst : Program → List SceneState → Type 0
 AreNearestFirst p scenes = AllPairs (λ s t. IsNoFarther p s t) scenes

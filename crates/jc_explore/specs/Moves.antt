@@ -4,7 +4,8 @@
 --     moves_up_to       each move of a number of threads
 use Rattle.std.specs.Prelude.{ℕ, zero, suc, List, [], ◌∷◌, ◌++◌, Bool, true, false}
 use Rattle.jc_explore.specs.declared.moves.Act.{Act}
-use Rattle.jc_explore.specs.declared.moves.Act.TheVariants.{Begin, Read, LoadFails, Process, ProcessLoadFails, ProcessFails, Write, WriteFails, WriteLies, Commit, PickUp}
+use Rattle.jc_explore.specs.declared.moves.Act.TheVariants.{Begin, Read, LoadFails, Process, ProcessLoadFails, ProcessFails, Write}
+use Rattle.jc_explore.specs.declared.moves.Act.TheVariants.{WriteFails, WriteLies, Commit, PickUp}
 use Rattle.jc_explore.specs.declared.moves.Move.{Move}
 
 abbrev pub is_begin : Act → Bool

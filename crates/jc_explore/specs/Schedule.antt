@@ -33,7 +33,8 @@
 --     with_all_stored    a world with these entries in its store
 --     unbegun            the position of a thread that has begun nothing
 --     opening            the scene before anything has happened
-use Rattle.std.specs.Prelude.{◌≡◌, ℕ, ◌+◌, ◌-◌, List, [], ◌∷◌, length, replicate, Bool, true, false, not, ◌&&◌, ◌||◌, nat_lt, Option, None, Some, find, option_map, count_by, nat_le, slice_get, slice_set, if◌then◌else◌}
+use Rattle.std.specs.Prelude.{◌≡◌, ℕ, ◌+◌, ◌-◌, List, [], ◌∷◌, length, replicate, Bool, true, false, not, ◌&&◌, ◌||◌, nat_lt}
+use Rattle.std.specs.Prelude.{Option, None, Some, find, option_map, count_by, nat_le, slice_get, slice_set, if◌then◌else◌}
 use Rattle.std.specs.List.{list_all, insert}
 use Rattle.std.specs.Global.{Vec}
 use Rattle.jc_types.specs.Refusals.{is_put_off}
@@ -54,7 +55,7 @@ use Rattle.jc_world.specs.declared.process.LoadSource.{LoadSource}
 use Rattle.jc_world.specs.declared.process.LoadSource.TheVariants as source
 use Rattle.jc_world.specs.Calls.{is_of_session}
 use Rattle.jc_world.specs.Determinism.{have_memory}
-use Rattle.jc_world.specs.Events.{Run}
+use Rattle.jc_world.specs.Runs.{Run}
 use Rattle.jc_world.specs.World.{WorldState, start, with_stored}
 use Rattle.jc_explore.specs.declared.moves.Act.{Act}
 use Rattle.jc_explore.specs.declared.moves.Act.TheVariants as act
@@ -85,6 +86,7 @@ begin_events number session (Some (item.Call op key)) =
 begin_events number session (Some (item.Invoke key calls)) =
     event.Call number session (Single Invoke key) ∷ event.Start number key ∷ []
 begin_events number session (Some (item.Foreign key value)) = event.Foreign key value ∷ []
+begin_events number session (Some (item.Invalidate key)) = event.Invalidate key ∷ []
 
 abbrev pub if_failing : Option ℕ → (ℕ → List WorldEvent) → List WorldEvent
 if_failing None events = []
@@ -94,6 +96,7 @@ abbrev pub entry_calls : Item → List EntryCall
 entry_calls (item.Call op key) = []
 entry_calls (item.Invoke key calls) = calls
 entry_calls (item.Foreign key value) = []
+entry_calls (item.Invalidate key) = []
 
 abbrev pub run_processor : ℕ → Bytes → LoadSource → List EntryCall → Option ℕ → List WorldEvent
 run_processor call key load calls fail = event.Process call key load calls fail ∷ []
@@ -116,12 +119,13 @@ act_events f call key calls act.WriteLies =
 act_events f call key calls act.Commit = event.Commit call key ∷ []
 act_events f call key calls act.PickUp = event.PickUp call key ∷ []
 
--- another program's write has no act of a call
+-- neither another program's write nor an invalidation has an act of a call
 abbrev pub call_events : Faults → ℕ → Option Item → Act → List WorldEvent
 call_events f call None a = []
 call_events f call (Some (item.Call op key)) a = act_events f call key [] a
 call_events f call (Some (item.Invoke key calls)) a = act_events f call key calls a
 call_events f call (Some (item.Foreign key value)) a = []
+call_events f call (Some (item.Invalidate key)) a = []
 
 abbrev pub under_way : Faults → Option ℕ → Option Item → Act → List WorldEvent
 under_way f None item a = []
@@ -158,7 +162,8 @@ move_events_at p w m None = []
 move_events_at p w m (Some position) =
     if has_number_for w.last position m.act
     then (if is_begin m.act
-    then if_idle (call_under_way w (m.thread + 1)) (begin_events (next_number w.last) (m.thread + 1) (item_at p m.thread position.begun))
+    then if_idle (call_under_way w (m.thread + 1))
+    (begin_events (next_number w.last) (m.thread + 1) (item_at p m.thread position.begun))
     else under_way p.faults (call_under_way w (m.thread + 1)) (item_at p m.thread (position.begun - 1)) m.act)
     else []
 

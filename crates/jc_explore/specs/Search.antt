@@ -44,7 +44,8 @@
 --     HasExplored         the result of an exploration with this budget of states: outcomes with shortest schedules of theirs, no
 --                         two the same, in the order of their schedules' lengths, and all of them if it is whole; and the states
 --                         that it has met
-use Rattle.std.specs.Prelude.{◌≡◌, ℕ, ◌+◌, ◌<◌, ◌≤◌, ◌⊎◌, List, [], ◌∷◌, ◌++◌, Bool, true, false, length, map, take, Some, slice_get, Result, Ok, Err}
+use Rattle.std.specs.Prelude.{◌≡◌, ℕ, ◌+◌, ◌<◌, ◌≤◌, ◌⊎◌, List, [], ◌∷◌, ◌++◌, Bool, true, false, length, map, take, Some}
+use Rattle.std.specs.Prelude.{slice_get, Result, Ok, Err}
 use Rattle.std.specs.List.{All, Any, AllPairs}
 use Rattle.jc_snapshot.specs.declared.seen.Seen.{Seen}
 use Rattle.jc_snapshot.specs.Numbers.{Continues}
@@ -57,7 +58,8 @@ use Rattle.jc_explore.specs.declared.search.Explored.{Explored}
 use Rattle.jc_explore.specs.declared.search.Finding.{Finding}
 use Rattle.jc_explore.specs.declared.search.Search.{Search}
 use Rattle.jc_explore.specs.declared.search.TheConstants.{OUTCOMES_MAX}
-use Rattle.jc_explore.specs.Explored.{AreDistinct, AreOrdered, AreShortest, AreWitnessed, CountsScenes, HasEachOutcome, IsEnd, IsFound}
+use Rattle.jc_explore.specs.Explored.{AreDistinct, AreOrdered, AreShortest, AreWitnessed, CountsScenes, HasEachOutcome, IsEnd}
+use Rattle.jc_explore.specs.Explored.{IsFound}
 use Rattle.jc_explore.specs.Final.{FinalValue, IsFinal, final_of}
 use Rattle.jc_explore.specs.Keys.{HasPlace, HaveOneKey, IsKeyOf, ScenesAlike, fingerprint_of_key}
 use Rattle.jc_explore.specs.Watching.{Progress}
@@ -120,12 +122,14 @@ IsNextOfKnown known count next =
 pub record MeetsStates (p : Program) (known : List KnownState) (found : List Finding) (count : ℕ) : Type 0 where
   pub begins : IsKnown p known (opening p)
   pub closed : IsClosedUpTo p known found count
-  pub near : (k : ℕ) (m : KnownState) → slice_get known k ≡ Some m → (m.schedule.items ≡ []) ⊎ IsNextOfKnown known count m.schedule.items
+  pub near : (k : ℕ) (m : KnownState) → slice_get known k ≡ Some m
+      → (m.schedule.items ≡ []) ⊎ IsNextOfKnown known count m.schedule.items
   pub ended : (k : ℕ) (x : Finding) → slice_get found k ≡ Some x → IsScheduleOf known count x.witness.items
 
 abbrev pub AreSorted : List KnownState → Type 0
 AreSorted known =
-    (i j : ℕ) (a b : KnownState) → i ≤ j → slice_get known i ≡ Some a → slice_get known j ≡ Some b → length a.schedule.items ≤ length b.schedule.items
+    (i j : ℕ) (a b : KnownState) → i ≤ j → slice_get known i ≡ Some a → slice_get known j ≡ Some b
+    → length a.schedule.items ≤ length b.schedule.items
 
 abbrev pub HaveNearest : Program → List KnownState → Type 0
 HaveNearest p known =
@@ -164,7 +168,8 @@ pub record KeepsMoves (p : Program) (s : SceneState) (moves kept : List Move) : 
 
 abbrev pub WasFollowed : Program → List Move → List Move → List KnownState → ℕ → Type 0
 WasFollowed p moves schedule known k =
-    (m : Move) → slice_get moves k ≡ Some m → (s : SceneState) → PlaysSchedule p (opening p) (schedule ++ m ∷ []) s → IsKnown p known s
+    (m : Move) → slice_get moves k ≡ Some m → (s : SceneState)
+    → PlaysSchedule p (opening p) (schedule ++ m ∷ []) s → IsKnown p known s
 
 abbrev pub StaysAt : Program → List Move → List Move → ℕ → Type 0
 StaysAt p moves schedule k =
@@ -250,7 +255,8 @@ pub record EndsSearch (p : Program) (budget : ℕ) (rows : List Progress) (s : S
 abbrev pub IsSearched : {E : Type 0} → Program → ℕ → List Progress → Search → Result Bool E → Type 0
 IsSearched p budget rows s (Ok is_whole) = EndsSearch p budget rows s is_whole
 IsSearched p budget rows s (Err e) =
-    (length rows ≤ budget) × ((t : Search) × IsSearchOf p t.known t.found.items × AreStateProgress p t.known.list.items t.found.items rows)
+    (length rows ≤ budget)
+    × ((t : Search) × IsSearchOf p t.known t.found.items × AreStateProgress p t.known.list.items t.found.items rows)
 
 pub record HasExplored (p : Program) (budget : ℕ) (r : Explored) : Type 0 where
   pub witnessed : AreWitnessed p r.found.items

@@ -1,6 +1,7 @@
 -- What the watch of a search is told: progress before each state, and that it is over.
 --     IsProgress     the numbers are those of a search that has followed the first so many of these scenes: of the scenes that it
---                    has met, and of the final states that it has found, which are within the limit: with more of them it follows none
+--                    has met, and of the final states that it has found, which are within the limit: with more of them it follows
+--                    none
 --     AreProgress    there is one for each of the first scenes, in order: the progress before that scene is followed
 --     IsToldOf       the progress of an exploration with this result: there is one for each scene that it followed
 --     IsToldAs       the calls of a watch for an exploration with this result. A program that is refused isn't searched

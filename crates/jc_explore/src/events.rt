@@ -68,6 +68,10 @@ fn put_begin(
             })?;
             Ok(())
         }
+        Item::Invalidate { key } => {
+            events.push(WorldEvent::Invalidate { key: *key })?;
+            Ok(())
+        }
     }
 }
 
@@ -77,9 +81,9 @@ fn entry_calls(alloc: Global, item: &Item) -> Result<EntryCalls, AllocError>
 {
     match item {
         Item::Invoke { key: _, calls } => calls.copy(alloc),
-        Item::Call { op: _, key: _ } | Item::Foreign { key: _, value: _ } => {
-            Ok(EntryCalls::new(alloc))
-        }
+        Item::Call { op: _, key: _ }
+        | Item::Foreign { key: _, value: _ }
+        | Item::Invalidate { key: _ } => Ok(EntryCalls::new(alloc)),
     }
 }
 
@@ -271,7 +275,7 @@ fn put_of_call(
                 act,
             )
         }
-        Item::Foreign { key: _, value: _ } => Ok(()),
+        Item::Foreign { key: _, value: _ } | Item::Invalidate { key: _ } => Ok(()),
     }
 }
 

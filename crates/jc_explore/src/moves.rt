@@ -7,7 +7,7 @@ use std::alloc::{AllocError, Global};
 /// The next step of a thread: one phase of its call, or an answer from outside.
 #[derive(Clone, Copy, Debug, PartialEq, Eq)]
 pub enum Act {
-    /// Its next item begins: a call makes its first phase, or another program writes the store.
+    /// Its next item begins: a call makes its first phase, another program writes the store, or a key is invalidated.
     Begin,
     /// Its loader reads the store.
     Read,

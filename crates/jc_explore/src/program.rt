@@ -6,7 +6,7 @@ use jc_model::Op;
 use jc_types::{Config, Key, Value};
 use jc_world::EntryCalls;
 
-/// One item of a thread: a call, or another program's write.
+/// One item of a thread: a call, another program's write, or an invalidation.
 #[derive(Drop)]
 pub enum Item {
     /// A call of one key. An operation that is no call by itself never begins, and an `Op::Invoke` makes no call on its entry.
@@ -29,6 +29,11 @@ pub enum Item {
         key: Key,
         /// The value, or none for a delete.
         value: Option<Value>,
+    },
+    /// The cache forgets a key, also a reserved one. It is no call, and asks nobody.
+    Invalidate {
+        /// The key.
+        key: Key,
     },
 }
 

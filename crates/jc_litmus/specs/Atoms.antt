@@ -12,7 +12,8 @@
 --     are_atoms                 each word has the shape of an atom, and there is at least one
 --     atom_onto                 the atoms so far and one more
 --     atoms_from                the atoms so far with those of more words
-use Rattle.std.specs.Prelude.{ℕ, List, [], ◌∷◌, ◌++◌, drop, codes, Bool, true, false, ◌||◌, is_ok, Option, None, Some, Result, Ok, Err, if◌then◌else◌}
+use Rattle.std.specs.Prelude.{ℕ, List, [], ◌∷◌, ◌++◌, drop, codes, Bool, true, false, ◌||◌, is_ok, Option, None, Some, Result, Ok}
+use Rattle.std.specs.Prelude.{Err, if◌then◌else◌}
 use Rattle.std.specs.Str.{bytes_eq}
 use Rattle.std.specs.List.{list_all}
 use Rattle.jc_explore.specs.declared.program.Item.{Item}

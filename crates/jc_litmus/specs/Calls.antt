@@ -1,6 +1,6 @@
 -- The calls of a program, by the numbers with which an expectation names them.
---     item_reply_kind    the kind of replies of a call; a write of another program isn't answered
---     is_call            an item is a call, and no write of another program
+--     item_reply_kind    the kind of replies of a call; no other item is answered
+--     is_call            an item is a call, and neither a write of another program nor an invalidation
 --     named_or           a call's place among its thread's calls, and its kind of replies, if it has replies
 --     reply_kind_at      the kind of replies of an item, if there is one
 --     call_in            a call of a thread: its place among the thread's calls, and its kind of replies
@@ -22,11 +22,13 @@ abbrev pub item_reply_kind : Item → Option ReplyKind
 item_reply_kind (item.Call op key) = Some (reply_kind op)
 item_reply_kind (item.Invoke key calls) = Some (reply_kind Invoke)
 item_reply_kind (item.Foreign key value) = None
+item_reply_kind (item.Invalidate key) = None
 
 abbrev pub is_call : Item → Bool
 is_call (item.Call op key) = true
 is_call (item.Invoke key calls) = true
 is_call (item.Foreign key value) = false
+is_call (item.Invalidate key) = false
 
 abbrev pub named_or : ℕ → Option ReplyKind → Result (ℕ × ReplyKind) LineFault
 named_or call None = Err NoSuchItem

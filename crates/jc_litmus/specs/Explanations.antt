@@ -7,17 +7,22 @@
 --     word_text              the column of a word, what is wrong, the word, and what would fit
 --     own_explanation, explanation    the whole line, as programs have it, and for any fault of a line
 --     IsExplained            the result for a line's error, and what was told of it
---     explanation_if_open, explanation_at_end    what is told at the end of a text: that there is no `open`, or that the last line is cut
---     ExplainsLines, ExplainsProgram    what was told of lines and of a text that were read, unless an allocation failed: nothing without
+--     explanation_if_open, explanation_at_end    what is told at the end of a text: that there is no `open`, or that the last line
+--                                                is cut
+--     ExplainsLines, ExplainsProgram    what was told of lines and of a text that were read, unless an allocation failed: nothing
+--                                       without
 --                            a fault
 --     explanation_or         what is told of a line with a fault, or else of what follows
---     explanation_from, explanation_of    what is told of lines from a number on, and of a whole text: nothing if they have no fault
-use Rattle.std.specs.Prelude.{◌≡◌, ℕ, ◌+◌, List, [], ◌∷◌, ◌++◌, drop, codes, decimal, Bool, true, false, ◌||◌, Option, None, Some, Result, Ok, Err, if◌then◌else◌}
+--     explanation_from, explanation_of    what is told of lines from a number on, and of a whole text: nothing if they have no
+--                                         fault
+use Rattle.std.specs.Prelude.{◌≡◌, ℕ, ◌+◌, List, [], ◌∷◌, ◌++◌, drop, codes, decimal, Bool, true, false, ◌||◌, Option, None, Some}
+use Rattle.std.specs.Prelude.{Result, Ok, Err, if◌then◌else◌}
 use Rattle.std.specs.Str.{bytes_eq}
 use Rattle.jc_types.specs.declared.config.Config.{Config}
 use Rattle.jc_explore.specs.declared.program.Item.{Item}
 use Rattle.jc_text.specs.declared.fault.Fault.{Fault}
-use Rattle.jc_text.specs.declared.fault.Fault.TheVariants.{BadByte, BadKey, BadLine, BadNumber, BadValue, CutLine, LineTooLong, NotOpen, SetTooLate}
+use Rattle.jc_text.specs.declared.fault.Fault.TheVariants.{BadByte, BadKey, BadLine, BadNumber, BadValue, CutLine, LineTooLong}
+use Rattle.jc_text.specs.declared.fault.Fault.TheVariants.{NotOpen, SetTooLate}
 use Rattle.jc_text.specs.Pieces.{pieces_of}
 use Rattle.jc_text.specs.Places.{complaint, quoted, shape_text, start_of}
 use Rattle.jc_text.specs.Words.{words_of}
@@ -26,7 +31,8 @@ use Rattle.jc_litmus.specs.declared.fault_word.LineForm.TheVariants as form
 use Rattle.jc_litmus.specs.declared.line_error.LineError.{LineError}
 use Rattle.jc_litmus.specs.declared.line_error.LineError.TheVariants as errors
 use Rattle.jc_litmus.specs.declared.program.LineFault.{LineFault}
-use Rattle.jc_litmus.specs.declared.program.LineFault.TheVariants.{BadReply, NoSuchItem, NoThread, NotACall, Script, TooManyItems, TooManyThreads}
+use Rattle.jc_litmus.specs.declared.program.LineFault.TheVariants.{BadReply, NoSuchItem, NoThread, NotACall, Script, TooManyItems}
+use Rattle.jc_litmus.specs.declared.program.LineFault.TheVariants.{TooManyThreads}
 use Rattle.jc_litmus.specs.declared.program.Litmus.{Litmus}
 use Rattle.jc_litmus.specs.declared.program.ProgramFault.{ProgramFault}
 use Rattle.jc_litmus.specs.declared.program.ProgramFault.TheVariants as program_fault
@@ -38,7 +44,9 @@ use Rattle.jc_litmus.specs.Program.{ReadSoFar, after_line, is_blank, nothing_rea
 
 abbrev pub begins_shared_line : List (List ℕ) → Bool
 begins_shared_line [] = false
-begins_shared_line (first ∷ words) = bytes_eq first (codes "open") || bytes_eq first (codes "set") || bytes_eq first (codes "foreign")
+begins_shared_line (first ∷ words) =
+    bytes_eq first (codes "open") || bytes_eq first (codes "set") || bytes_eq first (codes "foreign")
+    || bytes_eq first (codes "invalidate")
 
 abbrev pub is_unknown : LineForm → Bool
 is_unknown form.Unknown = true
@@ -69,7 +77,8 @@ shape_hint form.Thread = codes " (a line thread has no other word)"
 shape_hint form.Invoke = codes " (invoke K : CALL .., each CALL get, exists, remove or set=V)"
 shape_hint (form.Call last) = codes " (a call has its key, and as many values as its name asks for)"
 shape_hint form.Unknown =
-    codes " (a call is get, contains, put, getput, putif, remove, removeif, getremove, forget, replace, replaceif, getreplace or invoke)"
+    codes
+    " (a call is get, contains, put, getput, putif, remove, removeif, getremove, forget, replace, replaceif, getreplace or invoke)"
 
 abbrev pub hint_of : LineFault → List (List ℕ) → List ℕ
 hint_of (Script BadLine) words = shape_hint (form_of words)
@@ -82,15 +91,17 @@ hint_of (Script other) words = []
 hint_of NoThread words = codes " (a line thread begins the first thread, and items follow it)"
 hint_of TooManyThreads words = codes " (at most 8)"
 hint_of TooManyItems words = codes " (at most 32, of all threads together)"
-hint_of BadReply words = codes " (what this call can answer: ok, true, false, a value or -, WriterFailed:7, refused:HistoryFull, ..)"
+hint_of BadReply words =
+    codes " (what this call can answer: ok, true, false, a value or -, WriterFailed:7, refused:HistoryFull, ..)"
 hint_of NoSuchItem words = codes " (T.I is a call on a line above: item I of thread T)"
-hint_of NotACall words = codes " (items are calls of one key, forget and foreign)"
+hint_of NotACall words = codes " (items are calls of one key, forget, foreign and invalidate)"
 
 -- threads: those above the line
 unfoldable pub word_text : (threads : List (List Item)) → LineFault → (line : List ℕ) → List ℕ
 word_text threads fault line =
     let at = word_meant threads fault (words_of line) in
-    codes ", column " ++ decimal (start_of at line + 1) ++ codes ": " ++ what_text fault at (drop at (words_of line)) ++ quoted (drop at (words_of line))
+    codes ", column " ++ decimal (start_of at line + 1) ++ codes ": " ++ what_text fault at (drop at (words_of line))
+    ++ quoted (drop at (words_of line))
     ++ hint_of fault (words_of line)
 
 unfoldable pub own_explanation : (threads : List (List Item)) (number : ℕ) (line : List ℕ) → LineFault → List ℕ
@@ -102,7 +113,8 @@ explanation threads number line (Script f) =
 explanation threads number line fault = own_explanation threads number line fault
 
 -- old, new: what was told before and after
-abbrev pub IsExplained : (threads : List (List Item)) (number : ℕ) (line : List ℕ) → LineError → (old new : List ℕ) → ProgramFault → Type 0
+abbrev pub IsExplained : (threads : List (List Item)) (number : ℕ) (line : List ℕ) → LineError → (old new : List ℕ)
+    → ProgramFault → Type 0
 IsExplained threads number line error old new program_fault.OutOfMemory = Unit {0}
 IsExplained threads number line error old new (program_fault.Line at fault) =
     (error ≡ errors.Fault fault) × (at ≡ number) × (new ≡ old ++ explanation threads number line fault)

@@ -9,7 +9,8 @@
 --                                       of all words
 --     search_for                        which words a fault looks for, if it doesn't mean the whole line
 --     word_by, word_meant               the word that a fault is about: the first one, if the whole line is meant
-use Rattle.std.specs.Prelude.{◌==◌, ◌&&◌, ◌||◌, ◌+◌, ℕ, List, [], ◌∷◌, drop, length, codes, Bool, true, false, not, nat_lt, is_ok, is_some, Option, None, Some, if◌then◌else◌}
+use Rattle.std.specs.Prelude.{◌==◌, ◌&&◌, ◌||◌, ◌+◌, ℕ, List, [], ◌∷◌, drop, length, codes, Bool, true, false, not, nat_lt, is_ok}
+use Rattle.std.specs.Prelude.{is_some, Option, None, Some, if◌then◌else◌}
 use Rattle.std.specs.Str.{bytes_eq}
 use Rattle.jc_explore.specs.declared.program.Item.{Item}
 use Rattle.jc_text.specs.declared.fault.Fault.TheVariants.{BadKey, BadLine, BadNumber, BadValue}
@@ -51,7 +52,8 @@ form_of (first ∷ words) = line_form first
 
 abbrev pub is_entry_call : List ℕ → Bool
 is_entry_call word =
-    bytes_eq word (codes "get") || bytes_eq word (codes "exists") || bytes_eq word (codes "remove") || begins_with (codes "set=") word
+    bytes_eq word (codes "get") || bytes_eq word (codes "exists") || bytes_eq word (codes "remove")
+    || begins_with (codes "set=") word
 
 abbrev pub reads_entry_call : List ℕ → Bool
 reads_entry_call word = if begins_with (codes "set=") word then is_ok (value_of (drop 4 word)) else is_entry_call word

@@ -100,7 +100,8 @@ may_fail_so None code = Err BadLine
 may_fail_so (Some who) code = with_number who (number_of code)
 
 abbrev pub may_fail : List (List ℕ) → Result (WhoFails × ℕ) Fault
-may_fail (who ∷ may ∷ how ∷ code ∷ []) = if bytes_eq may (codes "may") then may_fail_so (failing_named who how) code else Err BadLine
+may_fail (who ∷ may ∷ how ∷ code ∷ []) =
+    if bytes_eq may (codes "may") then may_fail_so (failing_named who how) code else Err BadLine
 may_fail words = Err BadLine
 
 abbrev pub with_fault : Faults → WhoFails → ℕ → Faults

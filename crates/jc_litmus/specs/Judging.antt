@@ -17,7 +17,8 @@
 --     IsNumbered               the outcome in a verdict, counted from 1, has a number of 64 bits
 --     is_failure               the verdict is that the expectation fails
 --     end_of                   the end of an exploration with these expectations
-use Rattle.std.specs.Prelude.{◌==◌, ℕ, ◌+◌, ◌-◌, ◌<◌, ◌^◌, List, [], ◌∷◌, length, position, Bool, true, false, not, ◌&&◌, Option, None, Some, IfSome, if◌then◌else◌}
+use Rattle.std.specs.Prelude.{◌==◌, ℕ, ◌+◌, ◌-◌, ◌<◌, ◌^◌, List, [], ◌∷◌, length, position, Bool, true, false, not, ◌&&◌, Option}
+use Rattle.std.specs.Prelude.{None, Some, IfSome, if◌then◌else◌}
 use Rattle.std.specs.List.{list_all, list_any}
 use Rattle.std.specs.Cmp.Lexicographic.{pointwise}
 use Rattle.std.specs.Str.{bytes_eq}

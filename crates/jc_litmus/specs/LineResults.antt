@@ -1,4 +1,5 @@
--- What a function that reads a line of a program of threads returns, and that a fault changes nothing.
+-- What a function that reads a line of a program of threads returns, and that a fault changes nothing. No contract of a public
+-- function cites this.
 --     error_of        an error of a script's reader, as one of a program's
 --     ReadsAs         a function returned what the definition states, unless an allocation failed
 --     KeepsAtFault    at a fault nothing has changed

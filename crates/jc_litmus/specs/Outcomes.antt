@@ -2,7 +2,8 @@
 --     calls_before                  the number of calls before a place of a thread's list
 --     replies_to                    the number of replies that a thread got
 --     asked_words                   the words of what a call asks for
---     call_name                     a call as it is named: its thread and its place there, both counted from 1, and what it asks for
+--     call_name                     a call as it is named: its thread and its place there, both counted from 1, and what it asks
+--                                   for
 --     reply_line                    the line of a call that was answered
 --     unanswered_line               the line of a call that is never answered
 --     answer_line                   the line of a call: its reply, or that it has none, if it is the first such call of its
@@ -30,7 +31,8 @@
 --     verdicts_text                 several expectations, each with its verdict
 --     exploration_text              the whole answer
 --     fault_text                    the line for a fault of a line
-use Rattle.std.specs.Prelude.{◌==◌, ℕ, zero, suc, ◌+◌, List, [], ◌++◌, codes, decimal, length, take, count_by, Bool, true, false, nat_lt, Option, None, Some, slice_get, if◌then◌else◌}
+use Rattle.std.specs.Prelude.{◌==◌, ℕ, zero, suc, ◌+◌, List, [], ◌++◌, codes, decimal, length, take, count_by, Bool, true, false}
+use Rattle.std.specs.Prelude.{nat_lt, Option, None, Some, slice_get, if◌then◌else◌}
 use Rattle.std.specs.List.{flat_map}
 use Rattle.std.specs.Global.{Vec}
 use Rattle.jc_model.specs.Cache.{Bytes}
@@ -69,6 +71,7 @@ abbrev pub asked_words : Item → List Bytes
 asked_words (item.Call op key) = operation_words op key
 asked_words (item.Invoke key calls) = operation_words Invoke key
 asked_words (item.Foreign key value) = []
+asked_words (item.Invalidate key) = []
 
 unfoldable pub call_name : ℕ → ℕ → Item → List ℕ
 call_name thread at x = decimal (thread + 1) ++ codes "." ++ decimal (at + 1) ++ spaced (asked_words x) ++ codes ": "
@@ -85,7 +88,8 @@ answer_line thread at x true None = unanswered_line thread at x
 answer_line thread at x false None = []
 
 abbrev pub thread_call_text : List ThreadReply → ℕ → ℕ → Item → ℕ → List ℕ
-thread_call_text replies thread at x call = answer_line thread at x (call == replies_to thread replies) (reply_of thread call replies)
+thread_call_text replies thread at x call =
+    answer_line thread at x (call == replies_to thread replies) (reply_of thread call replies)
 
 abbrev pub item_if : List ThreadReply → ℕ → List Item → ℕ → Option Item → List ℕ
 item_if replies thread items at None = []

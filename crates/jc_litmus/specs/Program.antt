@@ -28,7 +28,8 @@
 --     program_from                           the program of the lines from a number on, or the first line at fault, and its fault
 --     program_of                             the program of a text, whose lines are the pieces between its line feeds
 --     ReadsLines, ReadsProgram               the result of reading a text is that of `program_of`, unless an allocation failed
-use Rattle.std.specs.Prelude.{◌≡◌, ℕ, ◌+◌, List, [], ◌∷◌, ◌++◌, length, map, codes, Bool, true, false, nat_lt, Option, None, Some, Result, Ok, Err, if◌then◌else◌}
+use Rattle.std.specs.Prelude.{◌≡◌, ℕ, ◌+◌, List, [], ◌∷◌, ◌++◌, length, map, codes, Bool, true, false, nat_lt, Option, None, Some}
+use Rattle.std.specs.Prelude.{Result, Ok, Err, if◌then◌else◌}
 use Rattle.std.specs.Str.{bytes_eq}
 use Rattle.std.specs.List.{flat_map}
 use Rattle.jc_types.specs.declared.config.Config.{Config}
@@ -55,7 +56,8 @@ use Rattle.jc_litmus.specs.declared.program.ProgramFault.{ProgramFault}
 use Rattle.jc_litmus.specs.declared.program.ProgramFault.TheVariants as program_fault
 use Rattle.jc_litmus.specs.declared.program.Quantifier.{Quantifier}
 use Rattle.jc_litmus.specs.Atoms.{are_atoms, atoms_from, in_script}
-use Rattle.jc_litmus.specs.Grammar.{after_space, begin_line, calls_of_text, is_outside, may_fail, operation_in, process_text, quantifier_named, with_fault}
+use Rattle.jc_litmus.specs.Grammar.{after_space, begin_line, calls_of_text, is_outside, may_fail, operation_in, process_text}
+use Rattle.jc_litmus.specs.Grammar.{quantifier_named, with_fault}
 use Rattle.jc_litmus.specs.Opened.{shape_fault}
 use Rattle.jc_litmus.specs.Then.{◌>>=◌}
 
@@ -79,7 +81,15 @@ pub record ReadSoFar : Type 0 where
   pub expectations : List Expected
 
 abbrev pub nothing_read : ReadSoFar
-nothing_read = record { config = None; stored = []; threads = []; items = 0; faults = record { load = None; write = None; lie = None; process = None }; expectations = [] }
+nothing_read =
+    record {
+      config = None;
+      stored = [];
+      threads = [];
+      items = 0;
+      faults = record { load = None; write = None; lie = None; process = None };
+      expectations = [];
+    }
 
 -- 2. Lines that scripts have too.
 
@@ -124,6 +134,7 @@ unfoldable pub after_script_line : ReadSoFar → Line → Result ReadSoFar LineF
 after_script_line so_far (line.Open config) = after_open so_far config
 after_script_line so_far (line.Set key value) = after_set so_far key value
 after_script_line so_far (line.Foreign key value) = after_item so_far (item.Foreign key value)
+after_script_line so_far (line.Invalidate key) = after_item so_far (item.Invalidate key)
 after_script_line so_far other = if_open so_far.config (Err NotACall)
 
 -- 3. Lines that no script has.
@@ -144,7 +155,8 @@ after_call so_far first words =
 
 abbrev pub invocation_of : List ℕ → List (List ℕ) → Result Item LineFault
 invocation_of k words =
-    in_script (key_of k) >>= λ key. calls_of_text (process_text (flat_map after_space words)) >>= λ calls. Ok (item.Invoke key calls)
+    in_script (key_of k) >>= λ key. calls_of_text (process_text (flat_map after_space words))
+    >>= λ calls. Ok (item.Invoke key calls)
 
 unfoldable pub invocation : List (List ℕ) → Result Item LineFault
 invocation (k ∷ colon ∷ words) = if bytes_eq colon (codes ":") then invocation_of k words else Err (Script BadLine)
@@ -155,7 +167,8 @@ after_invoke so_far words = invocation words >>= λ one. after_item so_far one
 
 unfoldable pub after_failing : ReadSoFar → List (List ℕ) → Result ReadSoFar LineFault
 after_failing so_far words =
-    in_script (may_fail words) >>= λ who. if_open so_far.config (Ok (record so_far { faults = with_fault so_far.faults who.0 who.1 }))
+    in_script (may_fail words)
+    >>= λ who. if_open so_far.config (Ok (record so_far { faults = with_fault so_far.faults who.0 who.1 }))
 
 abbrev pub with_expected : ReadSoFar → Quantifier → List ℕ → List Atom → ReadSoFar
 with_expected so_far quantifier text atoms =
@@ -177,7 +190,8 @@ after_own_line so_far text first words None =
 abbrev pub after_words : ReadSoFar → List ℕ → List (List ℕ) → Result ReadSoFar LineFault
 after_words so_far text [] = Err (Script BadLine)
 after_words so_far text (first ∷ words) =
-    if is_outside first then after_failing so_far (first ∷ words) else after_own_line so_far text first words (quantifier_named first)
+    if is_outside first then after_failing so_far (first ∷ words)
+    else after_own_line so_far text first words (quantifier_named first)
 
 unfoldable pub after_other_line : ReadSoFar → List ℕ → List (List ℕ) → Result ReadSoFar LineFault
 after_other_line so_far text words = if are_words words then after_words so_far text words else Err (Script BadLine)
@@ -220,7 +234,13 @@ value_of_program x =
 abbrev pub program_if : ReadSoFar → Option Config → Option ProgramValue
 program_if so_far None = None
 program_if so_far (Some config) =
-    Some (record { config = config; stored = so_far.stored; threads = so_far.threads; faults = so_far.faults; expectations = so_far.expectations })
+    Some (record {
+      config = config;
+      stored = so_far.stored;
+      threads = so_far.threads;
+      faults = so_far.faults;
+      expectations = so_far.expectations;
+    })
 
 abbrev pub program_read : ReadSoFar → Option ProgramValue
 program_read so_far = program_if so_far so_far.config
@@ -238,7 +258,8 @@ is_blank [] = true
 is_blank (b ∷ bs) = false
 
 -- the first fault ends it
-abbrev pub then_on : {X : Type 0} → ℕ → Result ReadSoFar LineFault → (ReadSoFar → Result X (ℕ × LineFault)) → Result X (ℕ × LineFault)
+abbrev pub then_on : {X : Type 0} → ℕ → Result ReadSoFar LineFault → (ReadSoFar → Result X (ℕ × LineFault))
+    → Result X (ℕ × LineFault)
 then_on number (Ok so_far) go = go so_far
 then_on number (Err fault) go = Err (number, fault)
 

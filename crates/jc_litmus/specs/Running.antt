@@ -3,7 +3,8 @@
 --                             that of the expectations, has its meaning for all schedules
 --     IsComplaint             an output names the first line of the input that is at fault, with its fault, and the end is
 --                             `LineFault`
---     AnswersProgram          the answer to the program of the input's text, or the complaint about that text, and what is told of it
+--     AnswersProgram          the answer to the program of the input's text, or the complaint about that text, and what is told of
+--                             it
 --     RunsExploration         the input was read to its end, and its answer written
 --     BreaksOffExploration    the input was read to its end, and a prefix of its answer written, up to a write that failed
 use Rattle.std.specs.Prelude.{◌≡◌, ◌≤◌, ◌⊎◌, ℕ, List, ◌++◌, take, length, Option, Ok, Err}
@@ -46,7 +47,8 @@ AnswersProgram budget input out notes end =
     × (notes ≡ warnings_text x.program x.expectations.items))
     ⊎ IsComplaint input out notes end
 
-pub record RunsExploration (budget : ℕ) (before after old new : Option (List ℕ)) (old_notes notes : List ℕ) (end : LitmusEnd) : Type 0 where
+pub record RunsExploration (budget : ℕ) (before after old new : Option (List ℕ)) (old_notes notes : List ℕ)
+    (end : LitmusEnd) : Type 0 where
   pub input : List ℕ
   pub read : ReadsAll before after input
   pub out : List ℕ

@@ -78,6 +78,7 @@ abbrev pub is_written_by : Bytes → Item → Bool
 is_written_by value (item.Call asked key) = has_value (written_value asked) value
 is_written_by value (item.Invoke key calls) = list_any (is_set_by value) calls
 is_written_by value (item.Foreign key found) = has_value found value
+is_written_by value (item.Invalidate key) = false
 
 abbrev pub is_written_in : Bytes → Vec Item → Bool
 is_written_in value items = list_any (is_written_by value) items.items
@@ -122,7 +123,8 @@ compared_value op.Invoke = None
 
 unfoldable pub compared_warning : (value : List ℕ) → Op → Bytes → List ℕ
 compared_warning value asked key =
-    codes "warning: no line sets or writes the value " ++ value_text value ++ codes ":" ++ spaced (operation_words asked key) ++ codes "\n"
+    codes "warning: no line sets or writes the value " ++ value_text value ++ codes ":"
+    ++ spaced (operation_words asked key) ++ codes "\n"
 
 abbrev pub call_warning : Program → Op → Bytes → Option Bytes → List ℕ
 call_warning program asked key None = []
@@ -132,6 +134,7 @@ abbrev pub item_warning : Program → Item → List ℕ
 item_warning program (item.Call asked key) = call_warning program asked key (compared_value asked)
 item_warning program (item.Invoke key calls) = []
 item_warning program (item.Foreign key value) = []
+item_warning program (item.Invalidate key) = []
 
 abbrev pub thread_warnings : Program → Vec Item → List ℕ
 thread_warnings program items = flat_map (item_warning program) items.items

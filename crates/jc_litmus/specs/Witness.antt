@@ -21,7 +21,8 @@
 --     steps_text               the lines of the moves of a schedule as they are shown
 --     set_text                 the line of an entry of the store as it is shown
 --     witness_text             the script of a schedule as it is shown: the cache's shape, the store, the moves, and an audit
-use Rattle.std.specs.Prelude.{ℕ, ◌+◌, ◌-◌, List, [], ◌∷◌, ◌++◌, codes, length, replicate, Bool, ◌&&◌, nat_lt, Option, None, Some, slice_get, slice_set, if◌then◌else◌}
+use Rattle.std.specs.Prelude.{ℕ, ◌+◌, ◌-◌, List, [], ◌∷◌, ◌++◌, codes, length, replicate, Bool, ◌&&◌, nat_lt, Option, None, Some}
+use Rattle.std.specs.Prelude.{slice_get, slice_set, if◌then◌else◌}
 use Rattle.std.specs.List.{flat_map}
 use Rattle.jc_types.specs.declared.limits.TheConstants.{NUMBER_MAX}
 use Rattle.jc_model.specs.Cache.{Bytes}
@@ -39,7 +40,7 @@ use Rattle.jc_explore.specs.declared.program.Program.{Program}
 use Rattle.jc_explore.specs.Moves.{is_begin}
 use Rattle.jc_explore.specs.Schedule.{item_at}
 use Rattle.jc_text.specs.declared.read.line.Line.{Line}
-use Rattle.jc_text.specs.declared.read.line.Line.TheVariants.{Open, Set, Begin, OfCall, Foreign, Audit}
+use Rattle.jc_text.specs.declared.read.line.Line.TheVariants.{Open, Set, Begin, OfCall, Foreign, Invalidate, Audit}
 use Rattle.jc_text.specs.declared.read.line.ScriptAct.TheVariants as line
 use Rattle.jc_text.specs.Spelled.{spelling}
 use Rattle.jc_litmus.specs.declared.witness.Progress.{Progress}
@@ -57,6 +58,7 @@ begin_line call session None = None
 begin_line call session (Some (item.Call op key)) = Some (Begin call session (record { op = op; key = key }))
 begin_line call session (Some (item.Invoke key calls)) = Some (Begin call session (record { op = Invoke; key = key }))
 begin_line call session (Some (item.Foreign key value)) = Some (Foreign key value)
+begin_line call session (Some (item.Invalidate key)) = Some (Invalidate key)
 
 abbrev pub if_coded : Option ℕ → (ℕ → Line) → Option Line
 if_coded None line = None
@@ -83,6 +85,7 @@ call_line f call None a = None
 call_line f call (Some (item.Call op key)) a = act_line f call [] a
 call_line f call (Some (item.Invoke key calls)) a = act_line f call calls a
 call_line f call (Some (item.Foreign key value)) a = None
+call_line f call (Some (item.Invalidate key)) a = None
 
 abbrev pub line_at : Program → ℕ → Move → Option Progress → Option Line
 line_at p last m None = None
@@ -101,12 +104,14 @@ begun_by last progress None = progress
 begun_by last progress (Some (item.Call op key)) = record { begun = progress.begun + 1; call = last + 1 }
 begun_by last progress (Some (item.Invoke key calls)) = record { begun = progress.begun + 1; call = last + 1 }
 begun_by last progress (Some (item.Foreign key value)) = record { begun = progress.begun + 1; call = progress.call }
+begun_by last progress (Some (item.Invalidate key)) = record { begun = progress.begun + 1; call = progress.call }
 
 abbrev pub last_by : ℕ → Option Item → ℕ
 last_by last None = last
 last_by last (Some (item.Call op key)) = last + 1
 last_by last (Some (item.Invoke key calls)) = last + 1
 last_by last (Some (item.Foreign key value)) = last
+last_by last (Some (item.Invalidate key)) = last
 
 abbrev pub begun_item : Program → ℕ → Move → Progress → Option Item
 begun_item p last m progress =
@@ -141,7 +146,8 @@ piped_if (Some line) = piped line
 abbrev pub steps_text : Program → ℕ → List Progress → List Move → List ℕ
 steps_text p last threads [] = []
 steps_text p last threads (m ∷ ms) =
-    piped_if (line_of_move p last threads m) ++ steps_text p (last_after p last threads m) (thread_progress_after p last threads m) ms
+    piped_if (line_of_move p last threads m)
+    ++ steps_text p (last_after p last threads m) (thread_progress_after p last threads m) ms
 
 abbrev pub set_text : Bytes × Bytes → List ℕ
 set_text entry = piped (Set entry.0 entry.1)

@@ -7,24 +7,24 @@ use crate::reply_words::{ReplyKind, reply_kind};
 use jc_explore::Item;
 use jc_model::Op;
 
-/// The kind of replies of a call. A write of another program isn't answered.
+/// The kind of replies of a call. No other item is answered.
 fn item_reply_kind(item: &Item) -> Option<ReplyKind>
     ensures { result ≡ item_reply_kind item.now }
 {
     match item {
         Item::Call { op, .. } => Some(reply_kind(op)),
         Item::Invoke { .. } => Some(reply_kind(&Op::Invoke)),
-        Item::Foreign { .. } => None,
+        Item::Foreign { .. } | Item::Invalidate { .. } => None,
     }
 }
 
-/// Whether an item is a call, and no write of another program.
+/// Whether an item is a call, and neither a write of another program nor an invalidation.
 pub(crate) fn is_call(item: &Item) -> bool
     ensures { result ≡ is_call item.now }
 {
     match item {
         Item::Call { .. } | Item::Invoke { .. } => true,
-        Item::Foreign { .. } => false,
+        Item::Foreign { .. } | Item::Invalidate { .. } => false,
     }
 }
 

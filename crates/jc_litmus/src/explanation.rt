@@ -20,7 +20,9 @@ fn begins_shared_line(words: &[&[u8]]) -> bool
 {
     match words {
         [] => false,
-        [first, ..] => is(first, "open") || is(first, "set") || is(first, "foreign"),
+        [first, ..] => {
+            is(first, "open") || is(first, "set") || is(first, "foreign") || is(first, "invalidate")
+        }
     }
 }
 
@@ -136,7 +138,7 @@ fn hint(fault: LineFault, words: &[&[u8]]) -> &'static str
             " (what this call can answer: ok, true, false, a value or -, WriterFailed:7, refused:HistoryFull, ..)"
         }
         LineFault::NoSuchItem => " (T.I is a call on a line above: item I of thread T)",
-        LineFault::NotACall => " (items are calls of one key, forget and foreign)",
+        LineFault::NotACall => " (items are calls of one key, forget, foreign and invalidate)",
     }
 }
 

@@ -60,7 +60,7 @@ fn put_asked(out: &mut Vec<u8>, item: &Item) -> Result<(), AllocError>
     match item {
         Item::Call { op, key } => put_operation(out, op, key),
         Item::Invoke { key, calls: _ } => put_operation(out, &Op::Invoke, key),
-        Item::Foreign { key: _, value: _ } => Ok(()),
+        Item::Foreign { key: _, value: _ } | Item::Invalidate { key: _ } => Ok(()),
     }
 }
 

@@ -40,7 +40,8 @@ pub enum Atom {
     Replied {
         /// The thread, from 0.
         thread: usize,
-        /// The place of the call among the thread's calls, from 0. A write of another program is an item and no call.
+        /// The place of the call among the thread's calls, from 0. Writes of another program and invalidations are items, and no
+        /// calls.
         call: usize,
         /// The reply.
         reply: Reply,
@@ -81,7 +82,7 @@ pub struct Expectation {
 pub enum LineFault {
     /// The line would be at fault in a script, too.
     Script(Fault),
-    /// A call or a write of another program is above the first thread.
+    /// An item is above the first thread.
     NoThread,
     /// There are more threads than [`THREADS_MAX`].
     TooManyThreads,

@@ -212,6 +212,15 @@ impl ProgramParts {
         self.add(Item::Foreign { key, value })
     }
 
+    /// Adds an invalidation.
+    fn invalidate(&mut self, key: &Key) -> Result<(), LineError>
+        ensures read { ReadsAs (ok_with self.new result) (after_item self.old (items.Invalidate key.now)) }
+        ensures kept { KeepsAtFault self.old self.new result }
+    {
+        let key = *key;
+        self.add(Item::Invalidate { key })
+    }
+
     /// Notes where an error of the line after these is, if it is a fault, and returns it.
     fn note_error(
         &self,

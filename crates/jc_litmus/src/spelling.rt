@@ -87,6 +87,13 @@ pub fn put_foreign<'a>(
     )
 }
 
+/// Appends the line of an invalidation.
+pub fn put_invalidate<'a>(out: &mut Vec<u8>, key: &'a Key) -> Result<(), AllocError>
+    ensures { OnOk result (out.new.items ≡ out.old.items ++ spelling (line.Invalidate key.now)) }
+{
+    put_pieces(out, &[Piece::Text("invalidate "), Piece::Key(key)])
+}
+
 /// A call, and the session that begins it.
 #[derive(Clone, Copy)]
 pub struct Beginning {

@@ -85,6 +85,7 @@ fn is_written_by(value: &Value, item: &Item) -> bool
             key: _,
             value: found,
         } => has_value(found, value),
+        Item::Invalidate { key: _ } => false,
     }
 }
 
@@ -243,7 +244,7 @@ fn put_item_warning(out: &mut Vec<u8>, program: &Program, item: &Item) -> Result
 {
     match item {
         Item::Call { op, key } => put_call_warning(out, program, op, key),
-        Item::Invoke { .. } | Item::Foreign { .. } => Ok(()),
+        Item::Invoke { .. } | Item::Foreign { .. } | Item::Invalidate { .. } => Ok(()),
     }
 }
 

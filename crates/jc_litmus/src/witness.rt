@@ -9,7 +9,8 @@ ghost use Rattle.jc_litmus.specs.Witness.{act_line, begin_line, begun_by, begun_
 ghost use Rattle.jc_litmus.specs.Witness.{has_numbers, no_progress, piped, piped_if, progress_at, run_line, set_text, steps_text, thread_progress_after, witness_text};
 
 use crate::spelling::{
-    Beginning, put_begin, put_coded, put_foreign, put_lone, put_open, put_process, put_set,
+    Beginning, put_begin, put_coded, put_foreign, put_invalidate, put_lone, put_open, put_process,
+    put_set,
 };
 use jc_explore::{Act, Faults, Item, Move, Program};
 use jc_model::{EntryCall, Op};
@@ -44,6 +45,7 @@ fn put_begin_line(out: &mut Vec<u8>, beginning: Beginning, item: &Item) -> Resul
         Item::Call { op, key } => put_begin(out, beginning, op, key)?,
         Item::Invoke { key, calls: _ } => put_begin(out, beginning, &Op::Invoke, key)?,
         Item::Foreign { key, value } => put_foreign(out, key, value)?,
+        Item::Invalidate { key } => put_invalidate(out, key)?,
     }
     put(out, "\n")
 }
@@ -139,7 +141,7 @@ fn put_call_line(
     match item {
         Item::Call { op: _, key: _ } => put_act_line(out, faults, call, &[], act),
         Item::Invoke { key: _, calls } => put_act_line(out, faults, call, calls.as_slice(), act),
-        Item::Foreign { key: _, value: _ } => Ok(()),
+        Item::Foreign { key: _, value: _ } | Item::Invalidate { key: _ } => Ok(()),
     }
 }
 
@@ -191,7 +193,7 @@ fn begun_by(last: u64, progress: &Progress, item: &Item) -> Progress
 {
     let call = match item {
         Item::Call { op: _, key: _ } | Item::Invoke { key: _, calls: _ } => last + 1,
-        Item::Foreign { key: _, value: _ } => progress.call,
+        Item::Foreign { key: _, value: _ } | Item::Invalidate { key: _ } => progress.call,
     };
     Progress {
         begun: progress.begun + 1,
@@ -206,7 +208,7 @@ fn last_by(last: u64, item: &Item) -> u64
 {
     match item {
         Item::Call { op: _, key: _ } | Item::Invoke { key: _, calls: _ } => last + 1,
-        Item::Foreign { key: _, value: _ } => last,
+        Item::Foreign { key: _, value: _ } | Item::Invalidate { key: _ } => last,
     }
 }
 

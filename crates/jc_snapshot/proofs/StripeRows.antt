@@ -17,11 +17,11 @@ use Rattle.jc_snapshot.proofs.TableNumbers.{extends_self, extends_twice, number_
 
 pub grows_self : (s : Seen) → GrowsTo s s
 grows_self s =
-    record { configs = extends_self _; premises = extends_self _; entries = extends_self _; reservations = extends_self _; joiners = extends_self _; answers = extends_self _; parts = extends_self _; joins = extends_self _; heads = extends_self _; tasks = extends_self _ }
+    record { configs = extends_self _; premises = extends_self _; entries = extends_self _; reservations = extends_self _; joiners = extends_self _; answers = extends_self _; marks = extends_self _; parts = extends_self _; joins = extends_self _; heads = extends_self _; tasks = extends_self _ }
 
 pub grows_twice : (s t u : Seen) → GrowsTo s t → GrowsTo t u → GrowsTo s u
 grows_twice s t u g h =
-    record { configs = extends_twice _ _ _ g.configs h.configs; premises = extends_twice _ _ _ g.premises h.premises; entries = extends_twice _ _ _ g.entries h.entries; reservations = extends_twice _ _ _ g.reservations h.reservations; joiners = extends_twice _ _ _ g.joiners h.joiners; answers = extends_twice _ _ _ g.answers h.answers; parts = extends_twice _ _ _ g.parts h.parts; joins = extends_twice _ _ _ g.joins h.joins; heads = extends_twice _ _ _ g.heads h.heads; tasks = extends_twice _ _ _ g.tasks h.tasks }
+    record { configs = extends_twice _ _ _ g.configs h.configs; premises = extends_twice _ _ _ g.premises h.premises; entries = extends_twice _ _ _ g.entries h.entries; reservations = extends_twice _ _ _ g.reservations h.reservations; joiners = extends_twice _ _ _ g.joiners h.joiners; answers = extends_twice _ _ _ g.answers h.answers; marks = extends_twice _ _ _ g.marks h.marks; parts = extends_twice _ _ _ g.parts h.parts; joins = extends_twice _ _ _ g.joins h.joins; heads = extends_twice _ _ _ g.heads h.heads; tasks = extends_twice _ _ _ g.tasks h.tasks }
 
 pub stripe_stays : (s t : Seen) → GrowsTo s t → (x : StripeEssence) (row : List ℕ) → IsStripeRow s x row → IsStripeRow t x row
 stripe_stays s t g x row h = record {
@@ -30,12 +30,14 @@ stripe_stays s t g x row h = record {
   reservations = h.reservations;
   joiners = h.joiners;
   answers = h.answers;
+  marks = h.marks;
   row_is = h.row_is;
   config_is = number_stays _ _ _ _ g.configs h.config_is;
   entries_are = numbers_stay _ _ _ _ g.entries h.entries_are;
   reservations_are = numbers_stay _ _ _ _ g.reservations h.reservations_are;
   joiners_are = numbers_stay _ _ _ _ g.joiners h.joiners_are;
   answers_are = numbers_stay _ _ _ _ g.answers h.answers_are;
+  marks_are = numbers_stay _ _ _ _ g.marks h.marks_are;
   rest_is = h.rest_is;
 }
 
@@ -72,26 +74,30 @@ origin_equal Played Played e = refl
 
 pub stripe_told : (s : Seen) (x y : StripeEssence) (row : List ℕ) → IsStripeRow s x row → IsStripeRow s y row → x ≡ y
 stripe_told s x y row h k =
-    let ours : List (List ℕ) = h.entries ∷ h.reservations ∷ h.joiners ∷ h.answers ∷ scalars_of h.config x ∷ [] in
-    let theirs : List (List ℕ) = k.entries ∷ k.reservations ∷ k.joiners ∷ k.answers ∷ scalars_of k.config y ∷ [] in
+    let ours : List (List ℕ) = h.entries ∷ h.reservations ∷ h.joiners ∷ h.answers ∷ scalars_of h.config x ∷ h.marks ∷ [] in
+    let theirs : List (List ℕ) = k.entries ∷ k.reservations ∷ k.joiners ∷ k.answers ∷ scalars_of k.config y ∷ k.marks ∷ [] in
     let rows : ours ≡ theirs = flat_equal ours theirs (sym h.row_is ∙ k.row_is) in
     let entries : h.entries ≡ k.entries = cc in
     let reservations : h.reservations ≡ k.reservations = cc in
     let joiners : h.joiners ≡ k.joiners = cc in
     let answers : h.answers ≡ k.answers = cc in
+    let marks : h.marks ≡ k.marks = cc in
     let config : h.config ≡ k.config = cc in
     let stripe : x.rest.stripe ≡ y.rest.stripe = cc in
     let origin : origin_word x.rest.origin ≡ origin_word y.rest.origin = cc in
     let lives : bit x.rest.lives ≡ bit y.rest.lives = cc in
+    let shut : bit x.rest.shut ≡ bit y.rest.shut = cc in
     let events : x.events ≡ y.events = cc in
     let next : x.rest.next ≡ y.rest.next = cc in
     let c = thing_equal s.configs x.rest.config y.rest.config h.config k.config config h.config_is k.config_is in
     let o = origin_equal x.rest.origin y.rest.origin origin in
     let l = bit_equal x.rest.lives y.rest.lives lives in
+    let sh = bit_equal x.rest.shut y.rest.shut shut in
     let es = list_equal s.entries x.entries y.entries h.entries k.entries entries h.entries_are k.entries_are in
     let rs = list_equal s.reservations x.rest.reservations y.rest.reservations h.reservations k.reservations reservations h.reservations_are k.reservations_are in
     let js = list_equal s.joiners x.rest.joiners y.rest.joiners h.joiners k.joiners joiners h.joiners_are k.joiners_are in
     let as_ = list_equal s.answers x.answers y.answers h.answers k.answers answers h.answers_are k.answers_are in
+    let ms = list_equal s.marks x.rest.marked y.rest.marked h.marks k.marks marks h.marks_are k.marks_are in
     let rest : x.rest ≡ y.rest =
     h.rest_is
     ∙ (λ i. record {
@@ -105,8 +111,8 @@ stripe_told s x y row h k =
       reservations = rs i;
       joiners = js i;
       history = [];
-      marked = [];
-      shut = false;
+      marked = ms i;
+      shut = sh i;
       next = next i;
     })
     ∙ sym k.rest_is
@@ -142,7 +148,8 @@ stripe_row_is s d x row other h k =
     let rs = numbers_equal s.reservations x.rest.reservations h.reservations k.reservations d.reservations h.reservations_are k.reservations_are in
     let js = numbers_equal s.joiners x.rest.joiners h.joiners k.joiners d.joiners h.joiners_are k.joiners_are in
     let as_ = numbers_equal s.answers x.answers h.answers k.answers d.answers h.answers_are k.answers_are in
-    h.row_is ∙ (λ i. flat (es i ∷ rs i ∷ js i ∷ as_ i ∷ scalars_of (c i) x ∷ [])) ∙ sym k.row_is
+    let ms = numbers_equal s.marks x.rest.marked h.marks k.marks d.marks h.marks_are k.marks_are in
+    h.row_is ∙ (λ i. flat (es i ∷ rs i ∷ js i ∷ as_ i ∷ scalars_of (c i) x ∷ ms i ∷ [])) ∙ sym k.row_is
 
 pub call_row_is : (s : Seen) → AreTables s → (u : CallState) (row other : List ℕ) → IsOpenCallRow s u row → IsOpenCallRow s u other → row ≡ other
 call_row_is s d u row other h k =

@@ -39,22 +39,24 @@ bit true = 1
 
 abbrev pub scalars_of : ℕ → StripeEssence → List ℕ
 scalars_of config x =
-    config ∷ x.rest.stripe ∷ origin_word x.rest.origin ∷ bit x.rest.lives ∷ x.events ∷ x.rest.next ∷ []
+    config ∷ x.rest.stripe ∷ origin_word x.rest.origin ∷ bit x.rest.lives ∷ bit x.rest.shut ∷ x.events ∷ x.rest.next ∷ []
 
--- no generation of it has ended, its entries are the cached ones, no key is marked, and it isn't shut
+-- no generation of it has ended, and its entries are the cached ones
 pub record IsStripeRow (seen : Seen) (x : StripeEssence) (row : List ℕ) : Type 0 where
   pub config : ℕ
   pub entries : List ℕ
   pub reservations : List ℕ
   pub joiners : List ℕ
   pub answers : List ℕ
-  pub row_is : row ≡ flat (entries ∷ reservations ∷ joiners ∷ answers ∷ scalars_of config x ∷ [])
+  pub marks : List ℕ
+  pub row_is : row ≡ flat (entries ∷ reservations ∷ joiners ∷ answers ∷ scalars_of config x ∷ marks ∷ [])
   pub config_is : IsNumberOf seen.configs x.rest.config config
   pub entries_are : AreNumbers seen.entries x.entries entries
   pub reservations_are : AreNumbers seen.reservations x.rest.reservations reservations
   pub joiners_are : AreNumbers seen.joiners x.rest.joiners joiners
   pub answers_are : AreNumbers seen.answers x.answers answers
-  pub rest_is : x.rest ≡ record x.rest { ended = []; opening = []; cache = map.from_entries x.entries; history = []; marked = []; shut = false }
+  pub marks_are : AreNumbers seen.marks x.rest.marked marks
+  pub rest_is : x.rest ≡ record x.rest { ended = []; opening = []; cache = map.from_entries x.entries; history = [] }
 
 -- 2. Calls.
 
@@ -120,6 +122,7 @@ pub record GrowsTo (old new : Seen) : Type 0 where
   pub reservations : Continues old.reservations new.reservations
   pub joiners : Continues old.joiners new.joiners
   pub answers : Continues old.answers new.answers
+  pub marks : Continues old.marks new.marks
   pub parts : Continues old.parts new.parts
   pub joins : Continues old.joins new.joins
   pub heads : Continues old.heads new.heads
@@ -132,6 +135,7 @@ pub record AreTables (seen : Seen) : Type 0 where
   pub reservations : IsDistinctTable seen.reservations
   pub joiners : IsDistinctTable seen.joiners
   pub answers : IsDistinctTable seen.answers
+  pub marks : IsDistinctTable seen.marks
   pub parts : IsDistinctTable seen.parts
   pub joins : IsDistinctTable seen.joins
   pub heads : IsDistinctTable seen.heads

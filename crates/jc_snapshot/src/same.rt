@@ -2,21 +2,11 @@
 //! is too long.
 ghost use Rattle.std.specs.Prelude.{◌≡◌, ◌↔◌, IsTrue};
 
-use jc_model::{Event, Op, Out, ProcessAnswer, Reply};
-use jc_stripe::{First, Reservation};
+use jc_model::Op;
+use jc_model::same::is_same_out;
+use jc_stripe::same::is_same_reservation;
 use jc_types::Refusal;
 use jc_world::{Part, PartProgress};
-
-/// Whether two reservations are the same.
-pub(crate) fn is_same_reservation(first: &Reservation, second: &Reservation) -> bool
-    ensures { IsTrue result ↔ (first.now ≡ second.now) }
-{
-    first.number == second.number
-        && first.caller == second.caller
-        && first.key == second.key
-        && is_same_op(&first.op, &second.op)
-        && is_same_first(&first.first, &second.first)
-}
 
 /// Whether two parts are the same.
 pub(crate) fn is_same_part(first: &Part, second: &Part) -> bool
@@ -24,47 +14,6 @@ pub(crate) fn is_same_part(first: &Part, second: &Part) -> bool
 {
     is_same_reservation(&first.reservation, &second.reservation)
         && is_same_progress(&first.progress, &second.progress)
-}
-
-/// Whether two events are the same.
-pub(crate) fn is_same_event(first: &Event, second: &Event) -> bool
-    ensures { IsTrue result ↔ (first.now ≡ second.now) }
-{
-    match (first, second) {
-        (
-            Event::Step {
-                caller,
-                op,
-                key,
-                out,
-                shared_with,
-                reply,
-            },
-            Event::Step {
-                caller: other_caller,
-                op: other_op,
-                key: other_key,
-                out: other_out,
-                shared_with: other_shared,
-                reply: other_reply,
-            },
-        ) => {
-            *caller == *other_caller
-                && is_same_op(op, other_op)
-                && *key == *other_key
-                && is_same_out(out, other_out)
-                && *shared_with == *other_shared
-                && is_same_reply(reply, other_reply)
-        }
-        (
-            Event::Evict { key, cause },
-            Event::Evict {
-                key: other_key,
-                cause: other_cause,
-            },
-        ) => *key == *other_key && *cause == *other_cause,
-        _ => false,
-    }
 }
 
 /// Whether two causes are the same.
@@ -81,24 +30,6 @@ pub(crate) fn is_same_op_found(first: &Option<Op>, second: &Option<Op>) -> bool
     *first == *second
 }
 
-fn is_same_op(first: &Op, second: &Op) -> bool
-    ensures { IsTrue result ↔ (first.now ≡ second.now) }
-{
-    *first == *second
-}
-
-fn is_same_first(first: &First, second: &First) -> bool
-    ensures { IsTrue result ↔ (first.now ≡ second.now) }
-{
-    *first == *second
-}
-
-fn is_same_reply(first: &Reply, second: &Reply) -> bool
-    ensures { IsTrue result ↔ (first.now ≡ second.now) }
-{
-    *first == *second
-}
-
 fn is_same_progress(first: &PartProgress, second: &PartProgress) -> bool
     ensures { IsTrue result ↔ (first.now ≡ second.now) }
 {
@@ -106,18 +37,4 @@ fn is_same_progress(first: &PartProgress, second: &PartProgress) -> bool
         && first.is_misled == second.is_misled
         && first.change == second.change
         && is_same_out(&first.out, &second.out)
-}
-
-fn is_same_out(first: &Out, second: &Out) -> bool
-    ensures { IsTrue result ↔ (first.now ≡ second.now) }
-{
-    first.load == second.load
-        && first.write == second.write
-        && is_same_process(&first.process, &second.process)
-}
-
-fn is_same_process(first: &ProcessAnswer, second: &ProcessAnswer) -> bool
-    ensures { IsTrue result ↔ (first.now ≡ second.now) }
-{
-    *first == *second
 }

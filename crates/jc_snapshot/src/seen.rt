@@ -2,13 +2,13 @@
 ghost use Rattle.jc_snapshot.specs.Snapshot.{AreTables};
 
 use crate::heads::CallHead;
-use crate::same::{
-    is_same_cause, is_same_event, is_same_op_found, is_same_part, is_same_reservation,
-};
+use crate::same::{is_same_cause, is_same_op_found, is_same_part};
 use crate::table::{Comparable, Table};
 use jc_inflight::Joiner;
+use jc_model::same::is_same_event;
 use jc_model::{Event, Op};
 use jc_stripe::Reservation;
+use jc_stripe::same::is_same_reservation;
 use jc_types::{Config, Key, Value};
 use jc_world::{JoinedLoad, Part, Premises};
 use std::alloc::Global;
@@ -28,6 +28,8 @@ pub struct Seen {
     pub joiners: Table<Joiner>,
     /// The answers to joiners.
     pub answers: Table<Option<Event>>,
+    /// The reserved keys that were invalidated since they were reserved.
+    pub marks: Table<Key>,
     /// The asks of calls and their answers, for the keys that the calls have reserved.
     pub parts: Table<(Key, Part)>,
     /// Joins, by call and key.
@@ -48,6 +50,7 @@ impl Seen {
             reservations: Table::new(alloc),
             joiners: Table::new(alloc),
             answers: Table::new(alloc),
+            marks: Table::new(alloc),
             parts: Table::new(alloc),
             joins: Table::new(alloc),
             heads: Table::new(alloc),
@@ -65,6 +68,7 @@ impl Seen {
         self.reservations.is_distinct();
         self.joiners.is_distinct();
         self.answers.is_distinct();
+        self.marks.is_distinct();
         self.parts.is_distinct();
         self.joins.is_distinct();
         self.heads.is_distinct();
@@ -109,6 +113,12 @@ impl Comparable for Option<Event> {
             (None, None) => true,
             (Some(_), None) | (None, Some(_)) => false,
         }
+    }
+}
+
+impl Comparable for Key {
+    fn is_same(&self, other: &Key) -> bool {
+        *self == *other
     }
 }
 

@@ -57,8 +57,8 @@ impl Eq for Snapshot {
 }
 
 impl Snapshot {
-    /// The snapshot of a world. A thing that a table hasn't met gets its next number. An `Err` says that an allocation failed, or that
-    /// a reserved key was invalidated, for which there is no number; the tables keep the things that they have got by then.
+    /// The snapshot of a world. A thing that a table hasn't met gets its next number. An `Err` says that an allocation failed;
+    /// the tables keep the things that they have got by then.
     #[tactic(auto, using(crate::proofs::StripeRows::grows_twice))]
     pub fn of(alloc: Global, world: &World, seen: &mut Seen) -> Result<Snapshot, AllocError>
         ensures snapshot { IfOk result (λ s. IsSnapshot (essence_of_world world.now.world) seen.new s) }

@@ -1,8 +1,5 @@
 //! A stripe as a row of numbers.
-ghost use Rattle.std.specs.Prelude.{◌≡◌, ◌++◌, [], ◌∷◌, List, ℕ, map, slice_get, IfOk, OnOk, false};
-ghost use Rattle.std.specs.Bool.{OnFalse};
-ghost use Rattle.std.specs.List.{list_any};
-ghost use Rattle.jc_stripe.specs.State.{is_marked};
+ghost use Rattle.std.specs.Prelude.{◌≡◌, ◌++◌, [], ◌∷◌, List, ℕ, map, slice_get, IfOk, OnOk};
 ghost use Rattle.std.specs.FinMap.{from_entries};
 ghost use Rattle.jc_world.specs.Essence.{answer_in, essence_of};
 ghost use Rattle.jc_world.specs.Sound.{HaveNoneEnded};
@@ -20,7 +17,7 @@ use jc_stripe::{Origin, Stripe};
 use jc_types::{Caller, Key, Refusal, Value};
 use std::alloc::{AllocError, Global};
 
-/// The rows of stripes, written one after another. An `Err` says that an allocation failed, or that a key is marked.
+/// The rows of stripes, written one after another. An `Err` says that an allocation failed.
 ///
 /// Condition: no stripe has ended a generation.
 pub(crate) fn stripe_rows(
@@ -41,42 +38,9 @@ pub(crate) fn stripe_rows(
     Ok(words)
 }
 
-/// The row of a stripe. An `Err` says that an allocation failed, or that a key is marked: a row has no number for that.
+/// The row of a stripe. An `Err` says that an allocation failed.
 fn stripe_row(alloc: Global, stripe: &Stripe, seen: &mut Seen) -> Result<Vec<u64>, AllocError>
     requires { stripe.now.ended ≡ [] }
-    ensures row { IfOk result (λ row. IsStripeRow seen.new (essence_of stripe.now) row.items) }
-    ensures grows { GrowsTo seen.old seen.new }
-{
-    if has_marks(stripe) {
-        return Err(AllocError);
-    }
-    unmarked_row(alloc, stripe, seen)
-}
-
-/// Whether a reserved key was invalidated since, or all are to be.
-fn has_marks(stripe: &Stripe) -> bool
-    ensures { OnFalse result ((stripe.now.marked ≡ []) × (stripe.now.shut ≡ false)) }
-{
-    // For its contract: only reserved keys are marked.
-    let _ = stripe.events_len();
-    stripe.is_shut() || is_any_marked(stripe)
-}
-
-/// Whether a reserved key is marked.
-fn is_any_marked(stripe: &Stripe) -> bool
-    ensures { result ≡ list_any (λ r. is_marked stripe.now r.key) stripe.now.reservations }
-{
-    stripe
-        .reservations()
-        .iter()
-        .any(|r| stripe.is_marked(&r.key))
-}
-
-/// The row of a stripe of which no key is marked. An `Err` says that an allocation failed.
-fn unmarked_row(alloc: Global, stripe: &Stripe, seen: &mut Seen) -> Result<Vec<u64>, AllocError>
-    requires ended { stripe.now.ended ≡ [] }
-    requires marks { stripe.now.marked ≡ [] }
-    requires open_is { stripe.now.shut ≡ false }
     ensures row { IfOk result (λ row. IsStripeRow seen.new (essence_of stripe.now) row.items) }
     ensures grows { GrowsTo seen.old seen.new }
 {
@@ -85,15 +49,18 @@ fn unmarked_row(alloc: Global, stripe: &Stripe, seen: &mut Seen) -> Result<Vec<u
     let reservations = numbers_of(alloc, &mut seen.reservations, stripe.reservations())?;
     let joiners = numbers_of(alloc, &mut seen.joiners, stripe.joiners())?;
     let answers = answer_numbers(alloc, stripe, &mut seen.answers)?;
+    let marks = numbers_of(alloc, &mut seen.marks, stripe.marks())?;
     let scalars = [
         config,
         stripe.number() as u64,
         origin_word(stripe.origin()),
         bit(stripe.lives()),
+        bit(stripe.is_shut()),
         stripe.events_len() as u64,
         stripe.next_number(),
     ];
-    let row = five_rows(alloc, &entries, &reservations, &joiners, &answers, &scalars)?;
+    let mut row = five_rows(alloc, &entries, &reservations, &joiners, &answers, &scalars)?;
+    push_row(&mut row, &marks)?;
     Ok(row)
 }
 

@@ -58,6 +58,7 @@ impl ProgramParts {
             Line::Open(config) => Ok(self.open(config)?),
             Line::Set(key, value) => self.set(key, value),
             Line::Foreign(key, value) => self.foreign(key, value),
+            Line::Invalidate(key) => self.invalidate(key),
             _ => {
                 self.check_open()?;
                 Err(LineError::Fault(LineFault::NotACall))
