@@ -9,8 +9,8 @@
 --     ExitOfExplore           the answer of an exploration was written, and the status tells how it ended; or a write failed, or
 --                             nothing was written
 --     is_first, asked_of      what a plan asks of a record
---     status_of_check         the status of a check whose answer was written: 0 if each key is explained, 1 if a line has a fault, 5
---                             if a key isn't explained, 6 if none is known not to be and the search of one gave up
+--     status_of_check         the status of a check whose answer was written: 0 if each key is explained, 1 if a line has a fault,
+--                             5 if a key isn't explained, 6 if none is known not to be and the search of one gave up
 --     ExitOfRecord            the answer of a check was written, and the status tells how it ended; or a write failed, or nothing
 --                             was written
 --     ExitOfCheck             the same of this plan; or a word of it is none of those that there are
@@ -34,7 +34,8 @@
 --     status_without_words    the status if the words of the command line can't be read: 4 if an allocation failed, otherwise 2
 --     FailsByStreams          status 3 is returned if a stream failed, and otherwise only if the input is too long; after a
 --                             failed read this holds for standard output
-use Rattle.std.specs.Prelude.{◌≡◌, ◌⊎◌, ◌<◌, ◌≤◌, ◌++◌, ℕ, List, [], Bool, true, false, not, Option, Result, IfSome, MatchResult, codes, length, take, if◌then◌else◌}
+use Rattle.std.specs.Prelude.{◌≡◌, ◌⊎◌, ◌<◌, ◌≤◌, ◌++◌, ℕ, List, [], Bool, true, false, not, Option, Result, IfSome, MatchResult}
+use Rattle.std.specs.Prelude.{codes, length, take, if◌then◌else◌}
 use Rattle.std.specs.Io.KnownBytes.{Appends}
 use Rattle.clap.specs.Walk.{Row, Text}
 use Rattle.clap.specs.Words.{IsAmong, Kinds}
@@ -81,7 +82,8 @@ status_of_fault shell.OutOfMemory = 4
 status_of_fault fault = 3
 
 -- earlier and later: the calls that the shell's saver has had before and after
-abbrev pub ExitOfShell : (prompt : List ℕ) (status : ℕ) (before after old new : Option (List ℕ)) (earlier later : Option (List SaveCall)) → Type 0
+abbrev pub ExitOfShell : (prompt : List ℕ) (status : ℕ) (before after old new : Option (List ℕ))
+    (earlier later : Option (List SaveCall)) → Type 0
 ExitOfShell prompt status before after old new earlier later =
     ((status ≡ 0) × RanShell prompt before after old new earlier later)
     ⊎ ((fault : ShellFault) × (status ≡ status_of_fault fault) × StoppedShell prompt fault before after old new earlier later)
@@ -125,9 +127,9 @@ ExitOfRecord asked status before after old new silent =
     ⊎ (((status ≡ 3) × (BreaksOffCheck asked before after old new ⊎ silent))
     ⊎ ((status ≡ 4) × silent))
 
-abbrev pub ExitOfCheck : CheckPlan → (status : ℕ) (before after old new : Option (List ℕ)) (silent : Type 0) → Type 0
-ExitOfCheck plan status before after old new silent =
-    ((is_wrong plan ≡ true) × (status ≡ 2) × silent)
+abbrev pub ExitOfCheck : CheckPlan → (status : ℕ) (before after old new : Option (List ℕ)) (silent unread : Type 0) → Type 0
+ExitOfCheck plan status before after old new silent unread =
+    ((is_wrong plan ≡ true) × (status ≡ 2) × silent × unread)
     ⊎ ((is_wrong plan ≡ false) × ExitOfRecord (asked_of plan) status before after old new silent)
 
 abbrev pub status_of : Report → ℕ
@@ -143,35 +145,43 @@ ShowsReport report status old new silent =
     ⊎ ((status ≡ 4) × silent))
 
 -- Counts: that threads which were let count by a plan gave this
-abbrev pub ExitOfThreads : (Counts : Plan → Result Report AllocError → Type 0) → Plan → (status : ℕ) (old new : Option (List ℕ)) (silent : Type 0) → Type 0
+abbrev pub ExitOfThreads : (Counts : Plan → Result Report AllocError → Type 0) → Plan
+    → (status : ℕ) (old new : Option (List ℕ)) (silent : Type 0) → Type 0
 ExitOfThreads Counts plan status old new silent =
     ((is_too_much plan ≡ true) × (status ≡ 2) × silent)
     ⊎ ((is_too_much plan ≡ false)
     × ((counted : Result Report AllocError) × Counts plan counted
-    × MatchResult counted (λ report. IsReportOf plan report × ShowsReport report status old new silent) (λ e. (status ≡ 4) × silent)))
+    × MatchResult counted (λ report. IsReportOf plan report × ShowsReport report status old new silent)
+    (λ e. (status ≡ 4) × silent)))
 
 -- played: that the script was played; explored: that at most this number of states was followed; answered: that the lines were
 -- answered; counted: that this plan was carried out; checked: that a record was judged by this plan; unread: that nothing was
 -- read
-abbrev pub ExitOfTask : Task → (played : Type 0) (explored : ℕ → Type 0) (answered : Type 0) (counted : Plan → Type 0) (checked : CheckPlan → Type 0) (unread : Type 0) → Type 0
+abbrev pub ExitOfTask : Task
+    → (played : Type 0) (explored : ℕ → Type 0) (answered : Type 0) (counted : Plan → Type 0) (checked : CheckPlan → Type 0)
+    (unread : Type 0) → Type 0
 ExitOfTask task.Run played explored answered counted checked unread = played
 ExitOfTask task.Shell played explored answered counted checked unread = answered
 ExitOfTask (task.Explore states) played explored answered counted checked unread = explored states
 ExitOfTask (task.Threads plan) played explored answered counted checked unread = counted plan × unread
 ExitOfTask (task.Check plan) played explored answered counted checked unread = checked plan
 
-abbrev pub Exits : (Counts : Plan → Result Report AllocError → Type 0) (prompt : List ℕ) → Task → (status : ℕ) (before after old new : Option (List ℕ)) (earlier later : Option (List SaveCall)) (silent unread : Type 0) → Type 0
+abbrev pub Exits : (Counts : Plan → Result Report AllocError → Type 0) (prompt : List ℕ) → Task
+    → (status : ℕ) (before after old new : Option (List ℕ)) (earlier later : Option (List SaveCall)) (silent unread : Type 0)
+    → Type 0
 Exits Counts prompt asked status before after old new earlier later silent unread =
-    ExitOfTask asked (ExitOfPlay status before after old new silent) (λ states. ExitOfExplore states status before after old new silent)
+    ExitOfTask asked (ExitOfPlay status before after old new silent)
+    (λ states. ExitOfExplore states status before after old new silent)
     (ExitOfShell prompt status before after old new earlier later) (λ plan. ExitOfThreads Counts plan status old new silent)
-    (λ plan. ExitOfCheck plan status before after old new silent) unread
+    (λ plan. ExitOfCheck plan status before after old new silent unread) unread
 
 abbrev pub version_text : List ℕ
 version_text = codes "jcache 0.2.0\n"
 
 abbrev pub help_ending : List ℕ
 help_ending =
-    codes "\nExit status: 0 done, 1 a line has a fault, 2 wrong words, 3 a stream failed, 4 out of memory, 5 wrong report, an expectation fails, or a key isn't explained,\n  6 not all is known: states were left\n\nThe script ./jcache of the repository builds this program if it has to, and has further words:\n  run FILE..       Plays these scripts, one after the other, up to the first whose exit status isn't 0; - is standard input\n  explore FILE..   Explores these programs of threads in the same way\n  check FILE..     Judges these records of calls in the same way\n  build [CRATE..]  Proves and builds the program, and these crates with those below them; exit status 125 if that fails\n\nFor example: ./jcache run examples/put_seen_after_commit.script\nThe words of a script, and all limits: docs/SCRIPT.md; of a program of threads: docs/EXPLORE.md; of a record: docs/CHECK.md\n"
+    codes
+    "\nExit status: 0 done, 1 a line has a fault, 2 wrong words, 3 a stream failed, 4 out of memory, 5 wrong report, an expectation fails, or a key isn't explained,\n  6 not all is known: states were left\n\nThe script ./jcache of the repository builds this program if it has to, and has further words:\n  run FILE..       Plays these scripts, one after the other, up to the first whose exit status isn't 0; - is standard input\n  explore FILE..   Explores these programs of threads in the same way\n  check FILE..     Judges these records of calls in the same way\n  build [CRATE..]  Proves and builds the program, and these crates with those below them; exit status 125 if that fails\n\nFor example: ./jcache run examples/put_seen_after_commit.script\nThe words of a script, and all limits: docs/SCRIPT.md; of a program of threads: docs/EXPLORE.md; of a record: docs/CHECK.md\n"
 
 abbrev pub IsHelp : List ℕ → Type 0
 IsHelp text = (before : List ℕ) × (text ≡ before ++ help_ending)
@@ -192,7 +202,8 @@ status_without_words io-kind.OutOfMemory = 4
 status_without_words why = 2
 
 -- found: the subcommand with its options; done: that a task was carried out
-abbrev pub Exit : Kinds → (found : Option (Text × List Row)) → (status : ℕ) (done : Task → Type 0) (unread : Type 0) (old new : Option (List ℕ)) (silent : Type 0) → Type 0
+abbrev pub Exit : Kinds → (found : Option (Text × List Row))
+    → (status : ℕ) (done : Task → Type 0) (unread : Type 0) (old new : Option (List ℕ)) (silent : Type 0) → Type 0
 Exit kinds found status done unread old new silent =
     ((kinds ≡ []) × ((t : Task) × IsAsked found t × done t))
     ⊎ (((k : ErrorKind) × IsAmong k kinds × ExitOfFault k status old new silent × unread)

@@ -10,7 +10,8 @@
 --     own_text       the number of a session's steps, after a space
 --     steps_text     the lines of the sessions' steps and of the history
 --     report_text    the five lines of a report
-use Rattle.std.specs.Prelude.{◌≡◌, ◌==◌, ◌&&◌, ◌*◌, ◌++◌, ℕ, List, Bool, false, Option, None, Some, codes, decimal, length, ◌≤◌, All}
+use Rattle.std.specs.Prelude.{◌≡◌, ◌==◌, ◌&&◌, ◌*◌, ◌++◌, ℕ, List, Bool, false, Option, None, Some, codes, decimal, length, ◌≤◌}
+use Rattle.std.specs.Prelude.{All}
 use Rattle.std.specs.List.{flat_map, list_all}
 use Rattle.std.specs.Str.{bytes_eq}
 use Rattle.jc_text.specs.Printing.{flag_text}

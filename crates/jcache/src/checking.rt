@@ -2,9 +2,9 @@
 ghost use Rattle.std.specs.Prelude.{◌≡◌, ◌≢◌, false, true};
 ghost use Rattle.jcache.specs.Exit.{ExitOfCheck, ExitOfRecord, FailsByStreams, asked_of, is_first, status_of_check};
 
-use crate::exec::{
+use crate::complaints::{complain, complain_of, end_of_output, end_without_memory};
+use crate::status::{
     STATUS_CLEAN, STATUS_LINE_FAULT, STATUS_OPEN, STATUS_STREAMS, STATUS_UNEXPECTED, STATUS_USAGE,
-    complain, complain_of, end_of_output, end_without_memory,
 };
 use jc_commands::checking::{CheckPlan, Choice};
 use jc_record::run::run;
@@ -73,7 +73,7 @@ fn judge<R: Read, W: Write, E: Write>(
     }
 }
 
-/// Judges a record by a plan, and returns the status.
+/// Judges a record by a plan, and returns the status. A plan with a wrong word is refused before anything is read.
 pub(crate) fn check_and_show<R: Read, W: Write, E: Write>(
     alloc: Global,
     plan: &CheckPlan,
@@ -82,7 +82,7 @@ pub(crate) fn check_and_show<R: Read, W: Write, E: Write>(
     err: &mut E,
 ) -> u8
     ensures checked { ExitOfCheck plan.now result (R.remaining reader.old.inner) (R.remaining reader.new.inner)
-        (W.contents out.old.inner) (W.contents out.new.inner) (out.new ≡ out.old) }
+        (W.contents out.old.inner) (W.contents out.new.inner) (out.new ≡ out.old) (reader.new ≡ reader.old) }
     ensures streams { reader.old.failed ≡ false → out.old.failed ≡ false
         → FailsByStreams result reader.new.failed out.new.failed (R.remaining reader.old.inner) (out.new ≡ out.old) }
 {

@@ -11,7 +11,14 @@ ghost use Rattle.jcache.specs.Exit.{status_of, status_of_end, status_without_wor
 ghost use Rattle.jcache.specs.Reports.{IsReportOf};
 
 use crate::checking::check_and_show;
+use crate::complaints::{
+    complain_of, end_of_long_input, end_of_output, end_without_memory, end_without_words,
+    write_note, write_notes,
+};
 use crate::report::Report;
+use crate::status::{
+    STATUS_CLEAN, STATUS_LINE_FAULT, STATUS_OPEN, STATUS_STREAMS, STATUS_UNEXPECTED, STATUS_USAGE,
+};
 use clap::Error;
 use clap::error::ErrorKind;
 use jc_commands::commands::{Task, read_task};
@@ -25,26 +32,8 @@ use jc_shell::run::run as answer_lines;
 use jc_shell::{Save, ShellFault};
 use jc_text::Noted;
 use jc_text::input::write_out;
-use jc_text::lines::first_line;
-use jc_types::SCRIPT_MAX;
 use std::alloc::{AllocError, Global};
 use std::io::{self, Read, Write};
-
-/// The script was played to its end, or a shell ended well, or each expectation holds, or each key is explained, or the text that
-/// was asked for was shown.
-pub(crate) const STATUS_CLEAN: u8 = 0;
-/// The transcript ends with a line's fault, or a line of the program of threads or of the record has one.
-pub(crate) const STATUS_LINE_FAULT: u8 = 1;
-/// The command line is not one of this program's, or asks for too much work.
-pub(crate) const STATUS_USAGE: u8 = 2;
-/// Standard input or output failed, or the input is too long.
-pub(crate) const STATUS_STREAMS: u8 = 3;
-/// An allocation failed.
-const STATUS_MEMORY: u8 = 4;
-/// The count on threads isn't the plan's, or an expectation fails, or a key isn't explained.
-pub(crate) const STATUS_UNEXPECTED: u8 = 5;
-/// Not all outcomes are known, and no expectation fails; or the search of a key gave up, and no key is known not to be explained.
-pub(crate) const STATUS_OPEN: u8 = 6;
 
 /// The output of `--version`.
 const VERSION: &str = "jcache 0.2.0\n";
@@ -75,80 +64,6 @@ pub struct Console<'a, E, H, S> {
     pub prompt: &'a str,
     /// Where a shell saves scripts.
     pub saves: S,
-}
-
-/// Writes what failed. If this write fails, too, there is no one left to tell.
-pub(crate) fn complain<E: Write>(err: &mut E, text: &str) {
-    let _ = err.write_all(text.as_bytes());
-}
-
-/// Writes that a stream failed, and the cause if it is known.
-pub(crate) fn complain_of<S, E: Write>(stream: &Noted<S>, err: &mut E, text: &str) {
-    match stream.failure() {
-        Some(why) => {
-            let _ = write!(err, "jcache: {text}: {why}\n");
-        }
-        None => {
-            let _ = write!(err, "jcache: {text}\n");
-        }
-    }
-}
-
-/// Writes that standard output failed, and returns the status. It writes nothing if the reader of standard output has closed it,
-/// as `head` does: that reader has all that it wanted.
-pub(crate) fn end_of_output<W, E: Write>(out: &Noted<W>, err: &mut E) -> u8
-    ensures { result ≡ 3 }
-{
-    if !matches!(out.failure(), Some(io::ErrorKind::BrokenPipe)) {
-        complain_of(out, err, "write failed");
-    }
-    STATUS_STREAMS
-}
-
-/// Writes that an allocation failed, and returns the status.
-pub(crate) fn end_without_memory<E: Write>(err: &mut E) -> u8
-    ensures { result ≡ 4 }
-{
-    complain(err, "jcache: out of memory\n");
-    STATUS_MEMORY
-}
-
-/// Writes that the input is too long, and returns the status.
-fn end_of_long_input<E: Write>(err: &mut E) -> u8
-    ensures { result ≡ 3 }
-{
-    let _ = write!(err, "jcache: input too long: over {SCRIPT_MAX} bytes\n");
-    STATUS_STREAMS
-}
-
-/// Writes why the words of the command line couldn't be read, and returns the status.
-fn end_without_words<E: Write>(why: io::ErrorKind, err: &mut E) -> u8
-    ensures status { result ≡ status_without_words why }
-    ensures others { (result ≡ 2) ⊎ (result ≡ 4) }
-{
-    match why {
-        io::ErrorKind::OutOfMemory => end_without_memory(err),
-        _ => {
-            complain(err, "jcache: a word of the command line isn't UTF-8\n");
-            STATUS_USAGE
-        }
-    }
-}
-
-/// Writes a line for people: where a line's fault is, or a warning.
-fn write_note<E: Write>(err: &mut E, note: &[u8]) {
-    complain(err, "jcache: ");
-    let _ = err.write_all(note);
-}
-
-/// Writes each of these lines.
-fn write_notes<E: Write>(err: &mut E, notes: &[u8]) {
-    let mut rest = notes;
-    while let Some((note, after)) = first_line(rest) {
-        write_note(err, note);
-        complain(err, "\n");
-        rest = after;
-    }
 }
 
 /// Plays the script, and returns the status.
@@ -446,10 +361,10 @@ fn do_words<
 /// Carries out the task of a command line, and returns the status:
 ///
 /// - 0: the script was played to its end; or the lines that were typed were answered, also those with a fault; or all outcomes of
-///   a program of threads were written, and each expectation holds; or each key of a record is explained; or threads counted right; or a text was asked for and shown,
-///   for example by `--help` and `--version`.
+///   a program of threads were written, and each expectation holds; or each key of a record is explained; or threads counted
+///   right; or a text was asked for and shown, for example by `--help` and `--version`.
 /// - 1: the transcript ends with a line's fault, whose column and word are on standard error; or a line of the program of threads
-///   has a fault.
+///   or of the record has a fault.
 /// - 2: the words aren't this program's, ask for too much work or aren't UTF-8, which is written to standard error.
 /// - 3: the input or output failed, or the input is too long.
 /// - 4: an allocation failed.

@@ -14,10 +14,12 @@ ghost use Rattle.std.specs.Prelude.{IfOk};
 ghost use Rattle.jcache.specs.Reports.{IsReportOf};
 
 mod checking;
+mod complaints;
 mod exec;
 mod progress;
 mod report;
 mod script_files;
+mod status;
 mod threads;
 
 use exec::Console;
