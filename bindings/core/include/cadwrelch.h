@@ -195,7 +195,8 @@ uint32_t jc_sweep(jc_desk *h, jc_out *out);
 uint32_t jc_peek(jc_desk *h, const uint8_t *key, size_t key_len, jc_value *value);
 /* What all events since jc_open count (CacheStatisticsMXBean); constant time. */
 uint32_t jc_statistics_of(jc_desk *h, jc_statistics *out);
-/* Writes what is cached, the most recently used first, as far as there is room, and how many entries there are. */
+/* Writes what is cached, the most recently used first, as far as there is room, and how many entries there are. Of a desk that is shut
+ * that is also what is to be forgotten: sweep before you open another desk with these entries. */
 uint32_t jc_entries(jc_desk *h, jc_entry *out, size_t room, size_t *count);
 /* How many events the present generation has; 0 if the desk isn't open. */
 size_t jc_events_len(jc_desk *h);

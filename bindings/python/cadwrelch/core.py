@@ -285,7 +285,8 @@ class Desk:
         return counts
 
     def entries(self):
-        """What is cached, as (key, value), the most recently used first."""
+        """What is cached, as (key, value), the most recently used first. Of a desk that is shut that is also what is to be forgotten:
+        sweep before you open another desk with these entries."""
         room = (Entry * self._entries_into((Entry * 1)(), 0))()
         self._entries_into(room, len(room))
         return [(entry.key.get(), entry.value.get()) for entry in room]

@@ -358,7 +358,8 @@ impl Desk {
         })
     }
 
-    /// What is cached, the most recently used first.
+    /// What is cached, the most recently used first. Of a desk that is shut that is also what is to be forgotten: sweep before you
+    /// open another desk with these entries.
     ///
     /// # Errors
     /// [`Code::WrongHandle`].
