@@ -34153,6 +34153,6 @@ jc_begin:
 	.type jc_stamp,@object
 	.size jc_stamp,79
 jc_stamp:
-	.string "cadwrelch 0.2.0, proved in logic dac8208d650f15bf, of sources 685944922fbc2c05"
+	.string "cadwrelch 0.2.0, proved in logic dac8208d650f15bf, of sources c35032cad8004409"
 
 	.section .note.GNU-stack,"",@progbits
