@@ -5,3 +5,8 @@ pub mod ProgramLines
 pub mod ExplainedLines
 pub mod ReplyKinds
 pub mod ReplyTexts
+pub mod Mirroring
+pub mod MoveLines
+pub mod BeginLines
+pub mod Mirrors
+pub mod WitnessLines

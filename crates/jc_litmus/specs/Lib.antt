@@ -17,4 +17,5 @@ pub mod Meaning
 pub mod FaultWords
 pub mod Explanations
 pub mod UnknownValues
+pub mod Playing
 pub mod Running

@@ -1,4 +1,5 @@
 //! Laws of the words of programs and their answers. Each function does nothing: its contract is the law.
+ghost use Rattle.jc_litmus.specs.Playing.{WitnessesPlay};
 ghost use Rattle.jc_litmus.specs.ReplyTexts.{RepliesAreOfKind, RepliesAreTold, RepliesOfTable, RepliesReadBack, SilenceIsTold};
 
 use jc_text::laws::words_read_back;
@@ -18,4 +19,10 @@ pub fn replies_are_told()
 pub fn replies_are_of_the_table()
     ensures read { RepliesAreOfKind }
     ensures table { RepliesOfTable }
+{}
+
+/// The script under an outcome, read without its marks, plays the outcome's schedule: no line of it has a fault, and what the events of
+/// a line show, its call's reply among them, is what those of the move have shown. So before its audit the world is that of the outcome.
+pub fn witnesses_play()
+    ensures { WitnessesPlay }
 {}

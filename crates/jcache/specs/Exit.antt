@@ -32,6 +32,8 @@
 --     Exit                    the task of right words is carried out; wrong ones are reported, and nothing is read; or an
 --                             allocation failed, and nothing was read or written
 --     status_without_words    the status if the words of the command line can't be read: 4 if an allocation failed, otherwise 2
+--     IsOver, IsTooLong       the input has more bytes than a limit, and than a task takes; `threads` reads none
+--     IsTooLongFor            the same of the task that the words ask for
 --     FailsByStreams          status 3 is returned if a stream failed, and otherwise only if the input is too long; after a
 --                             failed read this holds for standard output
 use Rattle.std.specs.Prelude.{◌≡◌, ◌⊎◌, ◌<◌, ◌≤◌, ◌++◌, ℕ, List, [], Bool, true, false, not, Option, Result, IfSome, MatchResult}
@@ -48,6 +50,7 @@ use Rattle.jc_litmus.specs.Running.{BreaksOffExploration as BrokeLitmus, RunsExp
 use Rattle.jc_litmus.specs.declared.run.LitmusEnd.{LitmusEnd}
 use Rattle.jc_litmus.specs.declared.run.LitmusEnd.TheVariants as litmus
 use Rattle.jc_record.specs.Running.{BreaksOffCheck, ChecksRecord}
+use Rattle.jc_record.specs.declared.input.TheConstants.{RECORD_MAX}
 use Rattle.jc_record.specs.declared.judge.Asked.{Asked}
 use Rattle.jc_record.specs.declared.run.RecordEnd.{RecordEnd}
 use Rattle.jc_record.specs.declared.run.RecordEnd.TheVariants as record_end
@@ -209,8 +212,21 @@ Exit kinds found status done unread old new silent =
     ⊎ (((k : ErrorKind) × IsAmong k kinds × ExitOfFault k status old new silent × unread)
     ⊎ ((status ≡ 4) × unread × silent))
 
-abbrev pub FailsByStreams : (status : ℕ) (read_failed write_failed : Bool) (before : Option (List ℕ)) (silent : Type 0) → Type 0
-FailsByStreams status read_failed write_failed before silent =
+abbrev pub IsOver : ℕ → Option (List ℕ) → Type 0
+IsOver limit before = IfSome before (λ xs. limit < length xs)
+
+abbrev pub IsTooLong : Task → (before : Option (List ℕ)) → Type 0
+IsTooLong task.Run before = IsOver SCRIPT_MAX before
+IsTooLong task.Shell before = IsOver SCRIPT_MAX before
+IsTooLong (task.Explore states) before = IsOver SCRIPT_MAX before
+IsTooLong (task.Threads plan) before = ⊥
+IsTooLong (task.Check plan) before = IsOver RECORD_MAX before
+
+abbrev pub IsTooLongFor : Option (Text × List Row) → (before : Option (List ℕ)) → Type 0
+IsTooLongFor found before = (t : Task) × IsAsked found t × IsTooLong t before
+
+abbrev pub FailsByStreams : (status : ℕ) (read_failed write_failed : Bool) (too_long silent : Type 0) → Type 0
+FailsByStreams status read_failed write_failed too_long silent =
     (read_failed ≡ true → (status ≡ 3) × silent)
     × (write_failed ≡ true → status ≡ 3)
-    × (status ≡ 3 → (read_failed ≡ true) ⊎ ((write_failed ≡ true) ⊎ IfSome before (λ xs. SCRIPT_MAX < length xs)))
+    × (status ≡ 3 → (read_failed ≡ true) ⊎ ((write_failed ≡ true) ⊎ too_long))

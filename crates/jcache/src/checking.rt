@@ -1,6 +1,7 @@
 //! The check of a record of calls.
 ghost use Rattle.std.specs.Prelude.{◌≡◌, ◌≢◌, false, true};
-ghost use Rattle.jcache.specs.Exit.{ExitOfCheck, ExitOfRecord, FailsByStreams, asked_of, is_first, status_of_check};
+ghost use Rattle.jc_record.specs.declared.input.TheConstants.{RECORD_MAX};
+ghost use Rattle.jcache.specs.Exit.{ExitOfCheck, ExitOfRecord, FailsByStreams, IsOver, asked_of, is_first, status_of_check};
 
 use crate::complaints::{complain, complain_of, end_of_output, end_without_memory};
 use crate::status::{
@@ -56,7 +57,7 @@ fn judge<R: Read, W: Write, E: Write>(
     ensures judged { ExitOfRecord asked.now result (R.remaining reader.old.inner) (R.remaining reader.new.inner)
         (W.contents out.old.inner) (W.contents out.new.inner) (out.new ≡ out.old) }
     ensures streams { reader.old.failed ≡ false → out.old.failed ≡ false
-        → FailsByStreams result reader.new.failed out.new.failed (R.remaining reader.old.inner) (out.new ≡ out.old) }
+        → FailsByStreams result reader.new.failed out.new.failed (IsOver RECORD_MAX (R.remaining reader.old.inner)) (out.new ≡ out.old) }
 {
     match run(alloc, reader, out, asked) {
         Ok(end) => status_of_check(end),
@@ -84,7 +85,7 @@ pub(crate) fn check_and_show<R: Read, W: Write, E: Write>(
     ensures checked { ExitOfCheck plan.now result (R.remaining reader.old.inner) (R.remaining reader.new.inner)
         (W.contents out.old.inner) (W.contents out.new.inner) (out.new ≡ out.old) (reader.new ≡ reader.old) }
     ensures streams { reader.old.failed ≡ false → out.old.failed ≡ false
-        → FailsByStreams result reader.new.failed out.new.failed (R.remaining reader.old.inner) (out.new ≡ out.old) }
+        → FailsByStreams result reader.new.failed out.new.failed (IsOver RECORD_MAX (R.remaining reader.old.inner)) (out.new ≡ out.old) }
 {
     if plan.is_wrong() {
         complain(

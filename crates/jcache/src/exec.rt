@@ -6,7 +6,9 @@ ghost use Rattle.std.specs.IoError.{error_kind};
 ghost use Rattle.jc_commands.specs.CommandLine.{Names, faults_at, subcommand_at};
 ghost use Rattle.clap.specs.Words.{kind_of};
 ghost use Rattle.jc_commands.specs.declared.commands.Task.TheVariants as tasks;
-ghost use Rattle.jcache.specs.Exit.{Exit, ExitOfExplore, ExitOfFault, ExitOfPlay, ExitOfShell, ExitOfThreads, Exits, FailsByStreams, IsHelp, ShowsReport, ShowsText};
+ghost use Rattle.jc_types.specs.declared.limits.TheConstants.{SCRIPT_MAX};
+ghost use Rattle.jcache.specs.Exit.{Exit, ExitOfExplore, ExitOfFault, ExitOfPlay, ExitOfShell, ExitOfThreads, Exits, FailsByStreams, IsHelp, IsOver, IsTooLong};
+ghost use Rattle.jcache.specs.Exit.{IsTooLongFor, ShowsReport, ShowsText};
 ghost use Rattle.jcache.specs.Exit.{status_of, status_of_end, status_without_words};
 ghost use Rattle.jcache.specs.Reports.{IsReportOf};
 
@@ -76,7 +78,7 @@ fn play<R: Read, W: Write, E: Write>(
     ensures played { ExitOfPlay result (R.remaining reader.old.inner) (R.remaining reader.new.inner)
         (W.contents out.old.inner) (W.contents out.new.inner) (out.new ≡ out.old) }
     ensures streams { reader.old.failed ≡ false → out.old.failed ≡ false
-        → FailsByStreams result reader.new.failed out.new.failed (R.remaining reader.old.inner) (out.new ≡ out.old) }
+        → FailsByStreams result reader.new.failed out.new.failed (IsOver SCRIPT_MAX (R.remaining reader.old.inner)) (out.new ≡ out.old) }
 {
     let mut note = Vec::new(alloc);
     match run(alloc, reader, out, &mut note) {
@@ -105,7 +107,7 @@ fn converse<R: Read, W: Write, E: Write, H, S: Save>(
     ensures answered { ExitOfShell console.old.prompt.now result (R.remaining reader.old.inner) (R.remaining reader.new.inner)
         (W.contents out.old.inner) (W.contents out.new.inner) (S.calls console.old.saves) (S.calls console.new.saves) }
     ensures streams { reader.old.failed ≡ false → out.old.failed ≡ false
-        → FailsByStreams result reader.new.failed out.new.failed (R.remaining reader.old.inner) (Unit {0}) }
+        → FailsByStreams result reader.new.failed out.new.failed (IsOver SCRIPT_MAX (R.remaining reader.old.inner)) (Unit {0}) }
 {
     let err = &mut console.err;
     match answer_lines(alloc, console.prompt, reader, out, &mut console.saves) {
@@ -144,7 +146,7 @@ fn explore_and_show<R: Read, W: Write, E: Write, H: Watch, S>(
     ensures explored { ExitOfExplore states result (R.remaining reader.old.inner) (R.remaining reader.new.inner)
         (W.contents out.old.inner) (W.contents out.new.inner) (out.new ≡ out.old) }
     ensures streams { reader.old.failed ≡ false → out.old.failed ≡ false
-        → FailsByStreams result reader.new.failed out.new.failed (R.remaining reader.old.inner) (out.new ≡ out.old) }
+        → FailsByStreams result reader.new.failed out.new.failed (IsOver SCRIPT_MAX (R.remaining reader.old.inner)) (out.new ≡ out.old) }
 {
     let mut notes = Vec::new(alloc);
     match explore(
@@ -308,7 +310,7 @@ fn carry_out<
         (R.remaining reader.old.inner) (R.remaining reader.new.inner) (W.contents out.old.inner) (W.contents out.new.inner)
         (S.calls console.old.saves) (S.calls console.new.saves) (out.new ≡ out.old) (reader.new ≡ reader.old) }
     ensures streams { reader.old.failed ≡ false → out.old.failed ≡ false
-        → FailsByStreams result reader.new.failed out.new.failed (R.remaining reader.old.inner)
+        → FailsByStreams result reader.new.failed out.new.failed (IsTooLong task.now (R.remaining reader.old.inner))
         ((task.now ≡ tasks.Shell) ⊎ (out.new ≡ out.old)) }
 {
     match task {
@@ -344,7 +346,8 @@ fn do_words<
         (S.calls console.old.saves) (S.calls console.new.saves) (out.new ≡ out.old) (reader.new ≡ reader.old))
         (reader.new ≡ reader.old) (W.contents out.old.inner) (W.contents out.new.inner) (out.new ≡ out.old) }
     ensures streams { reader.old.failed ≡ false → out.old.failed ≡ false
-        → FailsByStreams result reader.new.failed out.new.failed (R.remaining reader.old.inner)
+        → FailsByStreams result reader.new.failed out.new.failed
+        (IsTooLongFor (subcommand_at (map string_bytes words.now)) (R.remaining reader.old.inner))
         (Names (subcommand_at (map string_bytes words.now)) (codes "shell") ⊎ (out.new ≡ out.old)) }
 {
     match read_task(alloc, words) {
@@ -404,10 +407,11 @@ pub fn exec<
         (reader.new ≡ reader.old) (W.contents out.old.inner) (W.contents out.new.inner) (out.new ≡ out.old)) }
     // Without words nothing is read or written.
     ensures without_words { IfErr words (λ e. (result ≡ status_without_words (error_kind e)) × (reader.new ≡ reader.old) × (out.new ≡ out.old)) }
-    // Status 3 is returned if a stream failed in this call, and otherwise only if the script is too long. After a failed read
-    // nothing was written, unless a shell had answered lines before.
+    // Status 3 is returned if a stream failed in this call, and otherwise only if the input is longer than the task that the words
+    // ask for takes. After a failed read nothing was written, unless a shell had answered lines before.
     ensures streams { IfOk words (λ w. reader.old.failed ≡ false → out.old.failed ≡ false
-        → FailsByStreams result reader.new.failed out.new.failed (R.remaining reader.old.inner)
+        → FailsByStreams result reader.new.failed out.new.failed
+        (IsTooLongFor (subcommand_at (map string_bytes w.items)) (R.remaining reader.old.inner))
         (Names (subcommand_at (map string_bytes w.items)) (codes "shell") ⊎ (out.new ≡ out.old))) }
 {
     match words {

@@ -9,4 +9,5 @@ returns-in-Ok-clause-answered g c =
 
 pub returns-in-Ok-clause-streams : goal.returns-in-Ok-clause-streams
 returns-in-Ok-clause-streams g c reads writes =
-    fails_as _ _ _ _ (by_words _ c.in-Ok.task c.in-Ok.ensures.asked) (c.carry_out.ensures.streams reads writes)
+    fails_as _ _ _ (λ long. (c.in-Ok.task, c.in-Ok.ensures.asked, long)) (by_words _ c.in-Ok.task c.in-Ok.ensures.asked)
+    (c.carry_out.ensures.streams reads writes)
