@@ -3,6 +3,7 @@
 --     asked_in                        what an item has a call do, at which key
 --     IsMirrored, AllMirrored         a call under way is that of the item which its thread began last, by the number of the thread's
 --                                     progress; each is
+--     mirrored_as                     so it is of a call, and with threads, that have the same
 --     IsFree                          no call that has reserved a key has joined a load of it
 --     Keeps, keeps_on                 both stay so, and so does the last number; one after another
 --     is_within                       an event is one of a move, and no call's begin
@@ -75,6 +76,23 @@ pub record IsMirrored (p : Program) (threads : List Progress) (u : CallState) : 
 abbrev pub AllMirrored : Program → List Progress → List CallState → Type 0
 AllMirrored p threads calls = AllByRecursion (IsMirrored p threads) calls
 
+-- a call that differs in its cause alone, and threads that have the same of its own
+pub mirrored_as : (p : Program) (threads other : List Progress) (u v : CallState) → v.caller ≡ u.caller → v.kind ≡ u.kind → v.tasks ≡ u.tasks → v.sweep ≡ u.sweep → (m : IsMirrored p threads u) → slice_get other m.thread ≡ Some m.progress → IsMirrored p other v
+mirrored_as p threads other u v caller kind tasks sweep m there = record {
+  thread = m.thread;
+  progress = m.progress;
+  op = m.op;
+  key = m.key;
+  there = there;
+  session_is = ap (λ (c : Caller). c.session) caller ∙ m.session_is;
+  number_is = ap (λ (c : Caller). c.call) caller ∙ m.number_is;
+  counts = m.counts;
+  asked = m.asked;
+  kind_is = kind ∙ m.kind_is;
+  tasks_are = tasks ∙ m.tasks_are;
+  sweep_is = sweep ∙ m.sweep_is;
+}
+
 each_kept : (P : CallState → Type 0) (o : Option CallState) (us : List CallState) → IfSome o P → AllByRecursion P us → AllByRecursion P (cons_option o us)
 each_kept P None us one all = all
 each_kept P (Some u) us one all = (one, all)
@@ -104,37 +122,12 @@ module _ (p : Program) (threads : List Progress) where
           (λ i. is_some (m.sweep_is i) || list_any is_open ((tasks_are ∙ ap (λ b. cond b ((m.key, None) ∷ []) ((m.key, Some m.op) ∷ [])) e) i)) in
           subst (λ b. IfSome (cond b (Some next) None) (IsMirrored p threads)) (sym over) tt
       by false e =
-          let same : IsMirrored p threads next = record {
-            thread = m.thread;
-            progress = m.progress;
-            op = m.op;
-            key = m.key;
-            there = m.there;
-            session_is = m.session_is;
-            number_is = m.number_is;
-            counts = m.counts;
-            asked = m.asked;
-            kind_is = m.kind_is;
-            tasks_are = tasks_are ∙ ap (λ b. cond b ((m.key, None) ∷ []) ((m.key, Some m.op) ∷ [])) e;
-            sweep_is = m.sweep_is;
-          } in
+          let tasks : next.tasks ≡ u.tasks = tasks_are ∙ ap (λ b. cond b ((m.key, None) ∷ []) ((m.key, Some m.op) ∷ [])) e ∙ sym m.tasks_are in
+          let same : IsMirrored p threads next = mirrored_as p threads threads u next refl refl tasks refl m m.there in
           elim (is_some next.sweep || list_any is_open next.tasks) as (λ b. IfSome (cond b (Some next) None) (IsMirrored p threads)) [ true ↦ same | false ↦ tt ]
 
   met_kept : (met : Option Refusal) (u : CallState) → IsMirrored p threads u → IsMirrored p threads (with_met met u)
-  met_kept met u m = record {
-    thread = m.thread;
-    progress = m.progress;
-    op = m.op;
-    key = m.key;
-    there = m.there;
-    session_is = m.session_is;
-    number_is = m.number_is;
-    counts = m.counts;
-    asked = m.asked;
-    kind_is = m.kind_is;
-    tasks_are = m.tasks_are;
-    sweep_is = m.sweep_is;
-  }
+  met_kept met u m = mirrored_as p threads threads u (with_met met u) refl refl refl refl m m.there
 
 -- 2. Reservations and joins.
 

@@ -40,7 +40,7 @@ use Rattle.jc_text.specs.declared.read.line.Line.TheVariants.{Begin, Foreign, In
 use Rattle.jc_litmus.specs.declared.witness.Progress.{Progress}
 use Rattle.jc_litmus.specs.Playing.{IsPlayedAs, PlaysMoves}
 use Rattle.jc_litmus.specs.Witness.{begin_line, begun_by, begun_item, call_line, has_numbers, last_after, last_at, last_by, line_at, line_of_move, piped, piped_if, steps_text, thread_progress_after, threads_at}
-use Rattle.jc_litmus.proofs.Mirroring.{AllMirrored, asked_in, is_within, IsFree, IsMirrored, Keeps, keeps_happens, keeps_run}
+use Rattle.jc_litmus.proofs.Mirroring.{AllMirrored, asked_in, is_within, IsFree, IsMirrored, Keeps, keeps_happens, keeps_run, mirrored_as}
 use Rattle.jc_litmus.proofs.MoveLines.{act_plays, HasLine}
 use Rattle.jc_litmus.proofs.BeginLines.{begins_call, foreign_plays, invalidate_plays}
 
@@ -271,23 +271,12 @@ others_stay : (p : Program) (threads : List Progress) (thread : ℕ) (t : Progre
 others_stay p threads thread t us idle all = all_both _ _ (IsMirrored p (slice_set threads thread t)) us stay idle all
   where
     stay : (u : CallState) → (u.caller.session == (thread + 1)) ≡ false → IsMirrored p threads u → IsMirrored p (slice_set threads thread t) u
-    stay u other m = record {
-      thread = m.thread;
-      progress = m.progress;
-      op = m.op;
-      key = m.key;
-      there = set_there threads thread m.thread t (λ same.
-          let mine : u.caller.session ≡ thread + 1 = m.session_is ∙ ap (λ n. n + 1) (sym same) in
-          let t : true ≡ false = sym (eq-eqb u.caller.session (thread + 1) mine) ∙ other in cc)
-          ∙ m.there;
-      session_is = m.session_is;
-      number_is = m.number_is;
-      counts = m.counts;
-      asked = m.asked;
-      kind_is = m.kind_is;
-      tasks_are = m.tasks_are;
-      sweep_is = m.sweep_is;
-    }
+    stay u other m =
+        let apart : thread ≡ m.thread → ⊥ = λ same.
+        let mine : u.caller.session ≡ thread + 1 = m.session_is ∙ ap (λ n. n + 1) (sym same) in
+        let t : true ≡ false = sym (eq-eqb u.caller.session (thread + 1) mine) ∙ other in cc
+        in
+        mirrored_as p threads (slice_set threads thread t) u u refl refl refl refl m (set_there threads thread m.thread t apart ∙ m.there)
 
 -- the last number is the one before or one more, and so is the thread's
 module _ (p : Program) (old mid : SceneState) (thread : ℕ) (q : Position) (t next : Progress) (last more : ℕ) (threads : List Progress) (mirrors : Mirrors p old last threads) (there : slice_get old.positions thread ≡ Some q) (here : slice_get threads thread ≡ Some t) (same : t.begun ≡ q.begun) where

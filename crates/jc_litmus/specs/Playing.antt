@@ -1,6 +1,6 @@
 -- What the script of an outcome plays: move by move what its schedule does.
 --     PlaysLines        lines one after another, none of which has a fault
---     opening_lines     the lines before the moves: the cache's shape, and the store
+--     set_line, opening_lines    the line of an entry of the store, and the lines before the moves: the cache's shape, and the store
 --     IsPlayedAs        a line has no fault in a world. Its events show what was shown, and leave this world
 --     PlaysMoves        a schedule, move by move, each with its line, whose events show what those of the move have shown
 --     PlaysWitness      the script of a schedule that leads to a scene, without its audit: lines that play the schedule up to the

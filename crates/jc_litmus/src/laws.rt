@@ -23,6 +23,7 @@ pub fn replies_are_of_the_table()
 
 /// The script under an outcome, read without its marks, plays the outcome's schedule: no line of it has a fault, and what the events of
 /// a line show, its call's reply among them, is what those of the move have shown. So before its audit the world is that of the outcome.
+/// The cache's shape is to be within its limits, as that of each program that is explored.
 pub fn witnesses_play()
     ensures { WitnessesPlay }
 {}
